@@ -1,0 +1,86 @@
+-- Terms and variables, by the bytes that they are read from.
+use Prim.Native.Nat.{ℕ, zero, suc, _+_, _-_, _*_, _/_, _<_, _≤_}
+use mathlib.Core.Path.{_≡_, refl, sym, ap, ap₂, _∙_}
+use mathlib.Core.List.{List, [], _∷_, _++_}
+use mathlib.Core.Bool.{Bool, true, false}
+use native.Mathlib.Omega.{arith}
+use native.Mathlib.Nat.{add-sub-cancel-left}
+use lib.Dec.{ltb, lit<}
+use lib.ListN.{length, getD, take, drop, length-drop, length-append, List·getD-append}
+use lib.Seq.{take-all, getD-take, getD-drop, getD-at}
+use borrow.Author.Tests.{ltb-true, ltb-false}
+use Rattle.format.specs.Numbers.{signed, signedAt}
+use Rattle.program.specs.Program.{Variable, Term, termsOf, termIn, variableIn, variableOf, variablesAt, noVariable}
+use Rattle.program.proofs.Bodies.{termAt, term-at}
+use Rattle.evaluation.specs.Terms.{Means}
+use Rattle.evaluation.specs.declared.Term as code
+
+-- ---- parts
+
+-- the part after the header is the body
+pub rest : (h : ℕ) (v : List ℕ) → take (length v - h) (drop h v) ≡ drop h v
+rest h v = take-all (length v - h) (drop h v) (simp length-drop (omega arith))
+
+-- an element of a part that starts at k
+pub dropped : (s : List ℕ) (k i : ℕ) {j : ℕ} → j ≡ k + i → getD s j 0 ≡ getD (drop k s) i 0
+dropped s k i e = rw (e, getD-drop)
+
+pub dropped-number : (s : List ℕ) (k i : ℕ) {j : ℕ} → j ≡ k + i → signedAt s j ≡ signedAt (drop k s) i
+dropped-number s k i {j} e = ap₂ signed (dropped s k i e) (dropped s k (i + 1) (let f : j + 1 ≡ k + (i + 1) = omega arith in f))
+
+-- ---- terms
+
+module _ (body : List ℕ) (i : ℕ) where
+  byte : (k : ℕ) {j : ℕ} → k < 4 → j ≡ 4 * i + k → getD (take (4 * i + 4 - 4 * i) (drop (4 * i) body)) k 0 ≡ getD body j 0
+  byte k h e = rw (add-sub-cancel-left (4 * i) 4, getD-take 4 (drop (4 * i) body) k 0 h) (sym (dropped body (4 * i) k e))
+
+  -- the term in the 4 bytes from 4 i on is term i
+  pub term-read : (r : code.Term) → 4 * i + 4 ≤ length body
+      → (r .variable ≡ getD (take (4 * i + 4 - 4 * i) (drop (4 * i) body)) 0 0)
+      × (r .op ≡ getD (take (4 * i + 4 - 4 * i) (drop (4 * i) body)) 1 0)
+      × (r .number ≡ signedAt (take (4 * i + 4 - 4 * i) (drop (4 * i) body)) 2)
+      → Means r (termIn (termsOf body) i)
+  term-read r h e =
+      let t : termAt body i ≡ termIn (termsOf body) i = sym (term-at body i (omega arith)) in
+      record {
+        variable = e .0 ∙ byte 0 (lit< tt) (omega arith) ∙ ap (λ (t : Term). t .variable) t;
+        op = e .1 ∙ byte 1 (lit< tt) refl ∙ ap (λ (t : Term). t .op) t;
+        number = e .2 ∙ ap₂ signed (byte 2 (lit< tt) refl) (byte 3 (lit< tt) (omega arith)) ∙ ap (λ (t : Term). t .number) t;
+      }
+
+-- a term read from the body of a rule's value
+pub body-term : (v : List ℕ) (i : ℕ) {r : code.Term} → Means r (termIn (termsOf (take (length v - 4) (drop 4 v))) i) → Means r (termIn (termsOf (drop 4 v)) i)
+body-term v i h = rw (rest 4 v) at h
+
+-- the variable at place i of a rule's body
+pub place-variable : (v : List ℕ) (i : ℕ) → 4 + 4 * (i + 1) ≤ length v → termIn (termsOf (drop 4 v)) i .variable ≡ getD v (4 + 4 * i) 0
+place-variable v i h =
+    let t : termIn (termsOf (drop 4 v)) i ≡ termAt (drop 4 v) i = term-at (drop 4 v) i (simp length-drop (omega arith)) in
+    ap (λ (t : Term). t .variable) t ∙ getD-drop 4 v (4 * i) 0
+
+pub term-variable : (v : List ℕ) (i : ℕ) {r : code.Term} → Means r (termIn (termsOf (take (length v - 4) (drop 4 v))) i) → 4 + 4 * (i + 1) ≤ length v → r .variable ≡ getD v (4 + 4 * i) 0
+term-variable v i h k = body-term v i h .variable ∙ place-variable v i k
+
+-- ---- variables
+
+variables-length : (s : List ℕ) (n : ℕ) → length (variablesAt s n) ≡ n
+unfolding variablesAt
+variables-length s zero = refl
+variables-length s (suc n) = rw length-append (let e = variables-length s n in omega arith)
+
+-- variable x of a file is read from byte 8 x + 3 on
+pub variable-read : (s : List ℕ) (n x : ℕ) → x < n → variableIn (variablesAt s n) x ≡ variableOf (drop (8 * x + 3) s)
+unfolding variablesAt
+variable-read s zero x h = let f : ⊥ = omega arith in absurd f
+variable-read s (suc n) x h = go (ltb x n) refl (variable-read s n x)
+  where
+    v : Variable
+    v = variableOf (drop (8 * n + 3) s)
+
+    go : (t : Bool) → ltb x n ≡ t → (x < n → variableIn (variablesAt s n) x ≡ variableOf (drop (8 * x + 3) s)) → getD (variablesAt s n ++ (v ∷ [])) x noVariable ≡ variableOf (drop (8 * x + 3) s)
+    go true e f =
+        let k : x < n = ltb-true x n e in
+        List·getD-append (variablesAt s n) (v ∷ []) noVariable x (let q = variables-length s n in omega arith) ∙ f k
+    go false e f =
+        let k : n ≡ x = omega (arith, ltb-false x n e) in
+        getD-at (variablesAt s n) v [] noVariable x (variables-length s n ∙ k) ∙ ap (λ (m : ℕ). variableOf (drop (8 * m + 3) s)) k

@@ -1,0 +1,35 @@
+use Prim.Native.Nat.{_+_, _*_}
+use native.Mathlib.Omega.{arith}
+use Rattle.evaluation.proofs.Bytes.{dropped}
+use borrow.Author.Needs.{needs}
+use Rattle.evaluation.proofs.variables.kind.Statement.{statement}
+use Rattle.evaluation.proofs.variables.kind.Tie as tie
+use Rattle.evaluation.proofs.variables.kind.Reads as reads
+use Rattle.evaluation.proofs.variables.kind.Lts as lts
+use Rattle.format.proofs.wide.Reads as wide-reads
+
+-- src/variables.rt:12:17
+wide-requires : tie.Need-wide-requires
+wide-requires c κs = search needs
+
+-- src/variables.rt:12:17
+mul-field : tie.Need-mul-field
+mul-field c = search needs
+
+-- src/variables.rt:13:10
+add-result : tie.Need-add-result
+add-result c = search needs
+
+-- src/variables.rt:13:5
+shared-slice-read-result : tie.Need-shared-slice-read-result
+shared-slice-read-result c = search needs
+
+-- src/variables.rt:8:1
+returns : tie.Need-returns
+returns c =
+    let a = c .before .before .before .args in
+    dropped (a .file .now) (8 * a .x + 3) 0 (omega arith)
+
+pub kind-spec : {M : Type 1} → statement M
+kind-spec =
+    tie.close (tie.spec wide-requires mul-field add-result shared-slice-read-result returns)

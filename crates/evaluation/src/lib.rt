@@ -1,0 +1,11 @@
+// What a rule's places push and what a rule gives, from the bytes of the file.
+pub mod directions;
+pub mod terms;
+pub mod variables;
+
+// A term of a body.
+pub struct Term {
+    pub variable: u8,
+    pub op: u8,
+    pub number: i64,
+}

@@ -1,0 +1,4 @@
+pub mod TermLaws
+pub mod FaultLaws
+pub mod ValueLaws
+pub mod FieldLaws

@@ -1,0 +1,45 @@
+-- Document 01, "Which way a variable pushes": edges, components, validity.
+use Prim.Native.Nat.{ℕ, _<_, _≤_}
+use mathlib.Core.Path.{_≡_}
+use mathlib.Core.Logic.{_⊎_}
+use mathlib.Core.Bool.{Bool, true, false, _||_, _&&_}
+use lib.ListN.{length}
+use lib.Dec.{eqb}
+use Rattle.sets.specs.Walk.{Walk}
+use Rattle.program.specs.Tables.{anyBelow}
+use Rattle.program.specs.Program.{Program, Rule, ruleIn, termIn}
+use Rattle.program.specs.Directions.{direction, isRising, isMixed}
+
+-- "Dependency edges run from a rule's head to each rising or mixed body variable."
+unfoldable pub draws : Program → Rule → ℕ → ℕ → Bool
+draws P r x y =
+    eqb (r .head) x
+    && anyBelow (length (r .terms))
+    (λ i. eqb (termIn (r .terms) i .variable) y && (isRising (direction (P .variables) r i) || isMixed (direction (P .variables) r i)))
+
+unfoldable pub edge : Program → ℕ → ℕ → Bool
+edge P x y = anyBelow (length (P .rules)) (λ i. draws P (ruleIn (P .rules) i) x y)
+
+-- x reaches y over one edge or more: a walk, whatever its stops
+abbrev pub Reaches : Program → ℕ → ℕ → Type 0
+Reaches P x y = (n : ℕ) × Walk (edge P) n x y
+
+-- "Two variables share a component when they are the same or each reaches the other."
+abbrev pub Share : Program → ℕ → ℕ → Type 0
+Share P x y = (x ≡ y) ⊎ (Reaches P x y × Reaches P y x)
+
+-- rule i has a mixed variable in its head's component
+pub record Offends (P : Program) (i : ℕ) : Type 0 where
+  pub among : i < length (P .rules)
+  pub at : ℕ
+  pub inside : at < length (ruleIn (P .rules) i .terms)
+  pub pushes : isMixed (direction (P .variables) (ruleIn (P .rules) i) at) ≡ true
+  pub shares : Share P (ruleIn (P .rules) i .head) (termIn (ruleIn (P .rules) i .terms) at .variable)
+
+-- "A file is valid when no rule has a mixed variable in its head's component."
+abbrev pub Valid : Program → Type 0
+Valid P = (i : ℕ) → Offends P i → ⊥
+
+pub record FirstOffending (P : Program) (i : ℕ) : Type 0 where
+  pub offends : Offends P i
+  pub first : (j : ℕ) → j < i → Offends P j → ⊥

@@ -1,0 +1,59 @@
+-- Document 01, "Rule forms": what a rule gives when the variable at place i of its body is read as `at i`.
+use Prim.Native.Nat.{ℕ, zero, suc, _-_}
+use mathlib.Core.List.{List, [], _∷_}
+use mathlib.Core.Bool.{Bool, true, false, cond, _&&_}
+use lib.IntN.{ℤ, pos, natAbs, _+ℤ_, _*ℤ_}
+use lib.Signed.{leZ, ltZ}
+use lib.ListN.{length}
+use Rattle.program.specs.Tables.{Entry, _⇒_, select}
+use Rattle.program.specs.Program.{Term, Rule, termIn}
+use Rattle.program.specs.declared.Given.{Given}
+use Rattle.program.specs.declared.Given.the-variants.{Nothing, Value}
+
+-- f 0 + .. + f (n - 1)
+unfoldable pub sumBelow : (ℕ → ℤ) → ℕ → ℤ
+sumBelow f zero = pos 0
+sumBelow f (suc n) = sumBelow f n +ℤ f n
+
+abbrev pub larger : ℤ → ℤ → ℤ
+larger a b = cond (ltZ a b) b a
+
+abbrev pub smaller : ℤ → ℤ → ℤ
+smaller a b = cond (ltZ b a) b a
+
+-- the largest and the smallest of f 0 .. f n
+unfoldable pub largestTo : (ℕ → ℤ) → ℕ → ℤ
+largestTo f zero = f zero
+largestTo f (suc n) = larger (largestTo f n) (f (suc n))
+
+unfoldable pub smallestTo : (ℕ → ℤ) → ℕ → ℤ
+smallestTo f zero = f zero
+smallestTo f (suc n) = smaller (smallestTo f n) (f (suc n))
+
+-- "op 1 means variable ≥ number; op 2 means variable < number"; a plain term asks nothing
+abbrev pub holds : Term → ℤ → Bool
+holds t a = select (t .op) ((1 ⇒ leZ (t .number) a) ∷ (2 ⇒ ltZ a (t .number)) ∷ []) true
+
+-- every literal among the first n terms holds
+unfoldable pub allHold : List Term → (ℕ → ℤ) → ℕ → Bool
+allHold ts at zero = true
+allHold ts at (suc n) = allHold ts at n && holds (termIn ts n) (at n)
+
+abbrev pub onlyIf : Bool → ℤ → Given
+onlyIf b a = cond b (Value a) Nothing
+
+unfoldable pub evaluate : Rule → (ℕ → ℤ) → Given
+evaluate r at =
+    let c = r .c in
+    let ts = r .terms in
+    let n = length (r .terms) in
+    select (r .form)
+    ((1 ⇒ Value (c +ℤ sumBelow (λ i. termIn ts i .number *ℤ at i) n))
+    ∷ (2 ⇒ Value (c +ℤ largestTo at (n - 1)))
+    ∷ (3 ⇒ Value (c +ℤ smallestTo at (n - 1)))
+    ∷ (4 ⇒ Value (c +ℤ (at 0 *ℤ at 1)))
+    ∷ (5 ⇒ Value (c +ℤ pos (natAbs (at 0))))
+    ∷ (6 ⇒ onlyIf (allHold ts at n) c)
+    ∷ (7 ⇒ onlyIf (allHold ts at n) (c +ℤ at 0))
+    ∷ [])
+    Nothing

@@ -1,0 +1,9 @@
+pub mod Tables
+pub mod Fields
+pub mod Program
+pub mod Refusals
+pub mod Directions
+pub mod Evaluate
+pub mod Components
+pub mod Reading
+pub mod Encode

@@ -1,0 +1,6 @@
+pub mod Bits
+pub mod Counts
+pub mod Nexts
+pub mod Rows
+pub mod Rounds
+pub mod Walks

@@ -1,0 +1,11 @@
+use Rattle.sets.proofs.Bits.{has-empty}
+use Rattle.sets.proofs.Set.empty.Statement.{statement}
+use Rattle.sets.proofs.Set.empty.Tie as tie
+use Rattle.sets.proofs.Set.empty.Reads as reads
+use Rattle.sets.proofs.Set.empty.Lts as lts
+
+returns : tie.Need-returns
+returns c = has-empty
+
+pub empty-spec : {M : Type 1} → statement M
+empty-spec = tie.close (tie.spec returns)

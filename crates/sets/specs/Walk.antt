@@ -1,0 +1,44 @@
+-- A set of variables for each variable, as rows of one list of words, and the walks over the edges that such rows hold.
+use Prim.Native.Nat.{ℕ, zero, suc, _+_, _*_, _/_, _%_, _<_}
+use mathlib.Core.Path.{_≡_}
+use mathlib.Core.Bool.{Bool, true, _||_, _&&_}
+use mathlib.Core.List.{List}
+use lib.Dec.{eqb}
+use lib.ListN.{getD}
+use Rattle.format.specs.Limits.{maxVariables}
+use Rattle.sets.specs.Bit.{wordBits, wordCount, bit}
+
+-- the words of all rows
+abbrev pub rowsLength : ℕ
+rowsLength = maxVariables * wordCount
+
+-- whether row i has j
+unfoldable pub rowHas : List ℕ → ℕ → ℕ → Bool
+rowHas ws i j = bit (getD ws (wordCount * i + j / wordBits) 0) (j % wordBits)
+
+-- r′ is r where row i has taken in v
+abbrev pub Marked : (ℕ → ℕ → Bool) → (ℕ → ℕ → Bool) → ℕ → ℕ → Type 0
+Marked r r′ i v = (a b : ℕ) → a < maxVariables → b < maxVariables → r′ a b ≡ ((eqb a i && eqb b v) || r a b)
+
+-- r′ is r where row i has taken in row k
+abbrev pub Joined : (ℕ → ℕ → Bool) → (ℕ → ℕ → Bool) → ℕ → ℕ → Type 0
+Joined r r′ i k = (a b : ℕ) → a < maxVariables → b < maxVariables → r′ a b ≡ (r a b || (eqb a i && r k b))
+
+-- r′ is r where each row that has k has taken in row k
+abbrev pub Rounded : (ℕ → ℕ → Bool) → (ℕ → ℕ → Bool) → ℕ → ℕ → Type 0
+Rounded r r′ variables k = (a b : ℕ) → a < variables → b < variables → r′ a b ≡ (r a b || (r a k && r k b))
+
+-- a walk from i to j over one edge of e or more, with every stop between below n
+pub data Walk (e : ℕ → ℕ → Bool) (n : ℕ) : ℕ → ℕ → Type 0 where
+  edge : {i j : ℕ} → e i j ≡ true → Walk e n i j
+  step : {i m j : ℕ} → e i m ≡ true → m < n → Walk e n m j → Walk e n i j
+
+-- among the variables below `variables`, r holds exactly what such walks reach
+pub record Reached (e r : ℕ → ℕ → Bool) (variables n : ℕ) : Type 0 where
+  pub sound : (i j : ℕ) → i < variables → j < variables → r i j ≡ true → Walk e n i j
+  pub whole : (i j : ℕ) → i < variables → j < variables → Walk e n i j → r i j ≡ true
+
+-- what is reached, as a test: a round for each stop
+unfoldable pub closed : (ℕ → ℕ → Bool) → ℕ → ℕ → ℕ → Bool
+closed e zero i j = e i j
+closed e (suc k) i j = closed e k i j || (closed e k i k && closed e k k j)
