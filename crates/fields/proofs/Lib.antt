@@ -2,3 +2,4 @@ pub mod TermLaws
 pub mod FaultLaws
 pub mod ValueLaws
 pub mod FieldLaws
+pub mod ScanLaws

@@ -9,8 +9,8 @@ use Rattle.program.specs.Program.{Variable, Term, Program, itemOf, termIn, vari
 use Rattle.program.specs.Refusals.{wrongLength, itemRefusal, wrongTerm, outsideTerm, undeclaredTerm, repeatedTerm, negativeTerm}
 use Rattle.program.specs.Reading.{numberOf}
 use Rattle.program.specs.declared.Counts.{Counts}
-use Rattle.fields.specs.declared.faults.Checked.{Checked}
-use Rattle.fields.specs.declared.faults.Checked.the-variants.{Fine, Bad}
+use Rattle.fields.specs.declared.answers.Checked.{Checked}
+use Rattle.fields.specs.declared.answers.Checked.the-variants.{Fine, Bad}
 use Rattle.fields.specs.declared.faults.Faults.{Faults}
 
 -- 0 where nothing is wrong

@@ -1,11 +1,12 @@
 // A whole field: its tag, its number among its kind, and its value.
 ghost use mathlib.Core.Path.{_≡_};
+ghost use mathlib.Core.Bool.{false};
 ghost use Prim.Native.Nat.{_*_, _≤_};
 ghost use lib.ListN.{length};
-ghost use Rattle.program.specs.Program.{Program};
+ghost use Rattle.program.specs.Program.{Program, variablesAt};
 ghost use Rattle.program.specs.Refusals.{oneTooMany, unknownTag, valueRefusal};
-ghost use Rattle.fields.specs.Faults.{checkedNumber, Describes};
-use crate::faults::Checked;
+ghost use Rattle.fields.specs.Faults.{checkedNumber, lengthRefusal, Describes};
+use crate::answers::Checked;
 use crate::values;
 use format::Format;
 use program::Counts;
@@ -59,7 +60,3 @@ pub fn check_field(file: &[u8], value: &[u8], tag: u8, before: u8, counts: Count
     }
     check_value(file, value, tag, counts.variables)
 }
-
-ghost use mathlib.Core.Bool.{false};
-ghost use Rattle.program.specs.Program.{variablesAt};
-ghost use Rattle.fields.specs.Faults.{lengthRefusal};

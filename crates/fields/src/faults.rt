@@ -2,18 +2,14 @@
 ghost use mathlib.Core.Path.{_≡_};
 ghost use mathlib.Core.Bool.{_||_, false};
 ghost use Prim.Native.Nat.{_*_, _+_, _/_, _≤_};
+ghost use lib.Dec.{leb};
 ghost use lib.ListN.{length};
 ghost use Rattle.program.specs.Program.{termsOf, termIn, variablesAt};
 ghost use Rattle.program.specs.Refusals.{undeclaredTerm};
 ghost use Rattle.fields.specs.Faults.{TermFaults, FaultsBelow, faultsNumber, checkedNumber};
+use crate::answers::Checked;
 use crate::terms;
 use program::Refusal;
-
-// What checking a field finds.
-pub enum Checked {
-    Fine,
-    Bad(Refusal),
-}
 
 // Of the refusals 7 to 9, 11 and 12, those that a term or a body meets.
 pub struct Faults {
@@ -114,5 +110,3 @@ pub fn body_faults(file: &[u8], variables: usize, body: &[u8], form: u8) -> Faul
     }
     all
 }
-
-ghost use lib.Dec.{leb};

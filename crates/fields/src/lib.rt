@@ -1,6 +1,8 @@
-// The fields of a rule file, and the refusals 2 to 12.
+// The fields of a rule file, and the refusals 1 to 12.
+pub mod answers;
 pub mod checks;
 pub mod cursor;
 mod faults;
+pub mod scan;
 mod terms;
 mod values;

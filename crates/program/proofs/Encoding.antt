@@ -1,19 +1,20 @@
 -- The bytes of a value and what they mean, both ways.
 use Prim.Native.Nat.{ℕ, zero, suc, _+_, _*_, _/_, _%_, _<_, _≤_}
-use mathlib.Core.Path.{_≡_, refl, sym, ap, ap₂, _∙_, subst}
+use mathlib.Core.Path.{_≡_, refl, sym, ap, _∙_}
 use mathlib.Core.List.{List, [], _∷_, _++_}
 use mathlib.Core.Bool.{Bool, true, false}
 use native.Mathlib.Omega.{arith}
 use lib.Dec.{eqb}
 use borrow.Author.Tests.{eqb-true, eqb-false}
 use lib.IntN.{ℤ, natAbs}
-use lib.ListN.{length, getD, take, drop, length-append, length-drop, drop-of-length-le}
+use lib.ListN.{length, getD, take, drop, length-drop, drop-of-length-le}
 use lib.Seq.{drop-cons, getD-drop}
 use mir.Syntax.{w16}
 use mir.Val.{ofZ}
-use Rattle.format.specs.Limits.{maxVariables, maxTerms, maxNumber, maxCoefficient}
-use Rattle.format.specs.Numbers.{signed, signedAt, bytesOf}
+use Rattle.format.specs.Limits.{maxVariables, maxNumber}
+use Rattle.format.specs.Numbers.{signed, bytesOf}
 use Rattle.format.proofs.Ints.{read-written, written-read, raw-small}
+use Rattle.program.specs.Fields.{lengthAt, valueAt}
 use Rattle.program.specs.Program.{Variable, Term, Rule, Constraint, termsOf, termIn, noTerm, variableOf, ruleOf, constraintOf}
 use Rattle.program.specs.Refusals.{literalPlace}
 use Rattle.program.specs.Encode.{each, fieldBytes, termBytes, variableBytes, ruleBytes, constraintBytes, Bytes, All}
@@ -39,6 +40,9 @@ bytes-take zero s b i = omega arith
 bytes-take (suc n) [] b i = omega arith
 bytes-take (suc n) (x ∷ s) b zero = b 0
 bytes-take (suc n) (x ∷ s) b (suc i) = bytes-take n s (λ j. b (suc j)) i
+
+pub value-bytes : (s : List ℕ) (at : ℕ) → Bytes s → Bytes (valueAt s at)
+value-bytes s at b = bytes-take (lengthAt s at) (drop (at + 3) s) (bytes-drop (at + 3) s b)
 
 -- ---- read, then written
 
@@ -172,7 +176,7 @@ bytes-field tag v h l b =
     bytes-cons tag (high ∷ low ∷ v) h (bytes-cons high (low ∷ v) (omega arith) (bytes-cons low v (omega arith) b))
 
 -- what holds at each place holds of each element
-all-of : {A : Type 0} (q : A → Type 0) (d : A) (xs : List A) → ((i : ℕ) → i < length xs → q (getD xs i d)) → All q xs
+pub all-of : {A : Type 0} (q : A → Type 0) (d : A) (xs : List A) → ((i : ℕ) → i < length xs → q (getD xs i d)) → All q xs
 all-of q d [] h = tt
 all-of q d (x ∷ xs) h = (h 0 (omega arith), all-of q d xs (λ i l. h (suc i) (omega arith)))
 

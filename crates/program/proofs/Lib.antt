@@ -5,4 +5,6 @@ pub mod Promises
 pub mod Unique
 pub mod Encoding
 pub mod RoundTrip
+pub mod Decide
 pub mod Total
+pub mod Counting

@@ -1,8 +1,8 @@
 -- Where things stand in a file whose first k fields passed.
 use Prim.Native.Nat.{ℕ, zero, suc, _+_, _*_, _<_, _≤_}
-use mathlib.Core.Path.{_≡_, refl, sym, ap, ap₂, _∙_, subst}
+use mathlib.Core.Path.{_≡_, refl, sym, ap, ap₂, _∙_}
 use mathlib.Core.List.{List, [], _∷_, _++_, append-nil, append-assoc}
-use mathlib.Core.Bool.{Bool, true, false, not, cond, _||_, _&&_}
+use mathlib.Core.Bool.{true, false, _&&_}
 use native.Mathlib.Numerals.{add-one}
 use native.Mathlib.Omega.{arith}
 use lib.ListN.{length, getD, take, drop, length-append, length-drop, List·getD-append}
@@ -11,9 +11,9 @@ use lib.IntN.{pos}
 use lib.Dec.{eqb, leb, ltb, lit<}
 use borrow.Author.Tests.{ltb-false, leb-true, leb-false, eqb-true, not-false}
 use Rattle.format.specs.Limits.{maxFile, maxVariables, maxRules, maxConstraints, maxTerms}
-use Rattle.program.specs.Tables.{Condition, _when_, firstOf, anyBelow}
+use Rattle.program.specs.Tables.{Condition, _when_, firstOf}
 use Rattle.program.specs.Fields.{tagAt, lengthAt, valueAt, nextAt, place, tagBefore}
-use Rattle.program.specs.Program.{Variable, Term, Rule, Constraint, Program, Item, variable, rule, constraint, none}
+use Rattle.program.specs.Program.{Variable, Constraint, Program, Item, variable, rule, constraint, none}
 use Rattle.program.specs.Program.{variableOf, ruleOf, constraintOf, termsOf, with, itemOf, item, program, variableIn, ruleIn, noVariable, noRule, variablesAt}
 use Rattle.program.specs.Refusals.{cutShort, unknownTag, tagBelow, oneTooMany, notTerms, wrongLength, undeclared, negativeProduct, itemRefusal, valueRefusal, fieldRefusal}
 use Rattle.program.specs.Reading.{Passed, Whole, RuleField}
@@ -148,6 +148,9 @@ pub passed-inside : {s : List ℕ} (k : ℕ) → Passed s k → place s k ≤ le
 passed-inside {s} zero p = omega (arith, place-start s)
 passed-inside {s} (suc k) p = rw (place-suc s k) (passed-fine p k (omega arith) .whole)
 
+pub whole-inside : {s : List ℕ} {k : ℕ} → Whole s k → place s k ≡ length s
+whole-inside {k = k} w = omega (arith, passed-inside k (w .passed), w .ended)
+
 -- ---- the three kinds of field
 
 -- a value of `header` bytes and some terms
@@ -189,21 +192,24 @@ module _ (P : Program) (tag : ℕ) (e : oneTooMany P tag ≡ false) where
   constraint-room h = leb-false maxConstraints (length (P .constraints)) (rw h at e)
 
 module _ (s : List ℕ) (k : ℕ) where
+  one-item : {t : ℕ} → tagAt s (place s k) ≡ t → program s (suc k) ≡ with (program s k) (itemOf t (valueAt s (place s k)))
+  one-item h = program-suc s k ∙ ap (λ (t : ℕ). with (program s k) (itemOf t (valueAt s (place s k)))) h
+
   pub one-variable : tagAt s (place s k) ≡ 1 → program s (suc k) ≡ with (program s k) (variable (variableOf (valueAt s (place s k))))
-  one-variable h = program-suc s k ∙ ap (λ (t : ℕ). with (program s k) (itemOf t (valueAt s (place s k)))) h
+  one-variable h = one-item h
 
   pub one-rule : tagAt s (place s k) ≡ 2 → program s (suc k) ≡ with (program s k) (rule (ruleOf (valueAt s (place s k))))
-  one-rule h = program-suc s k ∙ ap (λ (t : ℕ). with (program s k) (itemOf t (valueAt s (place s k)))) h
+  one-rule h = one-item h
 
   pub one-constraint : tagAt s (place s k) ≡ 3 → program s (suc k) ≡ with (program s k) (constraint (constraintOf (valueAt s (place s k))))
-  one-constraint h = program-suc s k ∙ ap (λ (t : ℕ). with (program s k) (itemOf t (valueAt s (place s k)))) h
+  one-constraint h = one-item h
 
-data Tag (t : ℕ) : Type 0 where
+pub data Tag (t : ℕ) : Type 0 where
   one : t ≡ 1 → Tag t
   two : t ≡ 2 → Tag t
   three : t ≡ 3 → Tag t
 
-tag-of : (t : ℕ) → 1 ≤ t → t ≤ 3 → Tag t
+pub tag-of : (t : ℕ) → 1 ≤ t → t ≤ 3 → Tag t
 tag-of zero h l = let f : ⊥ = omega arith in absurd f
 tag-of (suc zero) h l = one refl
 tag-of (suc (suc zero)) h l = two refl
@@ -285,14 +291,14 @@ sorted {s} (suc k) p =
     let f = passed-fine p k (omega arith) in
     sorted-more (sorted k (passed-less p (omega arith))) f (tag-of _ (f .tag-least) (f .tag-most))
 
--- the counts of the first k fields
-pub record Counts (s : List ℕ) (k : ℕ) : Type 0 where
+-- the counts of the first k fields, each within its limit
+pub record CountsWithin (s : List ℕ) (k : ℕ) : Type 0 where
   pub in-all : k ≡ variablesTo s k + rulesTo s k + constraintsTo s k
   pub few-variables : variablesTo s k ≤ maxVariables
   pub few-rules : rulesTo s k ≤ maxRules
   pub few-constraints : constraintsTo s k ≤ maxConstraints
 
-pub counts : {s : List ℕ} {k : ℕ} → Passed s k → Counts s k
+pub counts : {s : List ℕ} {k : ℕ} → Passed s k → CountsWithin s k
 counts {s} {k} p = let o = sorted k p in omega arith
 
 -- ---- what field k is
@@ -380,16 +386,12 @@ unfolding variablesAt
 variables-length s zero = refl
 variables-length s (suc n) = rw (length-snoc, variables-length s n)
 
--- an element of a list, after one more
-pub getD-snoc : {A : Type 0} (xs : List A) (x d : A) (i : ℕ) → i < length xs → getD (xs ++ (x ∷ [])) i d ≡ getD xs i d
-getD-snoc xs x d i h = List·getD-append xs (x ∷ []) d i h
-
 pub variable-at : (s : List ℕ) (n x : ℕ) → x < n → variableIn (variablesAt s n) x ≡ variableOf (drop (8 * x + 3) s)
 unfolding variablesAt
 variable-at s zero x h = let f : ⊥ = omega arith in absurd f
 variable-at s (suc n) x h = last-or
     (λ i. variableIn (variablesAt s (suc n)) i ≡ variableOf (drop (8 * i + 3) s)) n x h
-    (λ l. getD-snoc (variablesAt s n) _ noVariable x (omega (arith, variables-length s n)) ∙ variable-at s n x l)
+    (λ l. List·getD-append (variablesAt s n) _ noVariable x (omega (arith, variables-length s n)) ∙ variable-at s n x l)
     (getD-at (variablesAt s n) _ [] noVariable n (variables-length s n))
 
 -- a variable's value, read to the end of the file
@@ -444,7 +446,7 @@ unfolding program
 variables-stand {s} zero p = stand-start s
 variables-stand {s} (suc k) p = stand-next (variables-stand k (passed-less p (omega arith))) (passed-fine p k (omega arith)) (next-of p)
 
--- ---- a longer file means a program with more at each end
+-- ---- one field more: each list stays, or grows at its end
 
 pub record Extends {A : Type 0} (xs ys : List A) : Type 0 where
   pub more : List A

@@ -1,9 +1,9 @@
 -- What holds of every variable, rule and constraint of a file whose fields passed: one sentence a field.
-use Prim.Native.Nat.{ℕ, zero, suc, _+_, _<_, _≤_}
-use mathlib.Core.Path.{_≡_, refl, sym, ap, _∙_, subst}
+use Prim.Native.Nat.{ℕ, zero, suc, _<_, _≤_}
+use mathlib.Core.Path.{_≡_, refl, sym, ap, subst}
 use mathlib.Core.Logic.{_≢_}
-use mathlib.Core.List.{List, [], _∷_}
-use mathlib.Core.Bool.{Bool, true, false, not, cond, _||_, _&&_}
+use mathlib.Core.List.{List, []}
+use mathlib.Core.Bool.{Bool, true, false, not, _||_, _&&_}
 use native.Mathlib.Omega.{arith}
 use lib.IntN.{ℤ, pos, negsuc, natAbs}
 use lib.Signed.{ltZ, _≤ℤ_, ltZ-no}
@@ -13,8 +13,7 @@ use borrow.Author.Tests.{ltb-false, leb-true, leb-false, eqb-true, eqb-false, eq
 use Rattle.format.specs.Limits.{maxTerms, maxNumber, maxCoefficient}
 use Rattle.format.specs.Numbers.{beyond}
 use Rattle.format.proofs.Ints.{within-small}
-use Rattle.program.specs.Tables.{Condition, _when_, firstOf, anyBelow}
-use Rattle.program.specs.Program.{Variable, Term, Rule, Constraint, Program, Item, variable, rule, constraint, none}
+use Rattle.program.specs.Program.{Variable, Term, Rule, Constraint, Program, Item, variable, rule, constraint}
 use Rattle.program.specs.Program.{program, variableIn, ruleIn, termIn, founded}
 use Rattle.program.specs.Refusals.{bodyForm, anyTerm, literalPlace, wrongOp, mustBeZero, wrongTerm, unknownForm, wrongConstraint, wrongForm}
 use Rattle.program.specs.Refusals.{outsideTerm, outsideRange, undeclaredTerm, wrongHead, undeclared, notFrom, wrongCountOf, wrongCount}

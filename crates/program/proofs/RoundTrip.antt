@@ -2,25 +2,28 @@
 use Prim.Native.Nat.{ℕ, zero, suc, _+_, _*_, _/_, _%_, _<_, _≤_}
 use mathlib.Core.Path.{_≡_, refl, sym, ap, ap₂, _∙_, subst, subst₂}
 use mathlib.Core.List.{List, [], _∷_, _++_, append-nil, append-assoc}
-use mathlib.Core.Bool.{Bool, true, false}
+use mathlib.Core.Bool.{false}
 use native.Mathlib.Omega.{arith}
 use native.Mathlib.Nat.{add-assoc}
 use borrow.Author.Tests.{le-leb, le-ltb, lt-leb, eq-eqb}
 use lib.Dec.{eqb}
-use lib.ListN.{length, getD, take, drop, length-append, length-drop}
+use lib.ListN.{length, getD, take, drop, length-append}
 use lib.Seq.{take-add, take-all, take-append-seam, append-snoc, drop-append-add, getD-at, getD-append-add}
 use Rattle.format.specs.Limits.{maxFile, maxVariables, maxRules, maxConstraints, maxTerms}
 use Rattle.format.specs.Numbers.{bytesOf}
 use Rattle.program.specs.Fields.{tagAt, lengthAt, valueAt, nextAt, place, tagBefore}
-use Rattle.program.specs.Program.{Variable, Term, Rule, Constraint, Program, Item, variable, rule, constraint, none}
-use Rattle.program.specs.Program.{variableOf, ruleOf, constraintOf, termsOf, with, itemOf, item, program}
+use Rattle.program.specs.Program.{Variable, Rule, Constraint, Program, Item, variable, rule, constraint}
+use Rattle.program.specs.Program.{with, itemOf, program, noVariable, noRule}
 use Rattle.program.specs.Refusals.{cutShort, unknownTag, tagBelow, oneTooMany, wrongLength, notTerms, itemRefusal, valueRefusal, fieldRefusal}
+use Rattle.program.specs.Components.{Valid}
 use Rattle.program.specs.Reading.{Passed, Whole, Accepts}
-use Rattle.program.specs.Encode.{each, fieldBytes, termBytes, variableBytes, ruleBytes, constraintBytes, encode, Bytes, All, Proper}
-use Rattle.program.proofs.Places.{Fine, Next, NextVariable, NextRule, NextConstraint, a-variable, a-rule, a-constraint, Sized}
-use Rattle.program.proofs.Places.{rulesTo, constraintsTo, alone, length-snoc, place-start, program-start, before-start, place-next, program-next, before-next, place-suc, passed-less, passed-none, passed-more, passed-fine, passed-inside, next-of, value-length}
-use Rattle.program.proofs.Encoding.{bytes-drop, bytes-take, bytes-each, bytes-append, all-map, variable-bytes, rule-bytes, constraint-bytes, front, variable-written, rule-written, constraint-written}
-use Rattle.program.proofs.Encoding.{variableValue, ruleValue, constraintValue, body-small, variable-read, rule-read, constraint-read, terms-size}
+use Rattle.program.specs.Encode.{each, fieldBytes, variableBytes, ruleBytes, constraintBytes, encode, Bytes, All, Proper}
+use Rattle.program.proofs.Places.{Fine, Next, a-variable, a-rule, a-constraint, next-of, alone, length-snoc}
+use Rattle.program.proofs.Places.{place-start, program-start, before-start, place-next, program-next, before-next, place-suc, value-length, noConstraint}
+use Rattle.program.proofs.Places.{passed-less, passed-none, passed-more, passed-fine, counts, variable-stands, rule-at, constraint-at}
+use Rattle.program.proofs.Encoding.{variableValue, ruleValue, constraintValue, front, variable-written, rule-written, constraint-written}
+use Rattle.program.proofs.Encoding.{body-small, variable-read, rule-read, constraint-read, terms-size, value-bytes, bytes-each, bytes-append}
+use Rattle.program.proofs.Encoding.{all-of, all-map, variable-bytes, rule-bytes, constraint-bytes}
 use Rattle.program.proofs.Promises.{variable-promised, rule-promised, constraint-promised}
 use Rattle.program.proofs.Conditions.{below-some}
 
@@ -30,7 +33,7 @@ each-snoc : {A : Type 0} (f : A → List ℕ) (xs : List A) (x : A) → each f (
 each-snoc f [] x = append-nil (f x)
 each-snoc f (y ∷ xs) x = rw (each-snoc f xs x) (sym (append-assoc (f y) (each f xs) (f x)))
 
--- nothing comes after
+-- no element, no byte
 no-list : {A : Type 0} (f : A → List ℕ) (xs : List A) → length xs ≡ 0 → each f xs ≡ []
 no-list f [] h = refl
 no-list f (x ∷ xs) h = let e : ⊥ = omega arith in absurd e
@@ -64,7 +67,7 @@ field-bytes s at b h =
     let l = value-length s at h in
     let high : length v / 256 ≡ getD s (at + 1) 0 = omega (arith, b (at + 1), b (at + 1 + 1)) in
     let low : length v % 256 ≡ getD s (at + 1 + 1) 0 = omega (arith, b (at + 1), b (at + 1 + 1)) in
-    rw (e, take-add, header s at (omega arith), high, low)
+    rw (e, take-add at (suc (suc (suc (lengthAt s at)))) s, header s at (omega arith), high, low)
 
 module _ (s : List ℕ) (k : ℕ) where
   -- field k, written after the fields before it
@@ -77,20 +80,17 @@ module _ (s : List ℕ) (k : ℕ) where
 
   next-written : Bytes s → Fine s k → Next s k → Written
   next-written b f (a-variable x) =
-      let y = bytes-take (lengthAt s (place s k)) _ (bytes-drop (place s k + 3) s b) in
       one-written
       (ap encode (x .means) ∙ encode-variable (program s k) _ (x .no-rule) (x .no-constraint))
-      (variable-written (valueAt s (place s k)) y (f .length-is ∙ x .takes)) (x .tagged)
+      (variable-written (valueAt s (place s k)) (value-bytes s (place s k) b) (f .length-is ∙ x .takes)) (x .tagged)
   next-written b f (a-rule x) =
-      let y = bytes-take (lengthAt s (place s k)) _ (bytes-drop (place s k + 3) s b) in
       one-written
       (ap encode (x .means) ∙ encode-rule (program s k) _ (x .no-constraint))
-      (rule-written (valueAt s (place s k)) y (x .sized .terms) (f .length-is ∙ x .sized .length-is)) (x .tagged)
+      (rule-written (valueAt s (place s k)) (value-bytes s (place s k) b) (x .sized .terms) (f .length-is ∙ x .sized .length-is)) (x .tagged)
   next-written b f (a-constraint x) =
-      let y = bytes-take (lengthAt s (place s k)) _ (bytes-drop (place s k + 3) s b) in
       one-written
       (ap encode (x .means) ∙ encode-constraint (program s k) _)
-      (constraint-written (valueAt s (place s k)) y (x .sized .terms) (f .length-is ∙ x .sized .length-is)) (x .tagged)
+      (constraint-written (valueAt s (place s k)) (value-bytes s (place s k) b) (x .sized .terms) (f .length-is ∙ x .sized .length-is)) (x .tagged)
 
 pub passed-encoded : {s : List ℕ} → Bytes s → (k : ℕ) → Passed s k → take (place s k) s ≡ encode (program s k)
 unfolding place program encode
@@ -102,10 +102,30 @@ passed-encoded {s} b (suc k) p =
     ∙ ap (λ (r : List ℕ). r ++ fieldBytes (tagAt s (place s k)) (valueAt s (place s k))) (passed-encoded b k (passed-less p (omega arith)))
     ∙ sym (next-written s k b f (next-of p))
 
+whole-encoded : {s : List ℕ} {k : ℕ} → Bytes s → Whole s k → s ≡ encode (program s k)
+whole-encoded {s} {k} b w = sym (take-all (place s k) s (w .ended)) ∙ passed-encoded b k (w .passed)
+
 pub accepted-encoded : {s : List ℕ} {P : Program} → Bytes s → Accepts s P → s ≡ encode P
-accepted-encoded {s} b a =
-    let k = a .fields in
-    sym (take-all (place s k) s (a .whole .ended)) ∙ passed-encoded b k (a .whole .passed) ∙ ap encode (a .means)
+accepted-encoded b a = whole-encoded b (a .whole) ∙ ap encode (a .means)
+
+-- and its program is proper
+whole-proper : {s : List ℕ} {k : ℕ} → Bytes s → Whole s k → Valid (program s k) → Proper (program s k)
+whole-proper {s} {k} b w v =
+    let p = w .passed in
+    let c = counts p in
+    record {
+      short = omega (arith, p .short, ap length (whole-encoded b w));
+      few-variables = c .few-variables;
+      few-rules = c .few-rules;
+      few-constraints = c .few-constraints;
+      fine-variables = all-of _ noVariable (program s k .variables) (λ x h. variable-stands p h .fine);
+      fine-rules = all-of _ noRule (program s k .rules) (λ i h. rule-at p h .fine);
+      fine-constraints = all-of _ noConstraint (program s k .constraints) (λ i h. constraint-at p h .fine);
+      valid = v;
+    }
+
+pub accepted-proper : {s : List ℕ} {P : Program} → Bytes s → Accepts s P → Proper P
+accepted-proper {s} b a = subst Proper (a .means) (whole-proper b (a .whole) (subst Valid (sym (a .means)) (a .valid)))
 
 -- ---- a proper program's encoding is accepted as that program
 
@@ -295,5 +315,7 @@ encode-bytes {P} p =
     let vs = P .variables in
     let variables = bytes-each variableBytes vs (all-map (λ x e. variable-bytes x (variable-promised vs x e)) vs (p .fine-variables)) in
     let rules = bytes-each ruleBytes (P .rules) (all-map (λ r e. rule-bytes r (p .few-variables) (rule-promised vs r e)) (P .rules) (p .fine-rules)) in
-    let constraints = bytes-each constraintBytes (P .constraints) (all-map (λ k e. constraint-bytes k (p .few-variables) (constraint-promised vs k e)) (P .constraints) (p .fine-constraints)) in
+    let constraints =
+    bytes-each constraintBytes (P .constraints)
+    (all-map (λ k e. constraint-bytes k (p .few-variables) (constraint-promised vs k e)) (P .constraints) (p .fine-constraints)) in
     bytes-append (each variableBytes vs) _ variables (bytes-append (each ruleBytes (P .rules)) (each constraintBytes (P .constraints)) rules constraints)

@@ -1,13 +1,13 @@
 -- Reading a file has at most one answer, and an accepted file means one program.
-use Prim.Native.Nat.{ℕ, zero, suc, _+_, _<_, _≤_}
-use mathlib.Core.Path.{_≡_, refl, sym, ap, ap₂, _∙_, subst}
+use Prim.Native.Nat.{ℕ, _<_}
+use mathlib.Core.Path.{_≡_, refl, sym, ap, _∙_, subst}
 use mathlib.Core.List.{List}
 use native.Mathlib.Omega.{arith}
 use lib.ListN.{length}
 use Rattle.program.specs.Fields.{place}
 use Rattle.program.specs.Program.{Program, program}
 use Rattle.program.specs.Refusals.{fieldRefusal}
-use Rattle.program.specs.Components.{Valid, Offends, FirstOffending}
+use Rattle.program.specs.Components.{Valid, FirstOffending}
 use Rattle.program.specs.Reading.{Answer, accepted, refused, Passed, Whole, RuleField, Reads, too-long, bad-field, not-valid, whole, Accepts}
 use Rattle.program.proofs.Places.{rule-stands}
 

@@ -1,9 +1,10 @@
 -- Document 01, "When a file or call is turned down": what reading a file answers.
-use Prim.Native.Nat.{ℕ, _<_, _≤_}
+use Prim.Native.Nat.{ℕ, _+_, _<_, _≤_}
 use mathlib.Core.Path.{_≡_}
-use mathlib.Core.List.{List}
+use mathlib.Core.List.{List, [], _∷_}
 use lib.ListN.{length}
 use Rattle.format.specs.Limits.{maxFile}
+use Rattle.program.specs.Tables.{Entry, _⇒_, select}
 use Rattle.program.specs.Fields.{place, tagAt}
 use Rattle.program.specs.Program.{Program, program}
 use Rattle.program.specs.Refusals.{fieldRefusal}
@@ -38,6 +39,16 @@ numberOf NotValid = 13
 abbrev pub answerOf : Reading → Answer
 answerOf (Accepted k) = accepted (k .variables) (k .rules) (k .constraints)
 answerOf (Refused why at) = refused (numberOf why) at
+
+-- one more of the kind that a tag names
+unfoldable pub counted : ℕ → Counts → Counts
+counted tag k =
+    select tag
+    ((1 ⇒ record { variables = k .variables + 1; rules = k .rules; constraints = k .constraints })
+    ∷ (2 ⇒ record { variables = k .variables; rules = k .rules + 1; constraints = k .constraints })
+    ∷ (3 ⇒ record { variables = k .variables; rules = k .rules; constraints = k .constraints + 1 })
+    ∷ [])
+    k
 
 -- the first k fields stand in the file, and none of them meets a refusal
 pub record Passed (s : List ℕ) (k : ℕ) : Type 0 where

@@ -1,4 +1,9 @@
 // The program that a rule file means, and what reading a file answers. The definitions stand in specs/, the laws about them in proofs/.
+ghost use mathlib.Core.Path.{_≡_};
+ghost use Prim.Native.Nat.{_<_};
+ghost use Rattle.format.specs.Limits.{maxFile};
+ghost use Rattle.program.specs.Reading.{counted};
+use format::Format;
 
 // Why a file is turned down.
 pub enum Refusal {
@@ -22,6 +27,43 @@ pub struct Counts {
     pub variables: usize,
     pub rules: usize,
     pub constraints: usize,
+}
+
+impl Counts {
+    pub fn empty() -> Self
+        ensures { λ r. ⌜ r ≡ record { variables = 0; rules = 0; constraints = 0 } ⌝ }
+    {
+        Counts {
+            variables: 0,
+            rules: 0,
+            constraints: 0,
+        }
+    }
+
+    // One more of the kind that the tag names.
+    pub fn with(self, tag: u8) -> Self
+        requires { ⌜ (self .variables < maxFile) × (self .rules < maxFile) × (self .constraints < maxFile) ⌝ }
+        ensures { λ r. ⌜ r ≡ counted tag self ⌝ }
+    {
+        match tag {
+            Format::VARIABLE => Counts {
+                variables: self.variables + 1,
+                rules: self.rules,
+                constraints: self.constraints,
+            },
+            Format::RULE => Counts {
+                variables: self.variables,
+                rules: self.rules + 1,
+                constraints: self.constraints,
+            },
+            Format::CONSTRAINT => Counts {
+                variables: self.variables,
+                rules: self.rules,
+                constraints: self.constraints + 1,
+            },
+            0 | 4..=255 => self,
+        }
+    }
 }
 
 // What reading a file answers: its counts, or the first refusal with its place.

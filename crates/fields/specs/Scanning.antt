@@ -1,0 +1,20 @@
+-- What reading all fields of a file finds.
+use Prim.Native.Nat.{ℕ}
+use mathlib.Core.List.{List}
+use Rattle.program.specs.Program.{program}
+use Rattle.program.specs.Reading.{Whole, Reads, refused, numberOf}
+use Rattle.program.specs.declared.Counts.{Counts}
+use Rattle.fields.specs.Faults.{Describes}
+use Rattle.fields.specs.declared.answers.Scanned.{Scanned}
+use Rattle.fields.specs.declared.answers.Scanned.the-variants as scanned
+
+-- the file has so many fields of each kind, and none of them meets a refusal
+pub record Counted (s : List ℕ) (counts : Counts) : Type 0 where
+  pub fields : ℕ
+  pub whole : Whole s fields
+  pub describes : Describes s counts (program s fields)
+
+-- all fields are fine, or the first refusal is the file's
+abbrev pub Scans : List ℕ → Scanned → Type 0
+Scans s (scanned.Whole counts) = Counted s counts
+Scans s (scanned.Refused why at) = Reads s (refused (numberOf why) at)
