@@ -1,5 +1,5 @@
 -- Terms and variables, by the bytes that they are read from.
-use Prim.Native.Nat.{ℕ, zero, suc, _+_, _-_, _*_, _/_, _<_, _≤_}
+use Prim.Native.Nat.{ℕ, zero, suc, _+_, _-_, _*_, _<_, _≤_}
 use mathlib.Core.Path.{_≡_, refl, sym, ap, ap₂, _∙_}
 use mathlib.Core.List.{List, [], _∷_, _++_}
 use mathlib.Core.Bool.{Bool, true, false}
@@ -58,7 +58,8 @@ place-variable v i h =
     let t : termIn (termsOf (drop 4 v)) i ≡ termAt (drop 4 v) i = term-at (drop 4 v) i (simp length-drop (omega arith)) in
     ap (λ (t : Term). t .variable) t ∙ getD-drop 4 v (4 * i) 0
 
-pub term-variable : (v : List ℕ) (i : ℕ) {r : code.Term} → Means r (termIn (termsOf (take (length v - 4) (drop 4 v))) i) → 4 + 4 * (i + 1) ≤ length v → r .variable ≡ getD v (4 + 4 * i) 0
+pub term-variable : (v : List ℕ) (i : ℕ) {r : code.Term} → Means r (termIn (termsOf (take (length v - 4) (drop 4 v))) i) → 4 + 4 * (i + 1) ≤ length v
+    → r .variable ≡ getD v (4 + 4 * i) 0
 term-variable v i h k = body-term v i h .variable ∙ place-variable v i k
 
 -- ---- variables
@@ -77,7 +78,8 @@ variable-read s (suc n) x h = go (ltb x n) refl (variable-read s n x)
     v : Variable
     v = variableOf (drop (8 * n + 3) s)
 
-    go : (t : Bool) → ltb x n ≡ t → (x < n → variableIn (variablesAt s n) x ≡ variableOf (drop (8 * x + 3) s)) → getD (variablesAt s n ++ (v ∷ [])) x noVariable ≡ variableOf (drop (8 * x + 3) s)
+    go : (t : Bool) → ltb x n ≡ t → (x < n → variableIn (variablesAt s n) x ≡ variableOf (drop (8 * x + 3) s))
+        → getD (variablesAt s n ++ (v ∷ [])) x noVariable ≡ variableOf (drop (8 * x + 3) s)
     go true e f =
         let k : x < n = ltb-true x n e in
         List·getD-append (variablesAt s n) (v ∷ []) noVariable x (let q = variables-length s n in omega arith) ∙ f k

@@ -1,2 +1,5 @@
 pub mod Bytes
 pub mod Pushes
+pub mod Sizes
+pub mod Loops
+pub mod Gives

@@ -1,8 +1,6 @@
 -- What the code's terms and variables mean.
-use Prim.Native.Nat.{ℕ}
 use mathlib.Core.Path.{_≡_}
-use mathlib.Core.Bool.{cond}
-use lib.IntN.{ℤ, pos}
+use lib.IntN.{ℤ}
 use Rattle.program.specs.Program as program
 use Rattle.program.specs.Directions.{byRange}
 use Rattle.program.specs.declared.Direction.{Direction}

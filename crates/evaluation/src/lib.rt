@@ -1,5 +1,8 @@
 // What a rule's places push and what a rule gives, from the bytes of the file.
+pub mod bodies;
 pub mod directions;
+mod numbers;
+pub mod rules;
 pub mod terms;
 pub mod variables;
 

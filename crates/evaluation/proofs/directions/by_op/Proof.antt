@@ -2,18 +2,13 @@ use native.Mathlib.Omega.{arith}
 use Rattle.evaluation.proofs.Pushes.{op-rising, op-falling, op-unknown}
 use Rattle.evaluation.proofs.directions.by_op.Statement.{statement}
 use Rattle.evaluation.proofs.directions.by_op.Tie as tie
-use Rattle.evaluation.proofs.directions.by_op.Reads as reads
-use Rattle.evaluation.proofs.directions.by_op.Lts as lts
 
--- src/directions.rt:38:1
 returns : tie.Need-returns
 returns c = op-falling (c .before .args .op) (omega arith)
 
--- src/directions.rt:38:1
 returns-2 : tie.Need-returns-2
 returns-2 c = op-rising (c .before .before .args .op) (omega arith)
 
--- src/directions.rt:38:1
 returns-3 : tie.Need-returns-3
 returns-3 c = op-unknown (c .before .before .args .op) (omega arith)
 

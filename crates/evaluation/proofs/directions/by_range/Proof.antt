@@ -5,17 +5,13 @@ use lib.Signed.{leZ}
 use mir.Facts.{toZ-ofZ}
 use Rattle.evaluation.proofs.directions.by_range.Statement.{statement}
 use Rattle.evaluation.proofs.directions.by_range.Tie as tie
-use Rattle.evaluation.proofs.directions.by_range.Reads as reads
-use Rattle.evaluation.proofs.directions.by_range.Lts as lts
 
--- src/directions.rt:28:9
 returns : tie.Need-returns
 returns c =
     let s = c .before in
     let l : leZ (pos 0) (s .args .low) ≡ true = simp (toZ-ofZ (s .fits .low)) at (c .if1 .taken) in
     simp l
 
--- src/directions.rt:24:1
 returns-2 : tie.Need-returns-2
 returns-2 c =
     let s = c .before .before in
@@ -23,7 +19,6 @@ returns-2 c =
     let h : leZ (s .args .high) (pos 0) ≡ true = simp (toZ-ofZ (s .fits .high)) at (c .if2 .taken) in
     simp (l, h)
 
--- src/directions.rt:24:1
 returns-3 : tie.Need-returns-3
 returns-3 c =
     let s = c .before .before in

@@ -1,21 +1,17 @@
 use mathlib.Core.Path.{_≡_}
 use mathlib.Core.Bool.{true, false}
 use lib.IntN.{pos}
-use lib.Signed.{ltZ, leZ}
+use lib.Signed.{ltZ}
 use mir.Facts.{toZ-ofZ}
 use Rattle.evaluation.proofs.directions.by_sign.Statement.{statement}
 use Rattle.evaluation.proofs.directions.by_sign.Tie as tie
-use Rattle.evaluation.proofs.directions.by_sign.Reads as reads
-use Rattle.evaluation.proofs.directions.by_sign.Lts as lts
 
--- src/directions.rt:13:1
 returns : tie.Need-returns
 returns c =
     let s = c .before in
     let t : ltZ (s .args .number) (pos 0) ≡ true = simp (toZ-ofZ (s .fits .number)) at (c .if1 .taken) in
     simp t
 
--- src/directions.rt:13:1
 returns-2 : tie.Need-returns-2
 returns-2 c =
     let s = c .before in

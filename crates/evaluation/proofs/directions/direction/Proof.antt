@@ -10,60 +10,41 @@ use Rattle.evaluation.proofs.Pushes.{push-sum, push-plain, push-size, p
 use borrow.Author.Needs.{needs}
 use Rattle.evaluation.proofs.directions.direction.Statement.{statement}
 use Rattle.evaluation.proofs.directions.direction.Tie as tie
-use Rattle.evaluation.proofs.directions.direction.Reads as reads
-use Rattle.evaluation.proofs.directions.direction.Lts as lts
-use Rattle.evaluation.proofs.directions.by_op.Reads as by-op-reads
-use Rattle.evaluation.proofs.directions.by_range.Reads as by-range-reads
-use Rattle.evaluation.proofs.directions.by_sign.Reads as by-sign-reads
-use Rattle.evaluation.proofs.terms.term.Reads as term-reads
-use Rattle.evaluation.proofs.variables.high.Reads as high-reads
-use Rattle.evaluation.proofs.variables.low.Reads as low-reads
 
--- src/directions.rt:54:16
 shared-slice-read-form : tie.Need-shared-slice-read-form
 shared-slice-read-form c = search needs
 
--- src/directions.rt:55:28
 sub-term : tie.Need-sub-term
 sub-term c = search needs
 
--- src/directions.rt:55:28
 part-term-start : tie.Need-part-term-start
 part-term-start c = search needs
 
--- src/directions.rt:55:28
 part-term-end : tie.Need-part-term-end
 part-term-end c = search needs
 
--- src/directions.rt:55:9
 term-requires : tie.Need-term-requires
 term-requires c κs = search needs
 
--- src/directions.rt:58:14
 by-sign-requires : tie.Need-by-sign-requires
 by-sign-requires c κs = search needs
 
--- src/directions.rt:60:23
 low-requires : tie.Need-low-requires
 low-requires c κs =
     let a = c .before .before .before .before .before .before .args in
     omega (arith, term-variable (a .value .now) (a .i) (c .before .term .ensures) (omega arith))
 
--- src/directions.rt:60:48
 high-requires : tie.Need-high-requires
 high-requires c κs =
     let a = c .before .before .before .before .before .before .before .args in
     omega (arith, term-variable (a .value .now) (a .i) (c .before .before .term .ensures) (omega arith))
 
--- src/directions.rt:60:14
 by-range-requires : tie.Need-by-range-requires
 by-range-requires c κs = search needs
 
--- src/directions.rt:61:18
 by-op-requires : tie.Need-by-op-requires
 by-op-requires c κs = search needs
 
--- src/directions.rt:49:1
 returns : tie.Need-returns
 returns c =
     let a = c .before .before .before .before .before .before .before .before .args in
@@ -72,7 +53,6 @@ returns c =
     let n : toZ w64 (ofZ w64 (r .number)) ≡ r .number = search needs in
     push-sum _ _ _ _ (omega arith) (c .by-sign .ensures ∙ ap bySign (n ∙ t .number))
 
--- src/directions.rt:49:1
 returns-2 : tie.Need-returns-2
 returns-2 c =
     let a = c .before .before .before .before .before .before .before .before .before .args in
@@ -84,22 +64,18 @@ returns-2 c =
     push-size _ _ _ _ (omega arith)
     (c .by-range .ensures ∙ ap₂ byBounds l h ∙ range-read (a .file .now) (a .variables) x d (t .variable) (c .before .before .low .ensures) (c .before .high .ensures))
 
--- src/directions.rt:49:1
 returns-3 : tie.Need-returns-3
 returns-3 c = push-plain _ _ _ (omega arith) (omega arith)
 
--- src/directions.rt:49:1
 returns-4 : tie.Need-returns-4
 returns-4 c =
     let a = c .before .before .before .before .before .before .before .before .before .args in
     let t = body-term (a .value .now) (a .i) (c .before .before .before .before .term .ensures) in
     push-literal _ _ _ _ (omega arith) (omega arith) (c .by-op .ensures ∙ ap byOp (t .op))
 
--- src/directions.rt:49:1
 returns-5 : tie.Need-returns-5
 returns-5 c = push-none _ _ _ (omega arith)
 
--- src/directions.rt:49:1
 returns-6 : tie.Need-returns-6
 returns-6 c = push-beyond _ _ _ (omega arith)
 

@@ -3,39 +3,28 @@ use Rattle.evaluation.proofs.Bytes.{term-read}
 use borrow.Author.Needs.{needs}
 use Rattle.evaluation.proofs.terms.term.Statement.{statement}
 use Rattle.evaluation.proofs.terms.term.Tie as tie
-use Rattle.evaluation.proofs.terms.term.Reads as reads
-use Rattle.evaluation.proofs.terms.term.Lts as lts
-use Rattle.evaluation.proofs.terms.whole.Reads as whole-reads
 
--- src/terms.rt:27:17
 mul-whole : tie.Need-mul-whole
 mul-whole c = search needs
 
--- src/terms.rt:27:24
 mul-whole-2 : tie.Need-mul-whole-2
 mul-whole-2 c = search needs
 
--- src/terms.rt:27:24
 add-whole : tie.Need-add-whole
 add-whole c = search needs
 
--- src/terms.rt:27:11
 sub-whole : tie.Need-sub-whole
 sub-whole c = search needs
 
--- src/terms.rt:27:11
 part-whole-start : tie.Need-part-whole-start
 part-whole-start c = search needs
 
--- src/terms.rt:27:11
 part-whole-end : tie.Need-part-whole-end
 part-whole-end c = search needs
 
--- src/terms.rt:27:5
 whole-requires : tie.Need-whole-requires
 whole-requires c κs = search needs
 
--- src/terms.rt:23:1
 returns : tie.Need-returns
 returns c = term-read _ _ _ (omega arith) (c .whole .ensures)
 

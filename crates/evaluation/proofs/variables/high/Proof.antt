@@ -7,28 +7,19 @@ use Rattle.evaluation.proofs.Bytes.{dropped-number}
 use borrow.Author.Needs.{needs}
 use Rattle.evaluation.proofs.variables.high.Statement.{statement}
 use Rattle.evaluation.proofs.variables.high.Tie as tie
-use Rattle.evaluation.proofs.variables.high.Reads as reads
-use Rattle.evaluation.proofs.variables.high.Lts as lts
-use Rattle.format.proofs.signed_at.Reads as signed-at-reads
-use Rattle.format.proofs.wide.Reads as wide-reads
 
--- src/variables.rt:30:17
 wide-requires : tie.Need-wide-requires
 wide-requires c κs = search needs
 
--- src/variables.rt:30:17
 mul-field : tie.Need-mul-field
 mul-field c = search needs
 
--- src/variables.rt:31:29
 add-signed-at : tie.Need-add-signed-at
 add-signed-at c = search needs
 
--- src/variables.rt:31:5
 signed-at-requires : tie.Need-signed-at-requires
 signed-at-requires c κs = search needs
 
--- src/variables.rt:26:1
 returns : tie.Need-returns
 returns c =
     let a = c .before .before .before .args in

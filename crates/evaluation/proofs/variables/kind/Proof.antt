@@ -4,27 +4,19 @@ use Rattle.evaluation.proofs.Bytes.{dropped}
 use borrow.Author.Needs.{needs}
 use Rattle.evaluation.proofs.variables.kind.Statement.{statement}
 use Rattle.evaluation.proofs.variables.kind.Tie as tie
-use Rattle.evaluation.proofs.variables.kind.Reads as reads
-use Rattle.evaluation.proofs.variables.kind.Lts as lts
-use Rattle.format.proofs.wide.Reads as wide-reads
 
--- src/variables.rt:12:17
 wide-requires : tie.Need-wide-requires
 wide-requires c κs = search needs
 
--- src/variables.rt:12:17
 mul-field : tie.Need-mul-field
 mul-field c = search needs
 
--- src/variables.rt:13:10
 add-result : tie.Need-add-result
 add-result c = search needs
 
--- src/variables.rt:13:5
 shared-slice-read-result : tie.Need-shared-slice-read-result
 shared-slice-read-result c = search needs
 
--- src/variables.rt:8:1
 returns : tie.Need-returns
 returns c =
     let a = c .before .before .before .args in
