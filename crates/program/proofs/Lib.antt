@@ -8,3 +8,4 @@ pub mod RoundTrip
 pub mod Decide
 pub mod Total
 pub mod Counting
+pub mod Examples

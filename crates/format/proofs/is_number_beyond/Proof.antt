@@ -8,18 +8,13 @@ use Rattle.format.specs.Limits.{maxNumber}
 use borrow.Author.Needs.{needs}
 use Rattle.format.proofs.is_number_beyond.Statement.{statement}
 use Rattle.format.proofs.is_number_beyond.Tie as tie
-use Rattle.format.proofs.is_number_beyond.Reads as reads
-use Rattle.format.proofs.is_number_beyond.Lts as lts
 
--- src/lib.rt:119:12
 sub-if1 : tie.Need-sub-if1
 sub-if1 c = search needs
 
--- src/lib.rt:120:9
 returns : tie.Need-returns
 returns c = beyond-below _ _ (simp (toZ-ofZ (c .before .fits .v)) at (c .if1 .taken))
 
--- src/lib.rt:116:1
 returns-2 : tie.Need-returns-2
 returns-2 c = rw (toZ-ofZ (c .before .fits .v)) (beyond-above _ _ (simp (toZ-ofZ (c .before .fits .v)) at (c .if1 .left)))
 

@@ -6,19 +6,13 @@ use native.Mathlib.Omega.{arith}
 use borrow.Author.Needs.{needs}
 use Rattle.format.proofs.low_byte.Statement.{statement}
 use Rattle.format.proofs.low_byte.Tie as tie
-use Rattle.format.proofs.low_byte.Reads as reads
-use Rattle.format.proofs.low_byte.Lts as lts
-use Rattle.format.proofs.raw.Reads as raw-reads
 
--- src/lib.rt:112:6
 raw-requires : tie.Need-raw-requires
 raw-requires c κs = search needs
 
--- src/lib.rt:112:5
 cast-result : tie.Need-cast-result
 cast-result c = search needs
 
--- src/lib.rt:108:1
 returns : tie.Need-returns
 returns c = let e : c .raw .result ≡ ofZ w16 (c .before .args .v) = simp (toZ-ofZ (c .before .fits .v)) at (c .raw .ensures .0) in omega arith
 

@@ -6,36 +6,27 @@ use Rattle.format.proofs.Ints.{low16, high16, high16-is, sfits-abs, bac
 use borrow.Author.Needs.{needs}
 use Rattle.format.proofs.number.Statement.{statement}
 use Rattle.format.proofs.number.Tie as tie
-use Rattle.format.proofs.number.Reads as reads
-use Rattle.format.proofs.number.Lts as lts
 
--- src/lib.rt:12:13
 mul-n : tie.Need-mul-n
 mul-n c = search needs
 
--- src/lib.rt:12:13
 add-n : tie.Need-add-n
 add-n c = search needs
 
--- src/lib.rt:13:20
 cast-result : tie.Need-cast-result
 cast-result c = search needs
 
--- src/lib.rt:13:38
 cast-result-2 : tie.Need-cast-result-2
 cast-result-2 c = search needs
 
--- src/lib.rt:13:38
 sub-result : tie.Need-sub-result
 sub-result c =
     let n = c .before .args .high * 256 + c .before .args .low in
     rw (high16 n (omega arith) (omega arith)) (sfits-abs (negsuc (65536 - suc n)) 65536 (omega arith) (omega arith))
 
--- src/lib.rt:9:1
 returns : tie.Need-returns
 returns c = low16 (c .before .args .high * 256 + c .before .args .low) (omega arith)
 
--- src/lib.rt:9:1
 returns-2 : tie.Need-returns-2
 returns-2 c =
     let n = c .before .args .high * 256 + c .before .args .low in

@@ -10,34 +10,27 @@ use native.Mathlib.Omega.{arith}
 use Rattle.format.proofs.Ints.{raw-negative, raw-positive, raw-small, sfits-abs}
 use Rattle.format.proofs.raw.Statement.{statement}
 use Rattle.format.proofs.raw.Tie as tie
-use Rattle.format.proofs.raw.Reads as reads
-use Rattle.format.proofs.raw.Lts as lts
 
--- src/lib.rt:96:17
 add-result : tie.Need-add-result
 add-result c = let v = c .before .args .v in
     let s : ofZ w16 v < 65536 = raw-small v (c .before .pre) in
     rw (toZ-ofZ (c .before .fits .v), raw-negative v (simp (toZ-ofZ (c .before .fits .v)) at (c .if1 .taken)) (c .before .pre)) (sfits-abs (pos (ofZ w16 v)) 65536 (omega arith) (omega arith))
 
--- src/lib.rt:96:16
 cast-result : tie.Need-cast-result
 cast-result c = let v = c .before .args .v in
     let s : ofZ w16 v < 65536 = raw-small v (c .before .pre) in
     rw (toZ-ofZ (c .before .fits .v), raw-negative v (simp (toZ-ofZ (c .before .fits .v)) at (c .if1 .taken)) (c .before .pre), toZ-pos w64 {n = ofZ w16 v} (omega arith)) (tt, record { fits = omega arith })
 
--- src/lib.rt:96:44
 cast-result-2 : tie.Need-cast-result-2
 cast-result-2 c = let v = c .before .args .v in
     let s : ofZ w16 v < 65536 = raw-small v (c .before .pre) in
     rw (toZ-ofZ (c .before .fits .v), raw-positive v (simp (toZ-ofZ (c .before .fits .v)) at (c .if1 .left))) (tt, record { fits = omega arith })
 
--- src/lib.rt:92:1
 returns : tie.Need-returns
 returns c = let v = c .before .args .v in
     let s : ofZ w16 v < 65536 = raw-small v (c .before .pre) in
     rw (toZ-ofZ (c .before .fits .v), raw-negative v (simp (toZ-ofZ (c .before .fits .v)) at (c .if1 .taken)) (c .before .pre), toZ-pos w64 {n = ofZ w16 v} (omega arith)) (refl, s)
 
--- src/lib.rt:92:1
 returns-2 : tie.Need-returns-2
 returns-2 c = let v = c .before .args .v in
     let s : ofZ w16 v < 65536 = raw-small v (c .before .pre) in

@@ -2,26 +2,19 @@ use native.Mathlib.Omega.{arith}
 use Rattle.fields.proofs.FieldLaws.{many-variables, many-rules, many-constraints, many-unknown}
 use Rattle.fields.proofs.checks.is_one_too_many.Statement.{statement}
 use Rattle.fields.proofs.checks.is_one_too_many.Tie as tie
-use Rattle.fields.proofs.checks.is_one_too_many.Reads as reads
-use Rattle.fields.proofs.checks.is_one_too_many.Lts as lts
 
--- src/checks.rt:23:1
 returns : tie.Need-returns
 returns c = λ P a b d. many-variables P _ _ a (omega arith)
 
--- src/checks.rt:23:1
 returns-2 : tie.Need-returns-2
 returns-2 c = λ P a b d. many-rules P _ _ b (omega arith)
 
--- src/checks.rt:23:1
 returns-3 : tie.Need-returns-3
 returns-3 c = λ P a b d. many-constraints P _ _ d (omega arith)
 
--- src/checks.rt:23:1
 returns-4 : tie.Need-returns-4
 returns-4 c = λ P a b d. many-unknown P _ (λ x y. omega arith)
 
--- src/checks.rt:23:1
 returns-5 : tie.Need-returns-5
 returns-5 c = λ P a b d. many-unknown P _ (λ x y. omega arith)
 

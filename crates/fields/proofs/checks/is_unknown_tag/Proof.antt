@@ -2,18 +2,13 @@ use native.Mathlib.Omega.{arith}
 use Rattle.fields.proofs.FieldLaws.{tag-known, tag-zero, tag-above}
 use Rattle.fields.proofs.checks.is_unknown_tag.Statement.{statement}
 use Rattle.fields.proofs.checks.is_unknown_tag.Tie as tie
-use Rattle.fields.proofs.checks.is_unknown_tag.Reads as reads
-use Rattle.fields.proofs.checks.is_unknown_tag.Lts as lts
 
--- src/checks.rt:14:1
 returns : tie.Need-returns
 returns c = tag-known _ (omega arith) (omega arith)
 
--- src/checks.rt:14:1
 returns-2 : tie.Need-returns-2
 returns-2 c = tag-zero _ (omega arith)
 
--- src/checks.rt:14:1
 returns-3 : tie.Need-returns-3
 returns-3 c = tag-above _ (omega arith)
 

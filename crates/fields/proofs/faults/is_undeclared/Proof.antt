@@ -4,15 +4,10 @@ use lib.Dec.{leb}
 use borrow.Author.Needs.{needs}
 use Rattle.fields.proofs.faults.is_undeclared.Statement.{statement}
 use Rattle.fields.proofs.faults.is_undeclared.Tie as tie
-use Rattle.fields.proofs.faults.is_undeclared.Reads as reads
-use Rattle.fields.proofs.faults.is_undeclared.Lts as lts
-use Rattle.format.proofs.wide.Reads as wide-reads
 
--- src/faults.rt:82:18
 wide-requires : tie.Need-wide-requires
 wide-requires c κs = search needs
 
--- src/faults.rt:79:1
 returns : tie.Need-returns
 returns c = ap (λ (n : ℕ). leb (c .before .args .variables) n) (c .wide .ensures .0)
 

@@ -5,40 +5,25 @@ use Rattle.fields.proofs.FaultLaws.{term-faults}
 use borrow.Author.Needs.{needs}
 use Rattle.fields.proofs.faults.term_faults.Statement.{statement}
 use Rattle.fields.proofs.faults.term_faults.Tie as tie
-use Rattle.fields.proofs.faults.term_faults.Reads as reads
-use Rattle.fields.proofs.faults.term_faults.Lts as lts
-use Rattle.evaluation.proofs.terms.term.Reads as term-reads
-use Rattle.fields.proofs.faults.is_undeclared.Reads as is-undeclared-reads
-use Rattle.fields.proofs.terms.is_negative.Reads as is-negative-reads
-use Rattle.fields.proofs.terms.is_outside_term.Reads as is-outside-term-reads
-use Rattle.fields.proofs.terms.is_repeated.Reads as is-repeated-reads
-use Rattle.fields.proofs.terms.is_wrong_term.Reads as is-wrong-term-reads
 
--- src/faults.rt:90:9
 term-requires : tie.Need-term-requires
 term-requires c κs = search needs
 
--- src/faults.rt:94:15
 is-wrong-term-requires : tie.Need-is-wrong-term-requires
 is-wrong-term-requires c κs = search needs
 
--- src/faults.rt:95:16
 is-outside-term-requires : tie.Need-is-outside-term-requires
 is-outside-term-requires c κs = search needs
 
--- src/faults.rt:96:19
 is-undeclared-requires : tie.Need-is-undeclared-requires
 is-undeclared-requires c κs = search needs
 
--- src/faults.rt:97:19
 is-repeated-requires : tie.Need-is-repeated-requires
 is-repeated-requires c κs = search needs
 
--- src/faults.rt:98:19
 is-negative-requires : tie.Need-is-negative-requires
 is-negative-requires c κs = search needs
 
--- src/faults.rt:86:1
 returns : tie.Need-returns
 returns c = let t = c .before .before .before .before .before .before .term in
     let r : toZ w64 (ofZ w64 (t .result .number)) ≡ t .result .number = search needs in

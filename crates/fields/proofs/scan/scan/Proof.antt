@@ -6,13 +6,6 @@ use borrow.Author.Needs.{needs}
 use Rattle.fields.proofs.ScanLaws.{Reached, Stands, scan-long, scan-start, scan-ended, scan-cut, scan-bad, scan-more, field-stands, not-whole}
 use Rattle.fields.proofs.scan.scan.Statement.{statement}
 use Rattle.fields.proofs.scan.scan.Tie as tie
-use Rattle.fields.proofs.scan.scan.Reads as reads
-use Rattle.fields.proofs.scan.scan.Lts as lts
-use Rattle.fields.proofs.checks.check_field.Reads as check-field-reads
-use Rattle.fields.proofs.cursor.Cursor.field.Reads as field-reads
-use Rattle.fields.proofs.cursor.Cursor.new.Reads as new-reads
-use Rattle.program.proofs.Counts.empty.Reads as empty-reads
-use Rattle.program.proofs.Counts.with.Reads as with-reads
 
 abbrev Inv-loop : tie.InvT-loop
 Inv-loop file cursor₀ counts₀ before₀ cursor counts before = Reached file (cursor .at) before counts
@@ -25,83 +18,63 @@ stands : (c : tie.After-known-told Inv-loop μ-loop) → let f = c .before .fiel
     Stands (c .before .before .before .before .before .before .before .before .before .before .args .file .now) (c .before .before .before .before .before .loop .cursor .at) (f .0) (f .1 .0) (f .1 .1 .0) (f .1 .1 .1 .0 .at)
 stands c = field-stands _ _ _ _ _ _ (sym (c .before .field2 .given .1) ∙ c .before .before .before .before .field .ensures)
 
--- src/scan.rt:16:9
 returns : tie.Need-returns Inv-loop μ-loop
 returns c = scan-long _ (omega arith)
 
--- src/scan.rt:18:9
 new-requires : tie.Need-new-requires Inv-loop μ-loop
 new-requires c κs = search needs
 
--- src/scan.rt:19:9
 empty-requires : tie.Need-empty-requires Inv-loop μ-loop
 empty-requires c κs = search needs
 
--- src/scan.rt:21:5
 loop-holds : tie.Need-loop-holds Inv-loop μ-loop
 loop-holds c = rw (c .before .new .ensures, c .empty .ensures) (scan-start _ (omega arith))
 
--- src/scan.rt:23:13
 field-requires : tie.Need-field-requires Inv-loop μ-loop
 field-requires c κs = search needs
 
--- src/scan.rt:25:13
 enum-told : tie.Need-enum-told Inv-loop μ-loop
 enum-told c = search needs
 
--- src/scan.rt:25:13
 returns-2 : tie.Need-returns-2 Inv-loop μ-loop
 returns-2 c = scan-ended _ _ _ _ (c .before .before .before .loop .inv) (sym (c .enum-told .given .1) ∙ c .before .before .field .ensures)
 
--- src/scan.rt:28:13
 enum-known-field : tie.Need-enum-known-field Inv-loop μ-loop
 enum-known-field c = search needs
 
--- src/scan.rt:34:13
 returns-3 : tie.Need-returns-3 Inv-loop μ-loop
 returns-3 c = scan-cut _ _ _ _ (c .before .before .before .loop .inv) (sym (not-whole _ (c .before .match .keys2) (c .match2 .keys2)) ∙ c .before .before .field .ensures)
 
--- src/scan.rt:36:62
 add-check-field : tie.Need-add-check-field Inv-loop μ-loop
 add-check-field c = let w = stands c in omega arith
 
--- src/scan.rt:36:49
 sub-check-field : tie.Need-sub-check-field Inv-loop μ-loop
 sub-check-field c = omega arith
 
--- src/scan.rt:36:49
 part-check-field-start : tie.Need-part-check-field-start Inv-loop μ-loop
 part-check-field-start c = omega arith
 
--- src/scan.rt:36:49
 part-check-field-end : tie.Need-part-check-field-end Inv-loop μ-loop
 part-check-field-end c = let w = stands c in omega arith
 
--- src/scan.rt:36:13
 check-field-requires : tie.Need-check-field-requires Inv-loop μ-loop
 check-field-requires c κs = search needs
 
--- src/scan.rt:37:26
 enum-known-checked : tie.Need-enum-known-checked Inv-loop μ-loop
 enum-known-checked c = search needs
 
--- src/scan.rt:38:13
 enum-told-2 : tie.Need-enum-told-2 Inv-loop μ-loop
 enum-told-2 c = search needs
 
--- src/scan.rt:38:13
 with-requires : tie.Need-with-requires Inv-loop μ-loop
 with-requires c κs = let i = c .before .before .before .before .before .before .before .before .before .loop .inv in omega arith
 
--- src/scan.rt:21:5
 loop-less : tie.Need-loop-less Inv-loop μ-loop
 loop-less c = let w = stands (c .before .before .before .before .before) in omega arith
 
--- src/scan.rt:21:5
 loop-again : tie.Need-loop-again Inv-loop μ-loop
 loop-again c = scan-more _ _ _ _ (c .before .before .before .before .before .before .before .before .before .before .loop .inv) _ _ _ _ (stands (c .before .before .before .before .before)) _ (c .before .before .before .check-field .ensures) _ (c .before .enum-told2 .given .1) (c .with .ensures)
 
--- src/scan.rt:43:9
 returns-4 : tie.Need-returns-4 Inv-loop μ-loop
 returns-4 c = scan-bad _ _ _ _ (c .before .before .before .before .before .before .before .before .before .before .loop .inv) _ _ _ _ (stands (c .before .before .before .before .before)) _ (c .before .before .before .check-field .ensures) _ (c .before .checked .given .1)
 

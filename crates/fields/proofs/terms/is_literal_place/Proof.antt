@@ -2,18 +2,13 @@ use native.Mathlib.Omega.{arith}
 use Rattle.fields.proofs.TermLaws.{place-if, place-carry, place-plain}
 use Rattle.fields.proofs.terms.is_literal_place.Statement.{statement}
 use Rattle.fields.proofs.terms.is_literal_place.Tie as tie
-use Rattle.fields.proofs.terms.is_literal_place.Reads as reads
-use Rattle.fields.proofs.terms.is_literal_place.Lts as lts
 
--- src/terms.rt:17:1
 returns : tie.Need-returns
 returns c = place-if _ _ (omega arith)
 
--- src/terms.rt:17:1
 returns-2 : tie.Need-returns-2
 returns-2 c = place-carry _ _ (omega arith)
 
--- src/terms.rt:17:1
 returns-3 : tie.Need-returns-3
 returns-3 c = place-plain _ _ (omega arith) (omega arith)
 

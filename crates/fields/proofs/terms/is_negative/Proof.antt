@@ -6,28 +6,19 @@ use Rattle.fields.proofs.TermLaws.{negative-other, negative-declared, n
 use borrow.Author.Needs.{needs}
 use Rattle.fields.proofs.terms.is_negative.Statement.{statement}
 use Rattle.fields.proofs.terms.is_negative.Tie as tie
-use Rattle.fields.proofs.terms.is_negative.Reads as reads
-use Rattle.fields.proofs.terms.is_negative.Lts as lts
-use Rattle.evaluation.proofs.variables.low.Reads as low-reads
-use Rattle.format.proofs.wide.Reads as wide-reads
 
--- src/terms.rt:100:9
 returns : tie.Need-returns
 returns c = λ op z. negative-other _ _ _ (omega arith)
 
--- src/terms.rt:102:8
 wide-requires : tie.Need-wide-requires
 wide-requires c κs = search needs
 
--- src/terms.rt:103:9
 low-requires : tie.Need-low-requires
 low-requires c κs = search needs
 
--- src/terms.rt:95:1
 returns-2 : tie.Need-returns-2
 returns-2 c = λ op z. let r : toZ w64 (ofZ w64 (c .low .result)) ≡ c .low .result = search needs in negative-declared _ _ _ _ op z (omega arith) _ (omega arith) (r ∙ c .low .ensures)
 
--- src/terms.rt:95:1
 returns-3 : tie.Need-returns-3
 returns-3 c = λ op z. negative-undeclared _ _ _ _ op z (omega arith) (omega arith)
 

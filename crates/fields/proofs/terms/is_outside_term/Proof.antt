@@ -5,42 +5,28 @@ use mir.Facts.{toZ-ofZ}
 use borrow.Author.Needs.{needs}
 use Rattle.fields.proofs.terms.is_outside_term.Statement.{statement}
 use Rattle.fields.proofs.terms.is_outside_term.Tie as tie
-use Rattle.fields.proofs.terms.is_outside_term.Reads as reads
-use Rattle.fields.proofs.terms.is_outside_term.Lts as lts
-use Rattle.fields.proofs.terms.is_literal_place.Reads as is-literal-place-reads
-use Rattle.fields.proofs.terms.is_zero.Reads as is-zero-reads
-use Rattle.format.proofs.is_coefficient_beyond.Reads as is-coefficient-beyond-reads
-use Rattle.format.proofs.is_number_beyond.Reads as is-number-beyond-reads
 
--- src/terms.rt:66:8
 is-literal-place-requires : tie.Need-is-literal-place-requires
 is-literal-place-requires c κs = search needs
 
--- src/terms.rt:67:9
 is-number-beyond-requires : tie.Need-is-number-beyond-requires
 is-number-beyond-requires c κs = search needs
 
--- src/terms.rt:67:9
 returns : tie.Need-returns
 returns c = λ x op. (simp (toZ-ofZ (c .before .before .before .fits .number)) at (c .is-number-beyond .ensures)) ∙ outside-literal _ _ _ (cc)
 
--- src/terms.rt:70:9
 returns-2 : tie.Need-returns-2
 returns-2 c = λ x op. outside-plain _ _ _ (cc) (omega arith)
 
--- src/terms.rt:72:8
 is-zero-requires : tie.Need-is-zero-requires
 is-zero-requires c κs = search needs
 
--- src/terms.rt:73:9
 returns-3 : tie.Need-returns-3
 returns-3 c = λ x op. outside-zero _ _ _ (cc) (omega arith) (sym (simp (toZ-ofZ (c .before .before .before .before .before .fits .number)) at (c .before .is-zero .ensures)) ∙ c .if3 .taken)
 
--- src/terms.rt:75:5
 is-coefficient-beyond-requires : tie.Need-is-coefficient-beyond-requires
 is-coefficient-beyond-requires c κs = search needs
 
--- src/terms.rt:63:1
 returns-4 : tie.Need-returns-4
 returns-4 c = λ x op. (simp (toZ-ofZ (c .before .before .before .before .before .before .fits .number)) at (c .is-coefficient-beyond .ensures)) ∙ outside-sum _ _ _ (cc) (omega arith) (sym (simp (toZ-ofZ (c .before .before .before .before .before .before .fits .number)) at (c .before .before .is-zero .ensures)) ∙ c .before .if3 .left)
 

@@ -8,8 +8,6 @@ use Rattle.program.specs.Tables.{anyBelow}
 use Rattle.fields.proofs.TermLaws.{any-none, repeated-more, repeated-done, same-as}
 use Rattle.fields.proofs.terms.is_repeated.Statement.{statement}
 use Rattle.fields.proofs.terms.is_repeated.Tie as tie
-use Rattle.fields.proofs.terms.is_repeated.Reads as reads
-use Rattle.fields.proofs.terms.is_repeated.Lts as lts
 
 abbrev Inv-loop : tie.InvT-loop
 Inv-loop body i x j₀ found₀ j found = (j ≤ i) × (found ≡ anyBelow j (same-as body i))
@@ -17,39 +15,30 @@ Inv-loop body i x j₀ found₀ j found = (j ≤ i) × (found ≡ anyBelow j (sa
 abbrev μ-loop : tie.MeasureT-loop
 μ-loop body i x j₀ found₀ j found = i - j
 
--- src/terms.rt:83:18
 mul-x : tie.Need-mul-x Inv-loop μ-loop
 mul-x c = search needs
 
--- src/terms.rt:83:13
 shared-slice-read-x : tie.Need-shared-slice-read-x Inv-loop μ-loop
 shared-slice-read-x c = search needs
 
--- src/terms.rt:86:5
 loop-holds : tie.Need-loop-holds Inv-loop μ-loop
 loop-holds c = (omega arith, any-none _)
 
--- src/terms.rt:87:25
 mul-same : tie.Need-mul-same Inv-loop μ-loop
 mul-same c = search needs
 
--- src/terms.rt:87:20
 shared-slice-read-same : tie.Need-shared-slice-read-same Inv-loop μ-loop
 shared-slice-read-same c = search needs
 
--- src/terms.rt:89:9
 add-j : tie.Need-add-j Inv-loop μ-loop
 add-j c = search needs
 
--- src/terms.rt:86:5
 loop-less : tie.Need-loop-less Inv-loop μ-loop
 loop-less c = search needs
 
--- src/terms.rt:86:5
 loop-again : tie.Need-loop-again Inv-loop μ-loop
 loop-again c = (omega arith, repeated-more _ _ (omega arith) _ _ (omega arith) (c .before .before .loop .inv .1))
 
--- src/terms.rt:79:1
 returns : tie.Need-returns Inv-loop μ-loop
 returns c = repeated-done _ _ (omega arith) _ _ (omega arith) (c .before .loop .inv .1)
 

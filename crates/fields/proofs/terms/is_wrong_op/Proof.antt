@@ -3,23 +3,16 @@ use Rattle.fields.proofs.TermLaws.{op-plain, op-literal, op-unknown}
 use borrow.Author.Needs.{needs}
 use Rattle.fields.proofs.terms.is_wrong_op.Statement.{statement}
 use Rattle.fields.proofs.terms.is_wrong_op.Tie as tie
-use Rattle.fields.proofs.terms.is_wrong_op.Reads as reads
-use Rattle.fields.proofs.terms.is_wrong_op.Lts as lts
-use Rattle.fields.proofs.terms.is_literal_place.Reads as is-literal-place-reads
 
--- src/terms.rt:31:9
 is-literal-place-requires : tie.Need-is-literal-place-requires
 is-literal-place-requires c κs = search needs
 
--- src/terms.rt:28:1
 returns : tie.Need-returns
 returns c = op-plain _ _ _ _ (c .before .is-literal-place .ensures) (omega arith)
 
--- src/terms.rt:28:1
 returns-2 : tie.Need-returns-2
 returns-2 c = op-literal _ _ _ _ (c .before .before .is-literal-place .ensures) (omega arith) (omega arith)
 
--- src/terms.rt:28:1
 returns-3 : tie.Need-returns-3
 returns-3 c = op-unknown _ _ _ _ (c .before .before .is-literal-place .ensures) (omega arith)
 

@@ -4,33 +4,22 @@ use mir.Facts.{toZ-ofZ}
 use borrow.Author.Needs.{needs}
 use Rattle.fields.proofs.terms.is_wrong_term.Statement.{statement}
 use Rattle.fields.proofs.terms.is_wrong_term.Tie as tie
-use Rattle.fields.proofs.terms.is_wrong_term.Reads as reads
-use Rattle.fields.proofs.terms.is_wrong_term.Lts as lts
-use Rattle.fields.proofs.terms.is_wrong_op.Reads as is-wrong-op-reads
-use Rattle.fields.proofs.terms.is_zero.Reads as is-zero-reads
-use Rattle.fields.proofs.terms.is_zero_place.Reads as is-zero-place-reads
 
--- src/terms.rt:53:8
 is-wrong-op-requires : tie.Need-is-wrong-op-requires
 is-wrong-op-requires c κs = search needs
 
--- src/terms.rt:54:9
 returns : tie.Need-returns
 returns c = λ x. wrong-op _ _ _ (cc)
 
--- src/terms.rt:56:8
 is-zero-place-requires : tie.Need-is-zero-place-requires
 is-zero-place-requires c κs = search needs
 
--- src/terms.rt:57:17
 is-zero-requires : tie.Need-is-zero-requires
 is-zero-requires c κs = search needs
 
--- src/terms.rt:57:9
 returns-2 : tie.Need-returns-2
 returns-2 c = λ x. wrong-zero _ _ _ (cc) (cc) _ (simp (toZ-ofZ (c .before .before .before .before .before .fits .number)) at (c .is-zero .ensures))
 
--- src/terms.rt:50:1
 returns-3 : tie.Need-returns-3
 returns-3 c = λ x. wrong-none _ _ _ (cc) (cc)
 

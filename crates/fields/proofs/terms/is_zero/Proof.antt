@@ -1,10 +1,7 @@
 use Rattle.fields.proofs.TermLaws.{zero-bits}
 use Rattle.fields.proofs.terms.is_zero.Statement.{statement}
 use Rattle.fields.proofs.terms.is_zero.Tie as tie
-use Rattle.fields.proofs.terms.is_zero.Reads as reads
-use Rattle.fields.proofs.terms.is_zero.Lts as lts
 
--- src/terms.rt:10:1
 returns : tie.Need-returns
 returns c = zero-bits _ (c .fits .v)
 

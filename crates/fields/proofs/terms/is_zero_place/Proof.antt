@@ -4,19 +4,13 @@ use Rattle.fields.proofs.TermLaws.{zero-literal, zero-plain}
 use borrow.Author.Needs.{needs}
 use Rattle.fields.proofs.terms.is_zero_place.Statement.{statement}
 use Rattle.fields.proofs.terms.is_zero_place.Tie as tie
-use Rattle.fields.proofs.terms.is_zero_place.Reads as reads
-use Rattle.fields.proofs.terms.is_zero_place.Lts as lts
-use Rattle.fields.proofs.terms.is_literal_place.Reads as is-literal-place-reads
 
--- src/terms.rt:43:8
 is-literal-place-requires : tie.Need-is-literal-place-requires
 is-literal-place-requires c κs = search needs
 
--- src/terms.rt:44:9
 returns : tie.Need-returns
 returns c = zero-literal _ _ (cc)
 
--- src/terms.rt:40:1
 returns-2 : tie.Need-returns-2
 returns-2 c = zero-plain _ _ (cc)
 

@@ -2,22 +2,16 @@ use native.Mathlib.Omega.{arith}
 use Rattle.fields.proofs.ValueLaws.{body-sum, body-literals, body-unknown}
 use Rattle.fields.proofs.values.body_form.Statement.{statement}
 use Rattle.fields.proofs.values.body_form.Tie as tie
-use Rattle.fields.proofs.values.body_form.Reads as reads
-use Rattle.fields.proofs.values.body_form.Lts as lts
 
--- src/values.rt:168:1
 returns : tie.Need-returns
 returns c = body-sum (c .before .args .form) (omega arith)
 
--- src/values.rt:168:1
 returns-2 : tie.Need-returns-2
 returns-2 c = body-literals (c .before .args .form) (omega arith)
 
--- src/values.rt:168:1
 returns-3 : tie.Need-returns-3
 returns-3 c = body-unknown (c .before .args .form) (omega arith) (omega arith)
 
--- src/values.rt:168:1
 returns-4 : tie.Need-returns-4
 returns-4 c = body-unknown (c .before .args .form) (omega arith) (omega arith)
 

@@ -4,31 +4,22 @@ use Rattle.fields.proofs.ValueLaws.{variable-length, variable-kind, var
 use borrow.Author.Needs.{needs}
 use Rattle.fields.proofs.values.check_variable.Statement.{statement}
 use Rattle.fields.proofs.values.check_variable.Tie as tie
-use Rattle.fields.proofs.values.check_variable.Reads as reads
-use Rattle.fields.proofs.values.check_variable.Lts as lts
-use Rattle.fields.proofs.values.is_range_outside.Reads as is-range-outside-reads
 
--- src/values.rt:41:9
 returns : tie.Need-returns
 returns c = λ vs. variable-length _ vs (omega arith)
 
--- src/values.rt:43:16
 shared-slice-read-kind : tie.Need-shared-slice-read-kind
 shared-slice-read-kind c = search needs
 
--- src/values.rt:47:13
 returns-2 : tie.Need-returns-2
 returns-2 c = λ vs. variable-kind _ vs (omega arith) (omega arith)
 
--- src/values.rt:50:8
 is-range-outside-requires : tie.Need-is-range-outside-requires
 is-range-outside-requires c κs = search needs
 
--- src/values.rt:51:9
 returns-3 : tie.Need-returns-3
 returns-3 c = λ vs. variable-range _ vs (omega arith) (omega arith) (cc)
 
--- src/values.rt:37:1
 returns-4 : tie.Need-returns-4
 returns-4 c = λ vs. variable-fine _ vs (omega arith) (omega arith) (cc)
 

@@ -2,14 +2,10 @@ use native.Mathlib.Omega.{arith}
 use Rattle.fields.proofs.ValueLaws.{count-in, count-out}
 use Rattle.fields.proofs.values.is_not_any.Statement.{statement}
 use Rattle.fields.proofs.values.is_not_any.Tie as tie
-use Rattle.fields.proofs.values.is_not_any.Reads as reads
-use Rattle.fields.proofs.values.is_not_any.Lts as lts
 
--- src/values.rt:92:1
 returns : tie.Need-returns
 returns c = count-in 0 _ (c .before .args .n) (omega arith) (omega arith)
 
--- src/values.rt:92:1
 returns-2 : tie.Need-returns-2
 returns-2 c = count-out 0 _ (c .before .args .n) (λ a b. omega arith)
 

@@ -2,18 +2,13 @@ use native.Mathlib.Omega.{arith}
 use Rattle.fields.proofs.ValueLaws.{count-in, count-out}
 use Rattle.fields.proofs.values.is_not_several.Statement.{statement}
 use Rattle.fields.proofs.values.is_not_several.Tie as tie
-use Rattle.fields.proofs.values.is_not_several.Reads as reads
-use Rattle.fields.proofs.values.is_not_several.Lts as lts
 
--- src/values.rt:112:1
 returns : tie.Need-returns
 returns c = count-in 2 _ (c .before .before .args .n) (omega arith) (omega arith)
 
--- src/values.rt:112:1
 returns-2 : tie.Need-returns-2
 returns-2 c = count-out 2 _ (c .before .args .n) (λ a b. omega arith)
 
--- src/values.rt:112:1
 returns-3 : tie.Need-returns-3
 returns-3 c = count-out 2 _ (c .before .before .args .n) (λ a b. omega arith)
 

@@ -2,18 +2,13 @@ use native.Mathlib.Omega.{arith}
 use Rattle.fields.proofs.ValueLaws.{count-in, count-out}
 use Rattle.fields.proofs.values.is_not_some.Statement.{statement}
 use Rattle.fields.proofs.values.is_not_some.Tie as tie
-use Rattle.fields.proofs.values.is_not_some.Reads as reads
-use Rattle.fields.proofs.values.is_not_some.Lts as lts
 
--- src/values.rt:102:1
 returns : tie.Need-returns
 returns c = count-in 1 _ (c .before .before .args .n) (omega arith) (omega arith)
 
--- src/values.rt:102:1
 returns-2 : tie.Need-returns-2
 returns-2 c = count-out 1 _ (c .before .args .n) (λ a b. omega arith)
 
--- src/values.rt:102:1
 returns-3 : tie.Need-returns-3
 returns-3 c = count-out 1 _ (c .before .before .args .n) (λ a b. omega arith)
 

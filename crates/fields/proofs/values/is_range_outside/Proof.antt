@@ -10,33 +10,22 @@ use Rattle.fields.proofs.ValueLaws.{range-outside}
 use borrow.Author.Needs.{needs}
 use Rattle.fields.proofs.values.is_range_outside.Statement.{statement}
 use Rattle.fields.proofs.values.is_range_outside.Tie as tie
-use Rattle.fields.proofs.values.is_range_outside.Reads as reads
-use Rattle.fields.proofs.values.is_range_outside.Lts as lts
-use Rattle.fields.proofs.values.is_below.Reads as is-below-reads
-use Rattle.format.proofs.is_number_beyond.Reads as is-number-beyond-reads
-use Rattle.format.proofs.signed_at.Reads as signed-at-reads
 
--- src/values.rt:29:9
 signed-at-requires : tie.Need-signed-at-requires
 signed-at-requires c κs = search needs
 
--- src/values.rt:30:9
 signed-at-requires-2 : tie.Need-signed-at-requires-2
 signed-at-requires-2 c κs = search needs
 
--- src/values.rt:31:9
 is-number-beyond-requires : tie.Need-is-number-beyond-requires
 is-number-beyond-requires c κs = search needs
 
--- src/values.rt:32:9
 is-number-beyond-requires-2 : tie.Need-is-number-beyond-requires-2
 is-number-beyond-requires-2 c κs = search needs
 
--- src/values.rt:33:13
 is-below-requires : tie.Need-is-below-requires
 is-below-requires c κs = search needs
 
--- src/values.rt:25:1
 returns : tie.Need-returns
 returns c = let b = c .before .before .before .before in
     let v = b .before .before .args .value .now in

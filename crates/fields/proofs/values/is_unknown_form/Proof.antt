@@ -2,18 +2,13 @@ use native.Mathlib.Omega.{arith}
 use Rattle.fields.proofs.ValueLaws.{form-known, form-zero, form-above}
 use Rattle.fields.proofs.values.is_unknown_form.Statement.{statement}
 use Rattle.fields.proofs.values.is_unknown_form.Tie as tie
-use Rattle.fields.proofs.values.is_unknown_form.Reads as reads
-use Rattle.fields.proofs.values.is_unknown_form.Lts as lts
 
--- src/values.rt:70:1
 returns : tie.Need-returns
 returns c = form-known _ (omega arith) (omega arith)
 
--- src/values.rt:70:1
 returns-2 : tie.Need-returns-2
 returns-2 c = form-zero _ (omega arith)
 
--- src/values.rt:70:1
 returns-3 : tie.Need-returns-3
 returns-3 c = form-above _ (omega arith)
 

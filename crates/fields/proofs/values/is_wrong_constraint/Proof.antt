@@ -5,27 +5,19 @@ use mir.Facts.{toZ-ofZ}
 use borrow.Author.Needs.{needs}
 use Rattle.fields.proofs.values.is_wrong_constraint.Statement.{statement}
 use Rattle.fields.proofs.values.is_wrong_constraint.Tie as tie
-use Rattle.fields.proofs.values.is_wrong_constraint.Reads as reads
-use Rattle.fields.proofs.values.is_wrong_constraint.Lts as lts
-use Rattle.fields.proofs.terms.is_zero.Reads as is-zero-reads
 
--- src/values.rt:184:15
 is-zero-requires : tie.Need-is-zero-requires
 is-zero-requires c κs = search needs
 
--- src/values.rt:179:1
 returns : tie.Need-returns
 returns c = constraint-sum _ _ (omega arith)
 
--- src/values.rt:179:1
 returns-2 : tie.Need-returns-2
 returns-2 c = constraint-literals _ _ _ (simp (toZ-ofZ (c .before .before .fits .c)) at (c .is-zero .ensures)) (omega arith)
 
--- src/values.rt:179:1
 returns-3 : tie.Need-returns-3
 returns-3 c = constraint-unknown _ _ (omega arith) (omega arith)
 
--- src/values.rt:179:1
 returns-4 : tie.Need-returns-4
 returns-4 c = constraint-unknown _ _ (omega arith) (omega arith)
 

@@ -4,65 +4,46 @@ use Rattle.fields.proofs.ValueLaws.{count-form, count-sum, count-max, c
 use borrow.Author.Needs.{needs}
 use Rattle.fields.proofs.values.is_wrong_count.Statement.{statement}
 use Rattle.fields.proofs.values.is_wrong_count.Tie as tie
-use Rattle.fields.proofs.values.is_wrong_count.Reads as reads
-use Rattle.fields.proofs.values.is_wrong_count.Lts as lts
-use Rattle.fields.proofs.values.is_not_any.Reads as is-not-any-reads
-use Rattle.fields.proofs.values.is_not_several.Reads as is-not-several-reads
-use Rattle.fields.proofs.values.is_not_some.Reads as is-not-some-reads
 
--- src/values.rt:126:14
 is-not-any-requires : tie.Need-is-not-any-requires
 is-not-any-requires c κs = search needs
 
--- src/values.rt:127:14
 is-not-some-requires : tie.Need-is-not-some-requires
 is-not-some-requires c κs = search needs
 
--- src/values.rt:128:14
 is-not-some-requires-2 : tie.Need-is-not-some-requires-2
 is-not-some-requires-2 c κs = search needs
 
--- src/values.rt:131:14
 is-not-some-requires-3 : tie.Need-is-not-some-requires-3
 is-not-some-requires-3 c κs = search needs
 
--- src/values.rt:132:14
 is-not-several-requires : tie.Need-is-not-several-requires
 is-not-several-requires c κs = search needs
 
--- src/values.rt:122:1
 returns : tie.Need-returns
 returns c = count-form _ 1 _ _ (omega arith) (c .is-not-any .ensures ∙ count-sum _)
 
--- src/values.rt:122:1
 returns-2 : tie.Need-returns-2
 returns-2 c = count-form _ 2 _ _ (omega arith) (c .is-not-some .ensures ∙ count-max _)
 
--- src/values.rt:122:1
 returns-3 : tie.Need-returns-3
 returns-3 c = count-form _ 3 _ _ (omega arith) (c .is-not-some2 .ensures ∙ count-min _)
 
--- src/values.rt:122:1
 returns-4 : tie.Need-returns-4
 returns-4 c = count-form _ 4 _ _ (omega arith) (count-product _)
 
--- src/values.rt:122:1
 returns-5 : tie.Need-returns-5
 returns-5 c = count-form _ 5 _ _ (omega arith) (count-size _)
 
--- src/values.rt:122:1
 returns-6 : tie.Need-returns-6
 returns-6 c = count-form _ 6 _ _ (omega arith) (c .is-not-some3 .ensures ∙ count-if _)
 
--- src/values.rt:122:1
 returns-7 : tie.Need-returns-7
 returns-7 c = count-form _ 7 _ _ (omega arith) (c .is-not-several .ensures ∙ count-carry _)
 
--- src/values.rt:122:1
 returns-8 : tie.Need-returns-8
 returns-8 c = count-unknown _ _ (omega arith) (omega arith) (omega arith) (omega arith) (omega arith) (omega arith) (omega arith)
 
--- src/values.rt:122:1
 returns-9 : tie.Need-returns-9
 returns-9 c = count-unknown _ _ (c .match .rest .0 .0 .0 .0 .0 .0 .0 .1) (c .match .rest .0 .0 .0 .0 .0 .0 .1) (c .match .rest .0 .0 .0 .0 .0 .1) (c .match .rest .0 .0 .0 .0 .1) (c .match .rest .0 .0 .0 .1) (c .match .rest .0 .0 .1) (c .match .rest .0 .1)
 

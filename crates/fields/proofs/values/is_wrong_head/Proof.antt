@@ -5,24 +5,16 @@ use borrow.Author.Tests.{leb-false}
 use borrow.Author.Needs.{needs}
 use Rattle.fields.proofs.values.is_wrong_head.Statement.{statement}
 use Rattle.fields.proofs.values.is_wrong_head.Tie as tie
-use Rattle.fields.proofs.values.is_wrong_head.Reads as reads
-use Rattle.fields.proofs.values.is_wrong_head.Lts as lts
-use Rattle.evaluation.proofs.variables.kind.Reads as kind-reads
-use Rattle.fields.proofs.faults.is_undeclared.Reads as is-undeclared-reads
 
--- src/values.rt:84:8
 is-undeclared-requires : tie.Need-is-undeclared-requires
 is-undeclared-requires c κs = search needs
 
--- src/values.rt:85:9
 returns : tie.Need-returns
 returns c = head-undeclared _ _ _ (cc)
 
--- src/values.rt:87:9
 kind-requires : tie.Need-kind-requires
 kind-requires c κs = let h = leb-false (c .before .before .before .args .variables) (c .before .before .before .args .head) (sym (c .before .is-undeclared .ensures) ∙ c .if1 .left) in omega (arith, c .before .before .before .pre)
 
--- src/values.rt:80:1
 returns-2 : tie.Need-returns-2
 returns-2 c = head-kind _ _ _ _ (sym (c .before .before .is-undeclared .ensures) ∙ c .before .if1 .left) (c .kind .ensures)
 

@@ -3,38 +3,28 @@ use Rattle.program.proofs.Counting.{one-variable, one-rule, one-constra
 use borrow.Author.Needs.{needs}
 use Rattle.program.proofs.Counts.with.Statement.{statement}
 use Rattle.program.proofs.Counts.with.Tie as tie
-use Rattle.program.proofs.Counts.with.Reads as reads
-use Rattle.program.proofs.Counts.with.Lts as lts
 
--- src/lib.rt:50:28
 add-t4 : tie.Need-add-t4
 add-t4 c = search needs
 
--- src/lib.rt:56:24
 add-t5 : tie.Need-add-t5
 add-t5 c = search needs
 
--- src/lib.rt:62:30
 add-t6 : tie.Need-add-t6
 add-t6 c = search needs
 
--- src/lib.rt:44:5
 returns : tie.Need-returns
 returns c = one-variable _ _ (omega arith)
 
--- src/lib.rt:44:5
 returns-2 : tie.Need-returns-2
 returns-2 c = one-rule _ _ (omega arith)
 
--- src/lib.rt:44:5
 returns-3 : tie.Need-returns-3
 returns-3 c = one-constraint _ _ (omega arith)
 
--- src/lib.rt:44:5
 returns-4 : tie.Need-returns-4
 returns-4 c = one-unknown _ _ (omega arith) (omega arith) (omega arith)
 
--- src/lib.rt:44:5
 returns-5 : tie.Need-returns-5
 returns-5 c = one-unknown _ _ (omega arith) (omega arith) (omega arith)
 

@@ -1,0 +1,121 @@
+-- Document 01's small examples, shown of the specification; and two wrong readers that it rules out.
+use Prim.Native.Nat.{ℕ, zero, suc, _+_, _<_}
+use mathlib.Core.Path.{_≡_, refl, sym, _∙_}
+use mathlib.Core.Logic.{_⊎_, inl, inr}
+use mathlib.Core.List.{List, [], _∷_}
+use mathlib.Core.Bool.{Bool, true, false}
+use lib.Dec.{lit<, lit≤}
+use lib.ListN.{length}
+use native.Mathlib.Omega.{arith}
+use Rattle.format.specs.Numbers.{beyond}
+use Rattle.sets.specs.Walk.{Walk}
+use Rattle.sets.specs.Walk as walk
+use Rattle.program.specs.Tables.{anyBelow}
+use Rattle.program.specs.Fields.{place, tagBefore}
+use Rattle.program.specs.Program.{Program, program, termsOf, ruleIn, termIn}
+use Rattle.program.specs.Refusals.{cutShort, unknownTag, tagBelow, oneTooMany, notTerms, wrongLength, literalPlace, wrongOp, mustBeZero, wrongTerm, unknownForm, wrongConstraint, wrongForm, outsideTerm, outsideRange, undeclaredTerm, wrongHead, undeclared, wrongCountOf, wrongCount, repeatedTerm, variableTwice, negativeTerm, negativeProduct, itemRefusal, valueRefusal, fieldRefusal}
+use Rattle.program.specs.Directions.{direction, isMixed}
+use Rattle.program.specs.Components.{draws, edge, Offends, Valid, FirstOffending}
+use Rattle.program.specs.Reading.{Answer, accepted, refused, Reads, bad-field, not-valid, whole, Passed}
+use Rattle.program.proofs.Conditions.{never, none-below}
+use Rattle.program.proofs.Places.{passed-none, passed-more}
+use Rattle.program.proofs.Unique.{reads-unique}
+
+-- unfolding this unfolds the specification
+computes : Unit {0}
+unfolding beyond anyBelow place tagBefore program termsOf cutShort unknownTag tagBelow oneTooMany notTerms wrongLength literalPlace wrongOp mustBeZero wrongTerm unknownForm wrongConstraint wrongForm outsideTerm outsideRange undeclaredTerm wrongHead undeclared wrongCountOf wrongCount repeatedTerm variableTwice negativeTerm negativeProduct itemRefusal valueRefusal fieldRefusal direction draws edge
+computes = tt
+
+-- no rule has a mixed place
+unfoldable mixed-in : Program → Bool
+mixed-in P = anyBelow (length (P .rules)) (λ i. anyBelow (length (ruleIn (P .rules) i .terms)) (λ j. isMixed (direction (P .variables) (ruleIn (P .rules) i) j)))
+
+none-mixed : (P : Program) → mixed-in P ≡ false → Valid P
+unfolding mixed-in
+none-mixed P e i o = never (o .pushes) (none-below _ _ (none-below _ _ e i (o .among)) (o .at) (o .inside))
+
+abbrev variable : ℕ → List ℕ → List ℕ
+variable kind rest = 0x01 ∷ 0x00 ∷ 0x05 ∷ kind ∷ 0x00 ∷ 0x00 ∷ 0x00 ∷ 0x01 ∷ rest
+
+pub empty : Reads [] (accepted 0 0 0)
+unfolding computes mixed-in
+empty = whole {k = 0} (record { passed = passed-none [] (lit≤ tt); ended = lit≤ tt }) (none-mixed _ refl)
+
+pub row-2 : Reads (0x01 ∷ 0x00 ∷ 0x05 ∷ 0x01 ∷ []) (refused 2 0)
+unfolding computes
+row-2 = bad-field {k = 0} (passed-none _ (lit≤ tt)) (lit< tt) (lit< tt)
+
+pub row-3 : Reads (0x09 ∷ 0x00 ∷ 0x00 ∷ []) (refused 3 0)
+unfolding computes
+row-3 = bad-field {k = 0} (passed-none _ (lit≤ tt)) (lit< tt) (lit< tt)
+
+-- one byte is a field cut short, whatever its tag
+pub cut-header : Reads (0x09 ∷ []) (refused 2 0)
+unfolding computes
+cut-header = bad-field {k = 0} (passed-none _ (lit≤ tt)) (lit< tt) (lit< tt)
+
+pub row-4 : Reads (0x03 ∷ 0x00 ∷ 0x03 ∷ 0x01 ∷ 0x00 ∷ 0x00 ∷ 0x01 ∷ 0x00 ∷ 0x05 ∷ 0x00 ∷ 0x00 ∷ 0x00 ∷ 0x00 ∷ 0x01 ∷ []) (refused 4 6)
+unfolding computes
+row-4 = bad-field {k = 1} (passed-more (passed-none _ (lit≤ tt)) (lit< tt) refl) (lit< tt) (lit< tt)
+
+pub row-6 : Reads (0x01 ∷ 0x00 ∷ 0x04 ∷ 0x00 ∷ 0x00 ∷ 0x00 ∷ 0x00 ∷ []) (refused 6 0)
+unfolding computes
+row-6 = bad-field {k = 0} (passed-none _ (lit≤ tt)) (lit< tt) (lit< tt)
+
+pub row-7 : Reads (0x01 ∷ 0x00 ∷ 0x05 ∷ 0x02 ∷ 0x00 ∷ 0x00 ∷ 0x00 ∷ 0x01 ∷ []) (refused 7 0)
+unfolding computes
+row-7 = bad-field {k = 0} (passed-none _ (lit≤ tt)) (lit< tt) (lit< tt)
+
+pub row-8 : Reads (0x01 ∷ 0x00 ∷ 0x05 ∷ 0x00 ∷ 0x00 ∷ 0x01 ∷ 0x00 ∷ 0x00 ∷ []) (refused 8 0)
+unfolding computes
+row-8 = bad-field {k = 0} (passed-none _ (lit≤ tt)) (lit< tt) (lit< tt)
+
+pub row-9 : Reads (0x02 ∷ 0x00 ∷ 0x04 ∷ 0x01 ∷ 0x00 ∷ 0x00 ∷ 0x00 ∷ []) (refused 9 0)
+unfolding computes
+row-9 = bad-field {k = 0} (passed-none _ (lit≤ tt)) (lit< tt) (lit< tt)
+
+pub row-10 : Reads (0x03 ∷ 0x00 ∷ 0x03 ∷ 0x02 ∷ 0x00 ∷ 0x00 ∷ []) (refused 10 0)
+unfolding computes
+row-10 = bad-field {k = 0} (passed-none _ (lit≤ tt)) (lit< tt) (lit< tt)
+
+-- a ≥ 2·b - b
+pub row-11 : Reads (variable 1 (variable 1 (2 ∷ 0 ∷ 12 ∷ 1 ∷ 0 ∷ 0 ∷ 0 ∷ 1 ∷ 0 ∷ 0 ∷ 2 ∷ 1 ∷ 0 ∷ 255 ∷ 255 ∷ []))) (refused 11 16)
+unfolding computes
+row-11 = bad-field {k = 2} (passed-more (passed-more (passed-none _ (lit≤ tt)) (lit< tt) refl) (lit< tt) refl) (lit< tt) (lit< tt)
+
+-- a ≥ b × d, b from -1
+pub row-12 : Reads (variable 1 (1 ∷ 0 ∷ 5 ∷ 1 ∷ 255 ∷ 255 ∷ 0 ∷ 1 ∷ variable 1 (2 ∷ 0 ∷ 12 ∷ 4 ∷ 0 ∷ 0 ∷ 0 ∷ 1 ∷ 0 ∷ 0 ∷ 0 ∷ 2 ∷ 0 ∷ 0 ∷ 0 ∷ []))) (refused 12 24)
+unfolding computes
+row-12 = bad-field {k = 3} (passed-more (passed-more (passed-more (passed-none _ (lit≤ tt)) (lit< tt) refl) (lit< tt) refl) (lit< tt) refl) (lit< tt) (lit< tt)
+
+-- a ≥ |b|, b ≥ 2a - 6, a in 0..1, b in low..10
+abbrev sized : ℕ → ℕ → List ℕ
+sized high low = variable 1 (1 ∷ 0 ∷ 5 ∷ 1 ∷ high ∷ low ∷ 0 ∷ 10 ∷ 2 ∷ 0 ∷ 8 ∷ 5 ∷ 0 ∷ 0 ∷ 0 ∷ 1 ∷ 0 ∷ 0 ∷ 0 ∷ 2 ∷ 0 ∷ 8 ∷ 1 ∷ 1 ∷ 255 ∷ 250 ∷ 0 ∷ 0 ∷ 0 ∷ 2 ∷ [])
+
+pub row-13 : Reads (sized 255 246) (refused 13 16)
+unfolding computes
+row-13 =
+    not-valid {k = 4} {j = 2} {i = 0}
+    (record { passed = passed-more (passed-more (passed-more (passed-more (passed-none _ (lit≤ tt)) (lit< tt) refl) (lit< tt) refl) (lit< tt) refl) (lit< tt) refl; ended = lit≤ tt })
+    (lit< tt)
+    (record { tagged = refl; number = refl })
+    (record {
+      offends = record { among = lit< tt; at = 0; inside = lit< tt; pushes = refl; shares = inr ((0, walk.edge refl), (0, walk.edge refl)) };
+      first = λ j h. absurd (omega arith);
+    })
+
+-- the same rules with b from 0: nothing is mixed
+pub row-13-from-zero : Reads (sized 0 0) (accepted 2 2 0)
+unfolding computes mixed-in
+row-13-from-zero =
+    whole {k = 4}
+    (record { passed = passed-more (passed-more (passed-more (passed-more (passed-none _ (lit≤ tt)) (lit< tt) refl) (lit< tt) refl) (lit< tt) refl) (lit< tt) refl; ended = lit≤ tt })
+    (none-mixed _ refl)
+
+-- a reader whose every answer is the specification's turns some file down and accepts some file
+module _ (read : List ℕ → Answer) (right : (s : List ℕ) → Reads s (read s)) where
+  pub not-refusing : (n at : ℕ) → read [] ≡ refused n at → ⊥
+  not-refusing n at e = let q : refused n at ≡ accepted 0 0 0 = sym e ∙ reads-unique (right []) empty in let z : _≡_ {A = ℕ} 0 1 = cc in omega arith
+
+  pub not-accepting : (a b c : ℕ) → read (0x09 ∷ []) ≡ accepted a b c → ⊥
+  not-accepting a b c e = let q : accepted a b c ≡ refused 2 0 = sym e ∙ reads-unique (right _) cut-header in let z : _≡_ {A = ℕ} 0 1 = cc in omega arith
