@@ -1,12 +1,12 @@
--- Document 01, "Rule forms": what a rule gives when the variable at place i of its body is read as `at i`.
+-- Document 01, "Rule forms": what a rule gives, and what a constraint asks, when the variable at place i of its body is read as `at i`.
 use Prim.Native.Nat.{ℕ, zero, suc, _-_}
 use mathlib.Core.List.{List, [], _∷_}
 use mathlib.Core.Bool.{Bool, true, false, cond, _&&_}
 use lib.IntN.{ℤ, pos, natAbs, _+ℤ_, _*ℤ_}
 use lib.Signed.{leZ, ltZ}
 use lib.ListN.{length}
-use Rattle.program.specs.Tables.{Entry, _⇒_, select}
-use Rattle.program.specs.Program.{Term, Rule, termIn}
+use Rattle.program.specs.Tables.{Entry, _⇒_, select, anyBelow}
+use Rattle.program.specs.Program.{Term, Rule, Constraint, termIn}
 use Rattle.program.specs.declared.Given.{Given}
 use Rattle.program.specs.declared.Given.the-variants.{Nothing, Value}
 
@@ -57,3 +57,14 @@ evaluate r at =
     ∷ (7 ⇒ onlyIf (allHold ts at n) (c +ℤ at 0))
     ∷ [])
     Nothing
+
+-- "Constraint form 1: c + Σ number · variable ≤ 0 .. Form 2: at least one literal holds"
+unfoldable pub satisfied : Constraint → (ℕ → ℤ) → Bool
+satisfied k at =
+    let ts = k .terms in
+    let n = length (k .terms) in
+    select (k .form)
+    ((1 ⇒ leZ (k .c +ℤ sumBelow (λ i. termIn ts i .number *ℤ at i) n) (pos 0))
+    ∷ (2 ⇒ anyBelow n (λ i. holds (termIn ts i) (at i)))
+    ∷ [])
+    false
