@@ -14,7 +14,7 @@ use Rattle.format.specs.Limits.{maxFile, maxVariables, maxRules, maxConstraints
 use Rattle.program.specs.Tables.{Condition, _when_, firstOf}
 use Rattle.program.specs.Fields.{tagAt, lengthAt, valueAt, nextAt, place, tagBefore}
 use Rattle.program.specs.Program.{Variable, Constraint, Program, Item, variable, rule, constraint, none}
-use Rattle.program.specs.Program.{variableOf, ruleOf, constraintOf, termsOf, with, itemOf, item, program, variableIn, ruleIn, noVariable, noRule, variablesAt}
+use Rattle.program.specs.Program.{variableOf, ruleOf, constraintOf, termsOf, with, itemOf, item, program, variableIn, ruleIn, constraintIn, noVariable, noRule, noConstraint, variablesAt}
 use Rattle.program.specs.Refusals.{cutShort, unknownTag, tagBelow, oneTooMany, notTerms, wrongLength, undeclared, negativeProduct, itemRefusal, valueRefusal, fieldRefusal}
 use Rattle.program.specs.Reading.{Passed, Whole, RuleField}
 use Rattle.program.proofs.Bodies.{terms-length}
@@ -533,12 +533,6 @@ pub record RuleStands (s : List ℕ) (k j i : ℕ) : Type 0 where
 pub record ConstraintField (s : List ℕ) (k i : ℕ) : Type 0 where
   pub tagged : tagAt s (place s k) ≡ 3
   pub number : constraintsTo s k ≡ i
-
-abbrev pub noConstraint : Constraint
-noConstraint = record { form = 0; c = pos 0; terms = [] }
-
-abbrev pub constraintIn : List Constraint → ℕ → Constraint
-constraintIn cs i = getD cs i noConstraint
 
 pub record ConstraintStands (s : List ℕ) (k j i : ℕ) : Type 0 where
   pub before : j < k

@@ -81,7 +81,7 @@ unfoldable pub program : List ℕ → ℕ → Program
 program s zero = record { variables = []; rules = []; constraints = [] }
 program s (suc k) = with (program s k) (item s k)
 
--- past the last one: a standard variable of range 0..0, a plain term, a rule with no form
+-- past the last one: a standard variable of range 0..0, a plain term, a rule and a constraint of no form
 abbrev pub noVariable : Variable
 noVariable = record { kind = 0; low = pos 0; high = pos 0 }
 
@@ -91,6 +91,9 @@ noTerm = record { variable = 0; op = 0; number = pos 0 }
 abbrev pub noRule : Rule
 noRule = record { form = 0; head = 0; c = pos 0; terms = [] }
 
+abbrev pub noConstraint : Constraint
+noConstraint = record { form = 0; c = pos 0; terms = [] }
+
 abbrev pub variableIn : List Variable → ℕ → Variable
 variableIn vs x = getD vs x noVariable
 
@@ -99,6 +102,9 @@ termIn ts i = getD ts i noTerm
 
 abbrev pub ruleIn : List Rule → ℕ → Rule
 ruleIn rs i = getD rs i noRule
+
+abbrev pub constraintIn : List Constraint → ℕ → Constraint
+constraintIn ks i = getD ks i noConstraint
 
 abbrev pub founded : Variable → Bool
 founded x = eqb (x .kind) 1
