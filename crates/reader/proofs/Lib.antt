@@ -1,1 +1,2 @@
 pub mod Published
+pub mod ReadLaws

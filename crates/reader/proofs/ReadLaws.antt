@@ -1,0 +1,36 @@
+-- From what the layers below answer to what reading answers.
+use Prim.Native.Nat.{ℕ}
+use mathlib.Core.Path.{_≡_, sym, subst}
+use mathlib.Core.List.{List}
+use lib.ListN.{length}
+use Rattle.program.specs.Fields.{place}
+use Rattle.program.specs.Program.{program}
+use Rattle.program.specs.Components as components
+use Rattle.program.specs.Reading.{Whole, Reads, accepted, refused, whole, not-valid, numberOf}
+use Rattle.program.specs.declared.Counts.{Counts}
+use Rattle.program.specs.declared.Refusal.{Refusal}
+use Rattle.fields.specs.Scanning.{Counted, Scans}
+use Rattle.fields.specs.declared.answers.Scanned.{Scanned}
+use Rattle.fields.specs.declared.answers.Scanned.the-variants as scanned
+use Rattle.fields.proofs.ScanLaws.{counts-are}
+use Rattle.validity.specs.Judging.{Judges, OffendingAt}
+use Rattle.validity.specs.declared.Judged.{Judged}
+use Rattle.validity.specs.declared.Judged.the-variants.{Valid, Offending}
+
+module _ (s : List ℕ) (k : Counts) (j : Judged) (c : Counted s k) (judges : (n : ℕ) → Whole s n → Judges s n j) where
+  pub judged-valid : j ≡ Valid → Reads s (accepted (k .variables) (k .rules) (k .constraints))
+  judged-valid e =
+      let v : components.Valid (program s (c .fields)) = subst (Judges s (c .fields)) e (judges (c .fields) (c .whole)) in
+      subst (λ (n : Counts). Reads s (accepted (n .variables) (n .rules) (n .constraints))) (sym (counts-are (c .describes))) (whole (c .whole) v)
+
+  pub judged-offending : (at : ℕ) → j ≡ Offending at → Reads s (refused 13 at)
+  judged-offending at e =
+      let o : OffendingAt s (c .fields) at = subst (Judges s (c .fields)) e (judges (c .fields) (c .whole)) in
+      subst (λ (n : ℕ). Reads s (refused 13 n)) (sym (o .placed)) (not-valid (c .whole) (o .before) (o .is) (o .first))
+
+module _ (s : List ℕ) (r : Scanned) (scans : Scans s r) where
+  pub scanned-whole : (k : Counts) → r ≡ scanned.Whole k → Counted s k
+  scanned-whole k e = subst (Scans s) e scans
+
+  pub scanned-refused : (why : Refusal) (at : ℕ) → r ≡ scanned.Refused why at → Reads s (refused (numberOf why) at)
+  scanned-refused why at e = subst (Scans s) e scans

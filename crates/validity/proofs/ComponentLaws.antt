@@ -1,0 +1,198 @@
+-- Components, and what rows that are closed say of them.
+use Prim.Native.Nat.{ℕ, zero, suc, _+_, _*_, _/_, _%_, _<_}
+use mathlib.Core.Path.{_≡_, refl, sym, ap, ap₂, _∙_, subst}
+use mathlib.Core.Logic.{inl, inr}
+use mathlib.Core.List.{List}
+use mathlib.Core.Bool.{Bool, true, false, _||_, _&&_}
+use native.Mathlib.Omega.{arith}
+use lib.ListN.{length, getD, replicate}
+use lib.Dec.{eqb}
+use borrow.Author.Tests.{eq-eqb, eqb-true}
+use Rattle.format.specs.Limits.{maxVariables}
+use Rattle.sets.specs.Bit.{wordBits, wordCount, bit}
+use Rattle.sets.specs.Walk.{rowHas, Walk, Reached}
+use Rattle.sets.specs.Walk as walk
+use Rattle.sets.proofs.Bits.{bit-zero}
+use Rattle.sets.proofs.Walks.{stops-below}
+use Rattle.program.specs.Tables.{anyBelow}
+use Rattle.program.specs.Fields.{place}
+use Rattle.program.specs.Program.{Variable, Rule, Program, program, ruleIn, termIn}
+use Rattle.program.specs.Components as components
+use Rattle.program.specs.Components.{draws, edge, Reaches, Share, Offends}
+use Rattle.program.specs.Reading.{Whole}
+use Rattle.program.specs.declared.Counts.{Counts}
+use Rattle.program.proofs.Conditions.{never, both, some-below, none-below}
+use Rattle.program.proofs.Places.{variables-length}
+use Rattle.program.proofs.Promises.{Promises, passed-promises}
+use Rattle.fields.specs.Scanning.{Counted}
+use Rattle.validity.specs.Judging.{Judges}
+use Rattle.validity.specs.Marks.{Grown, anyMixed, drawsAt, drawsIn, shareIn, offendsAt, offendsIn, mixedRule, edgeIn, offendsRule, JudgedBy}
+use Rattle.validity.specs.declared.Judged.{Judged}
+use Rattle.validity.specs.declared.Judged.the-variants.{Valid, Offending}
+use Rattle.validity.proofs.RuleLaws.{counted-variables, variables-few, rule-stands, rule-is, rule-promise}
+
+-- ---- tests below a number
+
+pub any-same : (n : ℕ) (p q : ℕ → Bool) → ((i : ℕ) → i < n → p i ≡ q i) → anyBelow n p ≡ anyBelow n q
+unfolding anyBelow
+any-same zero p q h = refl
+any-same (suc n) p q h = ap₂ _||_ (any-same n p q (λ i l. h i (omega arith))) (h n (omega arith))
+
+any-never : (n : ℕ) → anyBelow n (λ i. false) ≡ false
+unfolding anyBelow
+any-never zero = refl
+any-never (suc n) = rw (any-never n)
+
+pub and-any : (b : Bool) (n : ℕ) (p : ℕ → Bool) → (b && anyBelow n p) ≡ anyBelow n (λ i. b && p i)
+and-any true n p = refl
+and-any false n p = sym (any-never n)
+
+-- ---- edges
+
+pub draws-places : (P : Program) (r : Rule) (x y : ℕ) → draws P r x y ≡ drawsIn (P .variables) r x y
+unfolding draws drawsIn drawsAt
+draws-places P r x y = and-any (eqb (r .head) x) (length (r .terms)) _
+
+-- edges land on declared variables
+pub edges-below : {P : Program} → Promises P → (x y : ℕ) → edge P x y ≡ true → y < length (P .variables)
+unfolding edge draws
+edges-below {P} p x y e =
+    let i = some-below (length (P .rules)) _ e in
+    let r = ruleIn (P .rules) (i .0) in
+    let d = both (eqb (r .head) x) _ (i .2) in
+    let j = some-below (length (r .terms)) _ (d .1) in
+    let v = both (eqb (termIn (r .terms) (j .0) .variable) y) _ (j .2) in
+    let q : termIn (r .terms) (j .0) .variable ≡ y = eqb-true _ y (v .0) in
+    rw q at (p .rules (i .0) (i .1) .body .terms (j .0) (j .1) .declared)
+
+-- a walk among the first n variables, over edges that agree there
+pub walk-within : {e e′ : ℕ → ℕ → Bool} (n : ℕ) → ((a b : ℕ) → a < n → b < n → e a b ≡ e′ a b)
+    → {i j : ℕ} → i < n → j < n → Walk e n i j → Walk e′ n i j
+walk-within n s hi hj (walk.edge {i = i} {j = j} p) = walk.edge (sym (s i j hi hj) ∙ p)
+walk-within n s hi hj (walk.step {i = i} {m = m} p l w) = walk.step (sym (s i m hi l) ∙ p) l (walk-within n s l hj w)
+
+-- rows with nothing in them
+zeros : (m i : ℕ) → _≡_ {A = ℕ} (getD (replicate m 0) i 0) 0
+zeros zero i = refl
+zeros (suc m) zero = refl
+zeros (suc m) (suc i) = zeros m i
+
+pub rows-none : (m a b : ℕ) → rowHas (replicate m 0) a b ≡ false
+unfolding rowHas
+rows-none m a b = ap (λ (w : ℕ). bit w (b % wordBits)) (zeros m (wordCount * a + b / wordBits)) ∙ bit-zero (b % wordBits)
+
+-- ---- one count of fields
+
+not-before : {s : List ℕ} {a b : ℕ} → Whole s a → Whole s b → a < b → ⊥
+not-before {a = a} v w h = let l = w .passed .stands a h in omega (arith, v .ended)
+
+pub whole-unique : {s : List ℕ} {a b : ℕ} → Whole s a → Whole s b → a ≡ b
+whole-unique {s} {a} {b} v w = omega (arith, not-before v w, not-before w v)
+
+-- ---- a file whose fields passed
+
+module _ {s : List ℕ} {k : Counts} (c : Counted s k) where
+  abbrev P : Program
+  P = program s (c .fields)
+
+  pub edge-is : (x y : ℕ) → edge P x y ≡ edgeIn s k x y
+  unfolding edge edgeIn
+  edge-is x y =
+      ap (λ (n : ℕ). anyBelow n (λ i. draws P (ruleIn (P .rules) i) x y)) (c .describes .rules-are)
+      ∙ any-same (k .rules) _ _ (λ i l. draws-places P (ruleIn (P .rules) i) x y
+      ∙ ap₂ (λ (vs : List Variable) (r : Rule). drawsIn vs r x y) (c .describes .variables-are) (rule-is c i l))
+
+  -- no mixed place: the file is valid
+  pub none-mixed : mixedRule s k ≡ false → components.Valid P
+  unfolding mixedRule anyMixed
+  none-mixed e i o =
+      let l : i < k .rules = rw (c .describes .rules-are) at (o .among) in
+      let z = none-below (k .rules) _ e i l in
+      let h = rw (rule-is c i l) at (o .inside) in
+      let m = rw (rule-is c i l, c .describes .variables-are) at (o .pushes) in
+      never m (none-below _ _ z (o .at) h)
+
+  -- rows that hold the edges, and those rows closed
+  module _ {t₀ t : ℕ → ℕ → Bool} (g : (a b : ℕ) → a < maxVariables → b < maxVariables → t₀ a b ≡ edgeIn s k a b)
+      (closed : Reached t₀ t (k .variables) (k .variables)) where
+    same : (a b : ℕ) → a < k .variables → b < k .variables → t₀ a b ≡ edge P a b
+    same a b ha hb = let f = variables-few c in g a b (omega arith) (omega arith) ∙ sym (edge-is a b)
+
+    pub row-reaches : (x y : ℕ) → x < k .variables → y < k .variables → t x y ≡ true → Reaches P x y
+    row-reaches x y hx hy e = (k .variables, walk-within (k .variables) same hx hy (closed .sound x y hx hy e))
+
+    pub reaches-row : (x y : ℕ) → x < k .variables → y < k .variables → Reaches P x y → t x y ≡ true
+    reaches-row x y hx hy r =
+        let w = stops-below (k .variables) (λ a b e. rw (counted-variables c) at (edges-below (passed-promises (c .whole .passed)) a b e)) (r .1) in
+        closed .whole x y hx hy (walk-within (k .variables) (λ a b ha hb. sym (same a b ha hb)) hx hy w)
+
+    pub row-share : (x y : ℕ) → x < k .variables → y < k .variables → shareIn t x y ≡ true → Share P x y
+    unfolding shareIn
+    row-share x y hx hy e = go (eqb x y) refl e
+      where
+        go : (b : Bool) → eqb x y ≡ b → (b || (t x y && t y x)) ≡ true → Share P x y
+        go true q h = inl (eqb-true x y q)
+        go false q h = let r = both (t x y) (t y x) h in inr (row-reaches x y hx hy (r .0), row-reaches y x hy hx (r .1))
+
+    pub share-row : (x y : ℕ) → x < k .variables → y < k .variables → Share P x y → shareIn t x y ≡ true
+    unfolding shareIn
+    share-row x y hx hy (inl e) = rw (eq-eqb x y e)
+    share-row x y hx hy (inr r) = go (eqb x y)
+      where
+        go : (b : Bool) → (b || (t x y && t y x)) ≡ true
+        go true = refl
+        go false = rw (reaches-row x y hx hy (r .0), reaches-row y x hy hx (r .1))
+
+    -- a rule offends where the test says so
+    pub row-offends : (i : ℕ) → i < k .rules → offendsRule t s k i ≡ true → Offends P i
+    unfolding offendsIn offendsAt
+    row-offends i l e =
+        let j = some-below _ _ e in
+        let d = both _ _ (j .2) in
+        let n = variables-length s (k .variables) in
+        let h = rw n at (rule-promise c i l .head-declared) in
+        let v = rw n at (rule-promise c i l .body .terms (j .0) (j .1) .declared) in
+        record {
+          among = rw (c .describes .rules-are) l;
+          at = j .0;
+          inside = rw (rule-is c i l) (j .1);
+          pushes = rw (rule-is c i l, c .describes .variables-are) (d .0);
+          shares = rw (rule-is c i l) (row-share _ _ h v (d .1));
+        }
+
+    pub offends-row : (i : ℕ) → i < k .rules → offendsRule t s k i ≡ false → Offends P i → ⊥
+    unfolding offendsIn offendsAt
+    offends-row i l e o =
+        let n = variables-length s (k .variables) in
+        let inside = rw (rule-is c i l) at (o .inside) in
+        let m = rw (rule-is c i l, c .describes .variables-are) at (o .pushes) in
+        let h = rw n at (rule-promise c i l .head-declared) in
+        let v = rw n at (rule-promise c i l .body .terms (o .at) inside .declared) in
+        let r = share-row _ _ h v (rw (rule-is c i l) at (o .shares)) in
+        never (ap₂ _&&_ m r) (none-below _ _ e (o .at) inside)
+
+    judged-by : (r : Judged) → JudgedBy t s k r → Judges s (c .fields) r
+    judged-by Valid h = λ i o. let l : i < k .rules = rw (c .describes .rules-are) at (o .among) in offends-row i l (h i l) o
+    judged-by (Offending at) f =
+        let r = rule-stands c (f .rule) (f .among) in
+        record {
+          field = k .variables + f .rule;
+          rule = f .rule;
+          before = r .before;
+          is = r .field;
+          first = record {
+            offends = row-offends (f .rule) (f .among) (f .offends);
+            first = λ j l. offends-row j (let m = f .among in omega arith) (f .first j l);
+          };
+          placed = f .placed;
+        }
+
+  -- the answers, whatever number of fields the file is said to have
+  pub judged-none : mixedRule s k ≡ false → (n : ℕ) → Whole s n → Judges s n Valid
+  judged-none e n w = subst (λ (n : ℕ). Judges s n Valid) (whole-unique (c .whole) w) (none-mixed e)
+
+  pub judged : {t₀ t₁ t : ℕ → ℕ → Bool} (r : Judged) → ((a b : ℕ) → t₀ a b ≡ false) → Grown t₀ t₁ (edgeIn s k)
+      → Reached t₁ t (k .variables) (k .variables) → JudgedBy t s k r → (n : ℕ) → Whole s n → Judges s n r
+  judged r z g closed h n w =
+      subst (λ (n : ℕ). Judges s n r) (whole-unique (c .whole) w)
+      (judged-by (λ a b ha hb. g .is a b ha hb ∙ ap (λ (x : Bool). x || edgeIn s k a b) (z a b)) closed r h)

@@ -1,0 +1,109 @@
+-- The rules of a file whose fields passed, one after the other.
+use Prim.Native.Nat.{ℕ, _+_, _*_, _-_, _<_, _≤_}
+use mathlib.Core.Path.{_≡_, sym, ap, _∙_, subst}
+use mathlib.Core.List.{List}
+use mathlib.Core.Bool.{Bool, false}
+use native.Mathlib.Nat.{add-sub-cancel-left}
+use native.Mathlib.Omega.{arith}
+use lib.ListN.{length, take, drop}
+use Rattle.format.specs.Limits.{maxVariables}
+use Rattle.program.specs.Tables.{anyBelow}
+use Rattle.program.specs.Fields.{lengthAt, valueAt, nextAt, place}
+use Rattle.program.specs.Program.{ruleOf, ruleIn, program, variablesAt}
+use Rattle.program.specs.Reading.{Passed}
+use Rattle.program.specs.declared.Counts.{Counts}
+use Rattle.program.proofs.Conditions.{last-or}
+use Rattle.program.proofs.Places.{RuleStands, Fine, variablesTo, variables-length, variables-stand, rule-at, rule-length, passed-fine, place-next, counts}
+use Rattle.program.proofs.Promises.{RulePromise, passed-rule}
+use Rattle.evaluation.proofs.Bytes.{place-variable}
+use Rattle.fields.specs.Scanning.{Counted}
+use Rattle.validity.specs.Marks.{Standing, Grown, anyMixed, drawsIn, ruleAt, mixedRule, edgeIn}
+use Rattle.validity.proofs.PlaceLaws.{grown-done}
+
+-- the value of a field, as a part of the file
+pub value-part : (s : List ℕ) (j at : ℕ) {start len next : ℕ} → at ≡ place s j → (start ≡ at + 3) × (len ≡ lengthAt s at) × (next ≡ nextAt s at)
+    → take (start + len - start) (drop start s) ≡ valueAt s (place s j)
+value-part s j at {start} {len} e x = rw (add-sub-cancel-left start len, x .0, x .1, e)
+
+pub part-rule : (s : List ℕ) (n i at : ℕ) {start len next : ℕ} → at ≡ place s (n + i) → (start ≡ at + 3) × (len ≡ lengthAt s at) × (next ≡ nextAt s at)
+    → ruleOf (take (start + len - start) (drop start s)) ≡ ruleAt s n i
+part-rule s n i at e x = ap ruleOf (value-part s (n + i) at e x)
+
+-- the rule after
+pub next-rule : (s : List ℕ) (n i at : ℕ) {next : ℕ} → at ≡ place s (n + i) → next ≡ nextAt s at → next ≡ place s (n + (i + 1))
+next-rule s n i at e x =
+    let q : n + (i + 1) ≡ n + i + 1 = omega arith in
+    rw (q, place-next) (x ∙ ap (nextAt s) e)
+
+-- ---- all rules
+
+-- one more that has not the property
+pub none-more : (p : ℕ → Bool) (i : ℕ) → ((j : ℕ) → j < i → p j ≡ false) → p i ≡ false → (j : ℕ) → j < i + 1 → p j ≡ false
+none-more p i h e j l = last-or (λ x. p x ≡ false) i j (omega arith) (h j) e
+
+module _ (s : List ℕ) (k : Counts) where
+  pub mixed-all : {i : ℕ} {f : Bool} → i ≡ k .rules → f ≡ anyBelow i (λ j. anyMixed (variablesAt s (k .variables)) (ruleAt s (k .variables) j)) → f ≡ mixedRule s k
+  unfolding mixedRule
+  mixed-all e h = rw e at h
+
+  pub edges-all : {i : ℕ} {t t′ : ℕ → ℕ → Bool} → i ≡ k .rules
+      → Grown t t′ (λ a b. anyBelow i (λ j. drawsIn (variablesAt s (k .variables)) (ruleAt s (k .variables) j) a b)) → Grown t t′ (edgeIn s k)
+  unfolding edgeIn
+  edges-all e g = grown-done (λ j. drawsIn (variablesAt s (k .variables)) (ruleAt s (k .variables) j)) e g
+
+-- ---- a file whose fields passed
+
+module _ {s : List ℕ} {k : Counts} (c : Counted s k) where
+  passed : Passed s (c .fields)
+  passed = c .whole .passed
+
+  pub counted-variables : variablesTo s (c .fields) ≡ k .variables
+  counted-variables = ap length (c .describes .variables-are) ∙ variables-length s (k .variables)
+
+  pub variables-few : k .variables ≤ maxVariables
+  variables-few = rw counted-variables at (counts passed .few-variables)
+
+  pub variables-inside : 8 * k .variables ≤ length s
+  variables-inside = rw counted-variables at (variables-stand (c .fields) passed .inside)
+
+  -- the rules stand after the variables
+  pub first-rule : 8 * k .variables ≡ place s (k .variables + 0)
+  first-rule =
+      let z : k .variables + 0 ≡ k .variables = omega arith in
+      rw z (sym (rw counted-variables at (variables-stand (c .fields) passed .placed (variablesTo s (c .fields)) (omega arith))))
+
+  module _ (i : ℕ) (h : i < k .rules) where
+    pub rule-stands : RuleStands s (c .fields) (k .variables + i) i
+    rule-stands = rw counted-variables at (rule-at {i = i} passed (rw (c .describes .rules-are) h))
+
+    rule-fine : Fine s (k .variables + i)
+    rule-fine = passed-fine passed (k .variables + i) (rule-stands .before)
+
+    pub rule-is : ruleIn (program s (c .fields) .rules) i ≡ ruleAt s (k .variables) i
+    rule-is = rule-stands .is
+
+    pub rule-promise : RulePromise (variablesAt s (k .variables)) (ruleAt s (k .variables) i)
+    rule-promise = rw (c .describes .variables-are, rule-is) at (passed-rule passed i (rule-stands .among))
+
+    pub standing : Standing s (k .variables) (valueAt s (place s (k .variables + i)))
+    standing =
+        let v = valueAt s (place s (k .variables + i)) in
+        let l = rule-length rule-fine (rule-stands .field .tagged) in
+        let n = variables-length s (k .variables) in
+        let z : length v ≡ 4 + 4 * length (ruleOf v .terms) = rule-fine .length-is ∙ l .are in
+        record {
+          inside = variables-inside;
+          few = variables-few;
+          sized = z;
+          head = rw n at (rule-promise .head-declared);
+          declared = λ j m. rw (← place-variable v j (omega arith)) (rw n at (rule-promise .body .terms j m .declared));
+        }
+
+    -- at its place
+    module _ (at : ℕ) (e : at ≡ place s (k .variables + i)) where
+      pub rule-inside : nextAt s at ≤ length s
+      rule-inside = rw e (rule-fine .whole)
+
+      pub standing-part : {start len next : ℕ} → (start ≡ at + 3) × (len ≡ lengthAt s at) × (next ≡ nextAt s at)
+          → Standing s (k .variables) (take (start + len - start) (drop start s))
+      standing-part x = subst (Standing s (k .variables)) (sym (value-part s (k .variables + i) at e x)) standing

@@ -1,0 +1,38 @@
+use mathlib.Core.Path.{sym, _∙_}
+use borrow.Author.Tests.{not-true}
+use Rattle.sets.specs.Walk.{rowsLength}
+use Rattle.validity.proofs.RuleLaws.{variables-few}
+use Rattle.validity.proofs.ComponentLaws.{rows-none, judged-none, judged}
+use borrow.Author.Needs.{needs}
+use Rattle.validity.proofs.judge.Statement.{statement}
+use Rattle.validity.proofs.judge.Tie as tie
+
+any-mixed-requires : tie.Need-any-mixed-requires
+any-mixed-requires c κs = search needs
+
+returns : tie.Need-returns
+returns c = judged-none (c .before .before .before .pre) (sym (c .before .any-mixed .ensures) ∙ not-true _ (c .if1 .taken))
+
+mark-edges-requires : tie.Need-mark-edges-requires
+mark-edges-requires c κs = search needs
+
+close-requires : tie.Need-close-requires
+close-requires c κs = (variables-few (c .before .before .before .before .before .before .pre), c .before .mark-edges .ensures .0)
+
+first-offending-requires : tie.Need-first-offending-requires
+first-offending-requires c κs = search needs
+
+returns-2 : tie.Need-returns-2
+returns-2 c = let m = c .before .before .before .before in
+    judged (m .before .before .before .before .before .pre) (c .first-offending .result) (rows-none rowsLength) (m .mark-edges .ensures .1) (c .before .before .close .ensures .1) (c .first-offending .ensures)
+
+pub judge-spec : {M : Type 1} → statement M
+judge-spec =
+    tie.close
+    (tie.spec
+    any-mixed-requires
+    returns
+    mark-edges-requires
+    close-requires
+    first-offending-requires
+    returns-2)

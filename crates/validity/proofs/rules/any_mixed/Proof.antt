@@ -1,0 +1,76 @@
+use native.Mathlib.Omega.{arith}
+use borrow.Author.Needs.{needs}
+use Prim.Native.Nat.{_+_, _≤_, _-_}
+use Rattle.program.specs.Fields.{place}
+use Rattle.program.specs.Program.{variablesAt}
+use mathlib.Core.Path.{_≡_, ap, _∙_}
+use Rattle.program.specs.Tables.{anyBelow}
+use Rattle.fields.proofs.TermLaws.{any-none, any-more}
+use Rattle.validity.specs.Marks.{anyMixed, ruleAt}
+use Rattle.validity.proofs.RuleLaws.{variables-inside, first-rule, next-rule, rule-inside, standing-part, part-rule, mixed-all}
+use Rattle.validity.proofs.rules.any_mixed.Statement.{statement}
+use Rattle.validity.proofs.rules.any_mixed.Tie as tie
+
+abbrev Inv-loop : tie.InvT-loop
+Inv-loop file n rules at₀ i₀ found₀ at i found =
+    (i ≤ rules) × (at ≡ place file (n + i)) × (found ≡ anyBelow i (λ j. anyMixed (variablesAt file n) (ruleAt file n j)))
+
+abbrev μ-loop : tie.MeasureT-loop
+μ-loop file n rules at₀ i₀ found₀ at i found = rules - i
+
+mul-at : tie.Need-mul-at Inv-loop μ-loop
+mul-at c = omega (arith, variables-inside (c .before .pre))
+
+loop-holds : tie.Need-loop-holds Inv-loop μ-loop
+loop-holds c = (omega arith, first-rule (c .before .pre), any-none _)
+
+extent-at-requires : tie.Need-extent-at-requires Inv-loop μ-loop
+extent-at-requires c κs = rule-inside (c .before .before .before .pre) _ (omega arith) _ (c .before .loop .inv .1)
+
+add-is-mixed : tie.Need-add-is-mixed Inv-loop μ-loop
+add-is-mixed c = omega (arith, rule-inside (c .before .before .before .before .pre) _ (omega arith) _ (c .before .before .loop .inv .1))
+
+sub-is-mixed : tie.Need-sub-is-mixed Inv-loop μ-loop
+sub-is-mixed c = omega arith
+
+part-is-mixed-start : tie.Need-part-is-mixed-start Inv-loop μ-loop
+part-is-mixed-start c = omega (arith, rule-inside (c .before .before .before .before .pre) _ (omega arith) _ (c .before .before .loop .inv .1))
+
+part-is-mixed-end : tie.Need-part-is-mixed-end Inv-loop μ-loop
+part-is-mixed-end c = omega (arith, rule-inside (c .before .before .before .before .pre) _ (omega arith) _ (c .before .before .loop .inv .1))
+
+is-mixed-requires : tie.Need-is-mixed-requires Inv-loop μ-loop
+is-mixed-requires c κs = standing-part (c .before .before .before .before .before .pre) _ (omega arith) _ (c .before .before .before .loop .inv .1) (c .before .extent-at .ensures)
+
+add-i : tie.Need-add-i Inv-loop μ-loop
+add-i c = search needs
+
+loop-less : tie.Need-loop-less Inv-loop μ-loop
+loop-less c = search needs
+
+loop-again : tie.Need-loop-again Inv-loop μ-loop
+loop-again c = let l = c .before .before .before .before .loop in
+    let x = c .before .before .extent-at .ensures in
+    (omega arith, next-rule _ _ _ _ (l .inv .1) (x .2), any-more _ _ _ _ (l .inv .2) (c .is-mixed .ensures ∙ ap (anyMixed _) (part-rule _ _ _ _ (l .inv .1) x)))
+
+returns : tie.Need-returns Inv-loop μ-loop
+returns c = mixed-all _ _ (omega arith) (c .before .loop .inv .2)
+
+pub any-mixed-spec : {M : Type 1} → statement M
+any-mixed-spec =
+    tie.close
+    (tie.spec
+    Inv-loop
+    μ-loop
+    mul-at
+    loop-holds
+    extent-at-requires
+    add-is-mixed
+    sub-is-mixed
+    part-is-mixed-start
+    part-is-mixed-end
+    is-mixed-requires
+    add-i
+    loop-less
+    loop-again
+    returns)

@@ -1,0 +1,33 @@
+// Whether a file is valid: no rule has a mixed variable in its head's component.
+mod edges;
+mod places;
+mod rules;
+
+use program::Counts;
+use sets::Rows;
+use sets::close;
+ghost use Prim.Native.Nat.{ℕ};
+ghost use Rattle.program.specs.Reading.{Whole};
+ghost use Rattle.fields.specs.Scanning.{Counted};
+ghost use Rattle.validity.specs.Judging.{Judges};
+
+// That a file is valid, or the place of its first rule that offends.
+pub enum Judged {
+    Valid,
+    Offending(usize),
+}
+
+// A file whose fields passed, with its counts.
+pub fn judge(file: &[u8], counts: Counts) -> Judged
+    requires { ⌜ Counted (now file) counts ⌝ }
+    ensures { λ r. ⌜ ((k : ℕ) → Whole (now (file .entry)) k → Judges (now (file .entry)) k r) ⌝ }
+{
+    if !rules::any_mixed(file, counts) {
+        return Judged::Valid;
+    }
+    let n = counts.variables;
+    let mut rows = [0u64; Rows::LENGTH];
+    rules::mark_edges(&mut rows, file, counts);
+    close(&mut rows, n);
+    rules::first_offending(&rows, file, counts)
+}
