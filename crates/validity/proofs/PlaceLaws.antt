@@ -10,9 +10,9 @@ use borrow.Author.Tests.{eq-eqb, ne-eqb}
 use Rattle.sets.specs.Walk.{Marked}
 use Rattle.program.specs.Tables.{anyBelow}
 use Rattle.program.specs.Program.{Variable, Rule, termIn}
-use Rattle.program.specs.Directions.{direction, isRising, isMixed}
+use Rattle.program.specs.Directions.{direction, isMixed}
 use Rattle.program.proofs.Conditions.{any-more}
-use Rattle.validity.specs.Marks.{Grown, anyMixed, drawsAt, drawsIn, shareIn, offendsAt, offendsIn}
+use Rattle.validity.specs.Marks.{Grown, anyMixed, drawsEdge, drawsAt, drawsIn, shareIn, offendsAt, offendsIn}
 
 -- ---- rows that take in edges
 
@@ -58,17 +58,17 @@ module _ (vs : List Variable) (r : Rule) where
 
   module _ (i : ℕ) where
     -- a place that draws no edge
-    pub draws-none : (t : ℕ → ℕ → Bool) → (isRising (direction vs r i) || isMixed (direction vs r i)) ≡ false → Grown t t (drawsAt vs r i)
+    pub draws-none : (t : ℕ → ℕ → Bool) → drawsEdge (direction vs r i) ≡ false → Grown t t (drawsAt vs r i)
     unfolding drawsAt
     draws-none t e = record { is = λ a b ha hb. go a b (eqb (r .head) a) (eqb (termIn (r .terms) i .variable) b) }
       where
-        go : (a b : ℕ) (x y : Bool) → t a b ≡ (t a b || (x && (y && (isRising (direction vs r i) || isMixed (direction vs r i)))))
+        go : (a b : ℕ) (x y : Bool) → t a b ≡ (t a b || (x && (y && drawsEdge (direction vs r i))))
         go a b true true = sym (ap (λ (z : Bool). t a b || z) e ∙ or-false (t a b))
         go a b true false = sym (or-false (t a b))
         go a b false y = sym (or-false (t a b))
 
     -- a place that draws one
-    pub draws-one : {t t′ : ℕ → ℕ → Bool} (h x : ℕ) → (isRising (direction vs r i) || isMixed (direction vs r i)) ≡ true
+    pub draws-one : {t t′ : ℕ → ℕ → Bool} (h x : ℕ) → drawsEdge (direction vs r i) ≡ true
         → h ≡ r .head → x ≡ termIn (r .terms) i .variable → Marked t t′ h x → Grown t t′ (drawsAt vs r i)
     unfolding drawsAt
     draws-one {t} h x e p q m = record {
@@ -78,7 +78,7 @@ module _ (vs : List Variable) (r : Rule) where
     }
       where
         go : (a b : ℕ) (y z : Bool) → y ≡ eqb (r .head) a → z ≡ eqb (termIn (r .terms) i .variable) b
-            → (y && z) ≡ (eqb (r .head) a && (eqb (termIn (r .terms) i .variable) b && (isRising (direction vs r i) || isMixed (direction vs r i))))
+            → (y && z) ≡ (eqb (r .head) a && (eqb (termIn (r .terms) i .variable) b && drawsEdge (direction vs r i)))
         go a b true true u w = rw (← u, ← w, e)
         go a b true false u w = rw (← u, ← w)
         go a b false z u w = rw (← u)

@@ -8,7 +8,7 @@ use native.Mathlib.Omega.{arith}
 use lib.ListN.{length, take, drop}
 use Rattle.format.specs.Limits.{maxVariables}
 use Rattle.program.specs.Tables.{anyBelow}
-use Rattle.program.specs.Fields.{lengthAt, valueAt, nextAt, place}
+use Rattle.program.specs.Fields.{valueAt, nextAt, place}
 use Rattle.program.specs.Program.{ruleOf, ruleIn, program, variablesAt}
 use Rattle.program.specs.Reading.{Passed}
 use Rattle.program.specs.declared.Counts.{Counts}
@@ -17,23 +17,23 @@ use Rattle.program.proofs.Places.{RuleStands, Fine, variablesTo, variables-leng
 use Rattle.program.proofs.Promises.{RulePromise, passed-rule}
 use Rattle.evaluation.proofs.Bytes.{place-variable}
 use Rattle.fields.specs.Scanning.{Counted}
-use Rattle.validity.specs.Marks.{Standing, Grown, anyMixed, drawsIn, ruleAt, mixedRule, edgeIn}
+use Rattle.validity.specs.Marks.{Standing, Spans, Grown, anyMixed, drawsIn, ruleAt, mixedRule, edgeIn}
 use Rattle.validity.proofs.PlaceLaws.{grown-done}
 
 -- the value of a field, as a part of the file
-pub value-part : (s : List ℕ) (j at : ℕ) {start len next : ℕ} → at ≡ place s j → (start ≡ at + 3) × (len ≡ lengthAt s at) × (next ≡ nextAt s at)
+pub value-part : (s : List ℕ) (j at : ℕ) {start len next : ℕ} → at ≡ place s j → Spans s at start len next
     → take (start + len - start) (drop start s) ≡ valueAt s (place s j)
-value-part s j at {start} {len} e x = rw (add-sub-cancel-left start len, x .0, x .1, e)
+value-part s j at {start} {len} e x = rw (add-sub-cancel-left start len, x .start-is, x .length-is, e)
 
-pub part-rule : (s : List ℕ) (n i at : ℕ) {start len next : ℕ} → at ≡ place s (n + i) → (start ≡ at + 3) × (len ≡ lengthAt s at) × (next ≡ nextAt s at)
+pub part-rule : (s : List ℕ) (n i at : ℕ) {start len next : ℕ} → at ≡ place s (n + i) → Spans s at start len next
     → ruleOf (take (start + len - start) (drop start s)) ≡ ruleAt s n i
 part-rule s n i at e x = ap ruleOf (value-part s (n + i) at e x)
 
 -- the rule after
-pub next-rule : (s : List ℕ) (n i at : ℕ) {next : ℕ} → at ≡ place s (n + i) → next ≡ nextAt s at → next ≡ place s (n + (i + 1))
+pub next-rule : (s : List ℕ) (n i at : ℕ) {start len next : ℕ} → at ≡ place s (n + i) → Spans s at start len next → next ≡ place s (n + (i + 1))
 next-rule s n i at e x =
     let q : n + (i + 1) ≡ n + i + 1 = omega arith in
-    rw (q, place-next) (x ∙ ap (nextAt s) e)
+    rw (q, place-next) (x .next-is ∙ ap (nextAt s) e)
 
 -- ---- all rules
 
@@ -104,6 +104,6 @@ module _ {s : List ℕ} {k : Counts} (c : Counted s k) where
       pub rule-inside : nextAt s at ≤ length s
       rule-inside = rw e (rule-fine .whole)
 
-      pub standing-part : {start len next : ℕ} → (start ≡ at + 3) × (len ≡ lengthAt s at) × (next ≡ nextAt s at)
+      pub standing-part : {start len next : ℕ} → Spans s at start len next
           → Standing s (k .variables) (take (start + len - start) (drop start s))
       standing-part x = subst (Standing s (k .variables)) (sym (value-part s (k .variables + i) at e x)) standing

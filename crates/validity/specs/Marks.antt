@@ -7,10 +7,11 @@ use lib.ListN.{length, getD}
 use lib.Dec.{eqb}
 use Rattle.format.specs.Limits.{maxVariables}
 use Rattle.program.specs.Tables.{anyBelow}
-use Rattle.program.specs.Fields.{place, valueAt}
+use Rattle.program.specs.Fields.{lengthAt, valueAt, nextAt, place}
 use Rattle.program.specs.Program.{Variable, Rule, ruleOf, termIn, variablesAt}
 use Rattle.program.specs.Directions.{direction, isRising, isMixed}
 use Rattle.program.specs.declared.Counts.{Counts}
+use Rattle.program.specs.declared.Direction.{Direction}
 use Rattle.validity.specs.declared.Judged.{Judged}
 use Rattle.validity.specs.declared.Judged.the-variants.{Valid, Offending}
 
@@ -22,6 +23,13 @@ pub record Standing (s : List ℕ) (n : ℕ) (v : List ℕ) : Type 0 where
   pub head : getD v 1 0 < n
   pub declared : (i : ℕ) → i < length (ruleOf v .terms) → getD v (4 + 4 * i) 0 < n
 
+-- the field at `at` has its value at `start`, so long, and ends within the file, where the next one stands
+pub record Spans (s : List ℕ) (at start len next : ℕ) : Type 0 where
+  pub start-is : start ≡ at + 3
+  pub length-is : len ≡ lengthAt s at
+  pub next-is : next ≡ nextAt s at
+  pub inside : start + len ≤ length s
+
 -- r′ is r with the edges of e
 pub record Grown (r r′ e : ℕ → ℕ → Bool) : Type 0 where
   pub is : (a b : ℕ) → a < maxVariables → b < maxVariables → r′ a b ≡ (r a b || e a b)
@@ -31,10 +39,13 @@ pub record Grown (r r′ e : ℕ → ℕ → Bool) : Type 0 where
 unfoldable pub anyMixed : List Variable → Rule → Bool
 anyMixed vs r = anyBelow (length (r .terms)) (λ i. isMixed (direction vs r i))
 
+-- a place that pushes this way draws an edge
+abbrev pub drawsEdge : Direction → Bool
+drawsEdge d = isRising d || isMixed d
+
 -- place i draws an edge from x to y
 unfoldable pub drawsAt : List Variable → Rule → ℕ → ℕ → ℕ → Bool
-drawsAt vs r i x y =
-    eqb (r .head) x && (eqb (termIn (r .terms) i .variable) y && (isRising (direction vs r i) || isMixed (direction vs r i)))
+drawsAt vs r i x y = eqb (r .head) x && (eqb (termIn (r .terms) i .variable) y && drawsEdge (direction vs r i))
 
 unfoldable pub drawsIn : List Variable → Rule → ℕ → ℕ → Bool
 drawsIn vs r x y = anyBelow (length (r .terms)) (λ i. drawsAt vs r i x y)

@@ -1,12 +1,11 @@
 // The edges that one rule draws, from its head to each rising or mixed body variable.
 ghost use mathlib.Core.Path.{_≡_};
-ghost use mathlib.Core.Bool.{_||_};
 ghost use Prim.Native.Nat.{_<_};
 ghost use lib.ListN.{length};
 ghost use Rattle.program.specs.Program.{ruleOf, variablesAt};
-ghost use Rattle.program.specs.Directions.{direction, isRising, isMixed};
+ghost use Rattle.program.specs.Directions.{direction};
 ghost use Rattle.sets.specs.Walk.{rowsLength, rowHas};
-ghost use Rattle.validity.specs.Marks.{Standing, Grown, drawsAt, drawsIn};
+ghost use Rattle.validity.specs.Marks.{Standing, Grown, drawsEdge, drawsAt, drawsIn};
 use evaluation::directions;
 use program::Direction;
 use sets::Rows;
@@ -14,7 +13,7 @@ use sets::mark;
 
 // Whether a place that pushes this way draws an edge.
 fn draws_edge(d: Direction) -> bool
-    ensures { λ r. ⌜ r ≡ isRising d || isMixed d ⌝ }
+    ensures { λ r. ⌜ r ≡ drawsEdge d ⌝ }
 {
     match d {
         Direction::Rising => true,
@@ -27,7 +26,7 @@ fn draws_edge(d: Direction) -> bool
 fn draws_place(file: &[u8], variables: usize, value: &[u8], i: usize) -> bool
     requires { ⌜ Standing (now file) variables (now value) ⌝ }
     requires { ⌜ i < length (ruleOf (now value) .terms) ⌝ }
-    ensures { λ r. ⌜ r ≡ isRising (direction (variablesAt (now (file .entry)) variables) (ruleOf (now (value .entry))) i) || isMixed (direction (variablesAt (now (file .entry)) variables) (ruleOf (now (value .entry))) i) ⌝ }
+    ensures { λ r. ⌜ r ≡ drawsEdge (direction (variablesAt (now (file .entry)) variables) (ruleOf (now (value .entry))) i) ⌝ }
 {
     draws_edge(directions::direction(file, variables, value, i))
 }

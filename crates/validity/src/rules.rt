@@ -1,15 +1,26 @@
 // The rules of a file, one after the other.
 ghost use mathlib.Core.Path.{_≡_};
+ghost use Prim.Native.Nat.{_≤_};
 ghost use lib.ListN.{length};
+ghost use Rattle.program.specs.Fields.{nextAt};
 ghost use Rattle.sets.specs.Walk.{rowsLength, rowHas};
 ghost use Rattle.fields.specs.Scanning.{Counted};
-ghost use Rattle.validity.specs.Marks.{Grown, mixedRule, edgeIn, JudgedBy};
+ghost use Rattle.validity.specs.Marks.{Grown, Spans, mixedRule, edgeIn, JudgedBy};
 use crate::Judged;
 use crate::edges;
 use crate::places;
 use fields::cursor;
+use fields::cursor::Extent;
 use program::Counts;
 use sets::Rows;
+
+// The extent of a field that is not cut short, which ends within the file.
+fn extent(file: &[u8], at: usize) -> Extent
+    requires { ⌜ nextAt (now file) at ≤ length (now file) ⌝ }
+    ensures { λ r. ⌜ Spans (now (file .entry)) at (r .start) (r .len) (r .next) ⌝ }
+{
+    cursor::extent_at(file, at)
+}
 
 // Whether some rule has a mixed place.
 pub fn any_mixed(file: &[u8], counts: Counts) -> bool
@@ -22,7 +33,7 @@ pub fn any_mixed(file: &[u8], counts: Counts) -> bool
     let mut i = 0;
     let mut found = false;
     while i < rules {
-        let e = cursor::extent_at(file, at);
+        let e = extent(file, at);
         let start = e.start;
         let len = e.len;
         let mixed = places::is_mixed(file, n, &file[start..start + len]);
@@ -45,7 +56,7 @@ pub fn mark_edges(rows: &mut [u64; Rows::LENGTH], file: &[u8], counts: Counts)
     let mut at = 8 * n;
     let mut i = 0;
     while i < rules {
-        let e = cursor::extent_at(file, at);
+        let e = extent(file, at);
         let start = e.start;
         let len = e.len;
         edges::mark_rule(rows, file, n, &file[start..start + len]);
@@ -64,7 +75,7 @@ pub fn first_offending(rows: &[u64; Rows::LENGTH], file: &[u8], counts: Counts) 
     let mut at = 8 * n;
     let mut rule = 0;
     while rule < rules {
-        let e = cursor::extent_at(file, at);
+        let e = extent(file, at);
         let start = e.start;
         let len = e.len;
         if places::offends(rows, file, n, &file[start..start + len]) {

@@ -1,3 +1,4 @@
+use native.Mathlib.Omega.{arith}
 use mathlib.Core.Path.{sym, _∙_}
 use borrow.Author.Tests.{not-true}
 use Rattle.sets.specs.Walk.{rowsLength}
@@ -17,14 +18,16 @@ mark-edges-requires : tie.Need-mark-edges-requires
 mark-edges-requires c κs = search needs
 
 close-requires : tie.Need-close-requires
-close-requires c κs = (variables-few (c .before .before .before .before .before .before .pre), c .before .mark-edges .ensures .0)
+close-requires c κs = (omega (arith, variables-few (c .before .before .before .before .before .before .pre)), c .before .mark-edges .ensures .0)
 
 first-offending-requires : tie.Need-first-offending-requires
 first-offending-requires c κs = search needs
 
 returns-2 : tie.Need-returns-2
-returns-2 c = let m = c .before .before .before .before in
-    judged (m .before .before .before .before .before .pre) (c .first-offending .result) (rows-none rowsLength) (m .mark-edges .ensures .1) (c .before .before .close .ensures .1) (c .first-offending .ensures)
+returns-2 c =
+    let m = c .before .before .before .before in
+    judged (m .before .before .before .before .before .pre) (c .first-offending .result) (rows-none rowsLength)
+    (m .mark-edges .ensures .1) (c .before .before .close .ensures .1) (c .first-offending .ensures)
 
 pub judge-spec : {M : Type 1} → statement M
 judge-spec =

@@ -1,8 +1,6 @@
 use native.Mathlib.Omega.{arith}
 use mathlib.Core.Path.{ap, _∙_}
-use mathlib.Core.Bool.{_||_}
-use Rattle.program.specs.Directions.{isRising, isMixed}
-use Rattle.program.specs.declared.Direction.{Direction}
+use Rattle.validity.specs.Marks.{drawsEdge}
 use borrow.Author.Needs.{needs}
 use Rattle.validity.proofs.edges.draws_place.Statement.{statement}
 use Rattle.validity.proofs.edges.draws_place.Tie as tie
@@ -14,7 +12,7 @@ draws-edge-requires : tie.Need-draws-edge-requires
 draws-edge-requires c κs = search needs
 
 returns : tie.Need-returns
-returns c = c .draws-edge .ensures ∙ ap (λ (d : Direction). isRising d || isMixed d) (c .before .direction .ensures)
+returns c = c .draws-edge .ensures ∙ ap drawsEdge (c .before .direction .ensures)
 
 pub draws-place-spec : {M : Type 1} → statement M
 draws-place-spec = tie.close (tie.spec direction-requires draws-edge-requires returns)

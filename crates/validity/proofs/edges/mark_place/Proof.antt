@@ -35,9 +35,12 @@ mark-requires : tie.Need-mark-requires
 mark-requires c κs = search needs
 
 returns-2 : tie.Need-returns-2
-returns-2 c = let b = c .before .before .before .before .before .before in
+returns-2 c =
+    let b = c .before .before .before .before .before .before in
     let a = b .before .before .before .before .args in
-    (c .mark .ensures .0, draws-one _ _ _ _ _ (sym (b .before .draws-place .ensures) ∙ not-false _ (b .if1 .left)) (c .before .before .before .before .wide .ensures .0) (c .before .before .wide2 .ensures .0 ∙ sym (place-variable (a .value .now) (a .i) (omega arith))) (c .mark .ensures .1))
+    let h = c .before .before .before .before .wide .ensures .0 in
+    let x = c .before .before .wide2 .ensures .0 ∙ sym (place-variable (a .value .now) (a .i) (omega arith)) in
+    (c .mark .ensures .0, draws-one _ _ _ _ _ (sym (b .before .draws-place .ensures) ∙ not-false _ (b .if1 .left)) h x (c .mark .ensures .1))
 
 pub mark-place-spec : {M : Type 1} → statement M
 mark-place-spec =

@@ -35,9 +35,12 @@ share-requires : tie.Need-share-requires
 share-requires c κs = search needs
 
 returns-2 : tie.Need-returns-2
-returns-2 c = let b = c .before .before .before .before .before in
+returns-2 c =
+    let b = c .before .before .before .before .before in
     let a = b .before .before .before .before .args in
-    offends-shared _ _ _ _ _ _ (sym (b .before .is-mixed-place .ensures) ∙ not-false _ (b .if1 .left)) (c .before .before .before .wide .ensures .0) (c .before .wide2 .ensures .0 ∙ sym (place-variable (a .value .now) (a .i) (omega arith))) (c .share .ensures)
+    let h = c .before .before .before .wide .ensures .0 in
+    let x = c .before .wide2 .ensures .0 ∙ sym (place-variable (a .value .now) (a .i) (omega arith)) in
+    offends-shared _ _ _ _ _ _ (sym (b .before .is-mixed-place .ensures) ∙ not-false _ (b .if1 .left)) h x (c .share .ensures)
 
 pub offends-place-spec : {M : Type 1} → statement M
 offends-place-spec =

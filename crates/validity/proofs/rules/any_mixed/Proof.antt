@@ -24,23 +24,23 @@ mul-at c = omega (arith, variables-inside (c .before .pre))
 loop-holds : tie.Need-loop-holds Inv-loop μ-loop
 loop-holds c = (omega arith, first-rule (c .before .pre), any-none _)
 
-extent-at-requires : tie.Need-extent-at-requires Inv-loop μ-loop
-extent-at-requires c κs = rule-inside (c .before .before .before .pre) _ (omega arith) _ (c .before .loop .inv .1)
+extent-requires : tie.Need-extent-requires Inv-loop μ-loop
+extent-requires c κs = rule-inside (c .before .before .before .pre) _ (omega arith) _ (c .before .loop .inv .1)
 
 add-is-mixed : tie.Need-add-is-mixed Inv-loop μ-loop
-add-is-mixed c = omega (arith, rule-inside (c .before .before .before .before .pre) _ (omega arith) _ (c .before .before .loop .inv .1))
+add-is-mixed c = search needs
 
 sub-is-mixed : tie.Need-sub-is-mixed Inv-loop μ-loop
-sub-is-mixed c = omega arith
+sub-is-mixed c = search needs
 
 part-is-mixed-start : tie.Need-part-is-mixed-start Inv-loop μ-loop
-part-is-mixed-start c = omega (arith, rule-inside (c .before .before .before .before .pre) _ (omega arith) _ (c .before .before .loop .inv .1))
+part-is-mixed-start c = search needs
 
 part-is-mixed-end : tie.Need-part-is-mixed-end Inv-loop μ-loop
-part-is-mixed-end c = omega (arith, rule-inside (c .before .before .before .before .pre) _ (omega arith) _ (c .before .before .loop .inv .1))
+part-is-mixed-end c = search needs
 
 is-mixed-requires : tie.Need-is-mixed-requires Inv-loop μ-loop
-is-mixed-requires c κs = standing-part (c .before .before .before .before .before .pre) _ (omega arith) _ (c .before .before .before .loop .inv .1) (c .before .extent-at .ensures)
+is-mixed-requires c κs = standing-part (c .before .before .before .before .before .pre) _ (omega arith) _ (c .before .before .before .loop .inv .1) (c .before .extent .ensures)
 
 add-i : tie.Need-add-i Inv-loop μ-loop
 add-i c = search needs
@@ -49,9 +49,10 @@ loop-less : tie.Need-loop-less Inv-loop μ-loop
 loop-less c = search needs
 
 loop-again : tie.Need-loop-again Inv-loop μ-loop
-loop-again c = let l = c .before .before .before .before .loop in
-    let x = c .before .before .extent-at .ensures in
-    (omega arith, next-rule _ _ _ _ (l .inv .1) (x .2), any-more _ _ _ _ (l .inv .2) (c .is-mixed .ensures ∙ ap (anyMixed _) (part-rule _ _ _ _ (l .inv .1) x)))
+loop-again c =
+    let l = c .before .before .before .before .loop in
+    let x = c .before .before .extent .ensures in
+    (omega arith, next-rule _ _ _ _ (l .inv .1) x, any-more _ _ _ _ (l .inv .2) (c .is-mixed .ensures ∙ ap (anyMixed _) (part-rule _ _ _ _ (l .inv .1) x)))
 
 returns : tie.Need-returns Inv-loop μ-loop
 returns c = mixed-all _ _ (omega arith) (c .before .loop .inv .2)
@@ -64,7 +65,7 @@ any-mixed-spec =
     μ-loop
     mul-at
     loop-holds
-    extent-at-requires
+    extent-requires
     add-is-mixed
     sub-is-mixed
     part-is-mixed-start

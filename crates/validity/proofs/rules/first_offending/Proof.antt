@@ -24,27 +24,28 @@ mul-at c = omega (arith, variables-inside (c .before .pre))
 loop-holds : tie.Need-loop-holds Inv-loop μ-loop
 loop-holds c = (omega arith, first-rule (c .before .pre), λ j l. absurd (omega arith))
 
-extent-at-requires : tie.Need-extent-at-requires Inv-loop μ-loop
-extent-at-requires c κs = rule-inside (c .before .before .before .pre) _ (omega arith) _ (c .before .loop .inv .1)
+extent-requires : tie.Need-extent-requires Inv-loop μ-loop
+extent-requires c κs = rule-inside (c .before .before .before .pre) _ (omega arith) _ (c .before .loop .inv .1)
 
 add-offends : tie.Need-add-offends Inv-loop μ-loop
-add-offends c = omega (arith, rule-inside (c .before .before .before .before .pre) _ (omega arith) _ (c .before .before .loop .inv .1))
+add-offends c = search needs
 
 sub-offends : tie.Need-sub-offends Inv-loop μ-loop
-sub-offends c = omega arith
+sub-offends c = search needs
 
 part-offends-start : tie.Need-part-offends-start Inv-loop μ-loop
-part-offends-start c = omega (arith, rule-inside (c .before .before .before .before .pre) _ (omega arith) _ (c .before .before .loop .inv .1))
+part-offends-start c = search needs
 
 part-offends-end : tie.Need-part-offends-end Inv-loop μ-loop
-part-offends-end c = omega (arith, rule-inside (c .before .before .before .before .pre) _ (omega arith) _ (c .before .before .loop .inv .1))
+part-offends-end c = search needs
 
 offends-requires : tie.Need-offends-requires Inv-loop μ-loop
-offends-requires c κs = standing-part (c .before .before .before .before .before .pre) _ (omega arith) _ (c .before .before .before .loop .inv .1) (c .before .extent-at .ensures)
+offends-requires c κs = standing-part (c .before .before .before .before .before .pre) _ (omega arith) _ (c .before .before .before .loop .inv .1) (c .before .extent .ensures)
 
 returns : tie.Need-returns Inv-loop μ-loop
-returns c = let l = c .before .before .before .before .before .loop in
-    let x = c .before .before .before .extent-at .ensures in
+returns c =
+    let l = c .before .before .before .before .before .loop in
+    let x = c .before .before .before .extent .ensures in
     record {
       rule = l .rule;
       among = omega arith;
@@ -60,10 +61,11 @@ loop-less : tie.Need-loop-less Inv-loop μ-loop
 loop-less c = search needs
 
 loop-again : tie.Need-loop-again Inv-loop μ-loop
-loop-again c = let l = c .before .before .before .before .before .loop in
-    let x = c .before .before .before .extent-at .ensures in (
+loop-again c =
+    let l = c .before .before .before .before .before .loop in
+    let x = c .before .before .before .extent .ensures in (
       omega arith,
-      next-rule _ _ _ _ (l .inv .1) (x .2),
+      next-rule _ _ _ _ (l .inv .1) x,
       none-more _ _ (l .inv .2) (sym (c .before .offends .ensures ∙ ap (offendsIn _ _) (part-rule _ _ _ _ (l .inv .1) x)) ∙ c .if1 .left),
     )
 
@@ -78,7 +80,7 @@ first-offending-spec =
     μ-loop
     mul-at
     loop-holds
-    extent-at-requires
+    extent-requires
     add-offends
     sub-offends
     part-offends-start

@@ -27,23 +27,23 @@ mul-at c = omega (arith, variables-inside (c .before .pre .0))
 loop-holds : tie.Need-loop-holds Inv-loop μ-loop
 loop-holds c = (omega arith, first-rule (c .before .pre .0), c .before .pre .1, grown-none _ _)
 
-extent-at-requires : tie.Need-extent-at-requires Inv-loop μ-loop
-extent-at-requires c κs = rule-inside (c .before .before .before .pre .0) _ (omega arith) _ (c .before .loop .inv .1)
+extent-requires : tie.Need-extent-requires Inv-loop μ-loop
+extent-requires c κs = rule-inside (c .before .before .before .pre .0) _ (omega arith) _ (c .before .loop .inv .1)
 
 add-mark-rule : tie.Need-add-mark-rule Inv-loop μ-loop
-add-mark-rule c = omega (arith, rule-inside (c .before .before .before .before .before .pre .0) _ (omega arith) _ (c .before .before .before .loop .inv .1))
+add-mark-rule c = search needs
 
 sub-mark-rule : tie.Need-sub-mark-rule Inv-loop μ-loop
-sub-mark-rule c = omega arith
+sub-mark-rule c = search needs
 
 part-mark-rule-start : tie.Need-part-mark-rule-start Inv-loop μ-loop
-part-mark-rule-start c = omega (arith, rule-inside (c .before .before .before .before .before .pre .0) _ (omega arith) _ (c .before .before .before .loop .inv .1))
+part-mark-rule-start c = search needs
 
 part-mark-rule-end : tie.Need-part-mark-rule-end Inv-loop μ-loop
-part-mark-rule-end c = omega (arith, rule-inside (c .before .before .before .before .before .pre .0) _ (omega arith) _ (c .before .before .before .loop .inv .1))
+part-mark-rule-end c = search needs
 
 mark-rule-requires : tie.Need-mark-rule-requires Inv-loop μ-loop
-mark-rule-requires c κs = (standing-part (c .before .before .before .before .before .before .pre .0) _ (omega arith) _ (c .before .before .before .before .loop .inv .1) (c .before .before .extent-at .ensures), c .before .before .before .before .loop .inv .2)
+mark-rule-requires c κs = (standing-part (c .before .before .before .before .before .before .pre .0) _ (omega arith) _ (c .before .before .before .before .loop .inv .1) (c .before .before .extent .ensures), c .before .before .before .before .loop .inv .2)
 
 add-i : tie.Need-add-i Inv-loop μ-loop
 add-i c = search needs
@@ -52,10 +52,11 @@ loop-less : tie.Need-loop-less Inv-loop μ-loop
 loop-less c = search needs
 
 loop-again : tie.Need-loop-again Inv-loop μ-loop
-loop-again c = let l = c .before .before .before .before .before .loop in
-    let x = c .before .before .before .extent-at .ensures in (
+loop-again c =
+    let l = c .before .before .before .before .before .loop in
+    let x = c .before .before .before .extent .ensures in (
       omega arith,
-      next-rule _ _ _ _ (l .inv .1) (x .2),
+      next-rule _ _ _ _ (l .inv .1) x,
       c .mark-rule .ensures .0,
       grown-more _ _ (l .inv .3) (grown-as (ap (drawsIn _) (part-rule _ _ _ _ (l .inv .1) x)) (c .mark-rule .ensures .1)),
     )
@@ -71,7 +72,7 @@ mark-edges-spec =
     μ-loop
     mul-at
     loop-holds
-    extent-at-requires
+    extent-requires
     add-mark-rule
     sub-mark-rule
     part-mark-rule-start
