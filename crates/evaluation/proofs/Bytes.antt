@@ -63,26 +63,3 @@ pub term-variable : (v : List ℕ) (i : ℕ) {r : code.Term} → Means r (termIn
 term-variable v i h k = body-term v i h .variable ∙ place-variable v i k
 
 -- ---- variables
-
-variables-length : (s : List ℕ) (n : ℕ) → length (variablesAt s n) ≡ n
-unfolding variablesAt
-variables-length s zero = refl
-variables-length s (suc n) = rw length-append (let e = variables-length s n in omega arith)
-
--- variable x of a file is read from byte 8 x + 3 on
-pub variable-read : (s : List ℕ) (n x : ℕ) → x < n → variableIn (variablesAt s n) x ≡ variableOf (drop (8 * x + 3) s)
-unfolding variablesAt
-variable-read s zero x h = let f : ⊥ = omega arith in absurd f
-variable-read s (suc n) x h = go (ltb x n) refl (variable-read s n x)
-  where
-    v : Variable
-    v = variableOf (drop (8 * n + 3) s)
-
-    go : (t : Bool) → ltb x n ≡ t → (x < n → variableIn (variablesAt s n) x ≡ variableOf (drop (8 * x + 3) s))
-        → getD (variablesAt s n ++ (v ∷ [])) x noVariable ≡ variableOf (drop (8 * x + 3) s)
-    go true e f =
-        let k : x < n = ltb-true x n e in
-        List·getD-append (variablesAt s n) (v ∷ []) noVariable x (let q = variables-length s n in omega arith) ∙ f k
-    go false e f =
-        let k : n ≡ x = omega (arith, ltb-false x n e) in
-        getD-at (variablesAt s n) v [] noVariable x (variables-length s n ∙ k) ∙ ap (λ (m : ℕ). variableOf (drop (8 * m + 3) s)) k

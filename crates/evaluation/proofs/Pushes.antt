@@ -13,7 +13,7 @@ use Rattle.program.specs.Directions.{direction, bySign, byOp, byRange}
 use Rattle.program.specs.declared.Direction.{Direction}
 use Rattle.program.specs.declared.Direction.the-variants.{Rising, Falling, Mixed}
 use Rattle.evaluation.specs.Terms.{byBounds}
-use Rattle.evaluation.proofs.Bytes.{variable-read}
+use Rattle.program.proofs.Places.{variable-at}
 
 -- what holds of k and k + 1 holds between them
 between : (P : ℕ → Type 0) (k n : ℕ) → k ≤ n → n ≤ k + 1 → P k → P (k + 1) → P n
@@ -77,4 +77,4 @@ module _ (vs : List Variable) (r : Rule) (i : ℕ) where
 pub range-read : (s : List ℕ) (n x : ℕ) {y : ℕ} {low high : ℤ} → x < n → x ≡ y
     → low ≡ variableOf (drop (8 * x + 3) s) .low → high ≡ variableOf (drop (8 * x + 3) s) .high
     → byBounds low high ≡ byRange (variableIn (variablesAt s n) y)
-range-read s n x h e p q = rw (p, q, ← e, variable-read s n x h)
+range-read s n x h e p q = rw (p, q, ← e, variable-at s n x h)

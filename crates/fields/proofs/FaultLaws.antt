@@ -10,12 +10,12 @@ use lib.ListN.{length}
 use Rattle.program.specs.Tables.{anyBelow}
 use Rattle.program.specs.Program.{Variable, Term, termIn, variablesAt}
 use Rattle.program.specs.Refusals.{undeclaredTerm, wrongTerm, outsideTerm, repeatedTerm, negativeTerm}
+use Rattle.program.proofs.Conditions.{any-more}
 use Rattle.program.proofs.Places.{variables-length}
 use Rattle.evaluation.specs.Terms.{Means}
 use Rattle.evaluation.specs.declared.Term as code
 use Rattle.fields.specs.Faults.{TermFaults, FaultsBelow}
 use Rattle.fields.specs.declared.faults.Faults.{Faults}
-use Rattle.fields.proofs.TermLaws.{any-none, any-more}
 
 -- a variable past the declared ones
 pub undeclared-term : (s : List ℕ) (n : ℕ) (t : Term) → leb n (t .variable) ≡ undeclaredTerm (variablesAt s n) t

@@ -10,7 +10,6 @@ use lib.Signed.{ltZ, mag}
 use mir.Syntax.{w64}
 use mir.Val.{SFits, ofZ}
 use native.Mathlib.Omega.{arith}
-use native.Mathlib.Numerals.{add-one}
 use borrow.Author.Tests.{eq-eqb, ne-eqb, eqb-false, lt-ltb, le-ltb, lt-leb, le-leb}
 use Rattle.format.specs.Limits.{maxNumber, maxCoefficient}
 use Rattle.format.specs.Numbers.{beyond}
@@ -18,6 +17,7 @@ use Rattle.program.specs.Tables.{anyBelow}
 use Rattle.program.specs.Program.{Variable, Term, termsOf, termIn, variableIn, variableOf, variablesAt, noVariable}
 use Rattle.program.specs.Refusals.{literalPlace, wrongOp, mustBeZero, wrongTerm, outsideTerm, repeatedTerm, negativeTerm}
 use Rattle.program.proofs.Bodies.{terms-length, term-at}
+use Rattle.program.proofs.Conditions.{any-more}
 use Rattle.program.proofs.Places.{variables-length, variable-at}
 
 -- a number is 0 where its bits are
@@ -97,15 +97,6 @@ module _ (form i : ℕ) where
     pub outside-sum : literalPlace form i ≡ false → form ≡ 1 → eqb (natAbs (t .number)) 0 ≡ false → beyond maxCoefficient (t .number) ≡ outsideTerm form i t
     unfolding outsideTerm
     outside-sum k f z = simp (k, eq-eqb form 1 f, z)
-
--- one place more
-pub any-none : (p : ℕ → Bool) → false ≡ anyBelow 0 p
-unfolding anyBelow
-any-none p = refl
-
-pub any-more : (n : ℕ) (p : ℕ → Bool) (f b : Bool) → f ≡ anyBelow n p → b ≡ p n → (f || b) ≡ anyBelow (n + 1) p
-unfolding anyBelow
-any-more n p f b e q = rw (add-one, e, q)
 
 -- the variable of a term stands at its first byte
 pub variable-byte : (body : List ℕ) (i : ℕ) → 4 * i + 4 ≤ length body → termIn (termsOf body) i .variable ≡ getD body (4 * i) 0

@@ -5,8 +5,7 @@ use mathlib.Core.List.{List, [], _∷_}
 use mathlib.Core.Bool.{Bool, true, false, not, cond, _||_, _&&_}
 use lib.Dec.{eqb, ltb, leb}
 use lib.IntN.{ℤ, pos, natAbs}
-use lib.ListN.{length, getD, take, drop, length-drop}
-use lib.Seq.{take-all}
+use lib.ListN.{length, getD, take, drop}
 use lib.Signed.{ltZ}
 use native.Mathlib.Omega.{arith}
 use borrow.Author.Tests.{eq-eqb, ne-eqb, eqb-true, lt-ltb, le-ltb, le-leb, lt-leb, ltb-false, leb-false, leb-true}
@@ -18,6 +17,7 @@ use Rattle.program.specs.Refusals.{wrongLength, notTerms, wrongForm, outsideRan
 use Rattle.program.proofs.Bodies.{terms-length}
 use Rattle.program.proofs.Conditions.{below-none, none-below, never}
 use Rattle.program.proofs.Places.{variables-length, variable-at, sized-terms}
+use Rattle.evaluation.proofs.Bytes.{rest as part-rest}
 use Rattle.fields.specs.Faults.{FaultsBelow, faultsNumber, lengthRefusal}
 use Rattle.fields.specs.declared.faults.Faults.{Faults}
 use Rattle.fields.proofs.TermLaws.{negative-other}
@@ -190,10 +190,6 @@ unfolding wrongConstraint
 constraint-unknown form c h k = simp (ne-eqb form 1 h, ne-eqb form 2 k)
 
 -- ---- bodies
-
--- the part after the header is the body
-pub part-rest : (h : ℕ) (v : List ℕ) → take (length v - h) (drop h v) ≡ drop h v
-part-rest h v = take-all (length v - h) (drop h v) (simp length-drop (omega arith))
 
 first-six : {a a′ b b′ c c′ d d′ e e′ f f′ : Bool} → a ≡ a′ → b ≡ b′ → c ≡ c′ → d ≡ d′ → e ≡ e′ → f ≡ f′
     → firstOf ((7 when a) ∷ (8 when b) ∷ (9 when c) ∷ (10 when d) ∷ (11 when e) ∷ (12 when f) ∷ [])

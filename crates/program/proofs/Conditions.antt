@@ -65,6 +65,14 @@ below-some n p i h e = go (anyBelow n p) refl
     go true q = refl
     go false q = absurd (never e (none-below n p q i h))
 
-pub any-more : (n : ℕ) (p : ℕ → Bool) → anyBelow (n + 1) p ≡ (anyBelow n p || p n)
+pub any-next : (n : ℕ) (p : ℕ → Bool) → anyBelow (n + 1) p ≡ (anyBelow n p || p n)
 unfolding anyBelow
-any-more n p = rw add-one
+any-next n p = rw add-one
+
+-- a loop over the numbers below a bound, from its start and by one turn more
+pub any-none : (p : ℕ → Bool) → false ≡ anyBelow 0 p
+unfolding anyBelow
+any-none p = refl
+
+pub any-more : (n : ℕ) (p : ℕ → Bool) (f b : Bool) → f ≡ anyBelow n p → b ≡ p n → (f || b) ≡ anyBelow (n + 1) p
+any-more n p f b e q = rw (any-next n p, e, q)

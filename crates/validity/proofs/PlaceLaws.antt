@@ -11,7 +11,7 @@ use Rattle.sets.specs.Walk.{Marked}
 use Rattle.program.specs.Tables.{anyBelow}
 use Rattle.program.specs.Program.{Variable, Rule, termIn}
 use Rattle.program.specs.Directions.{direction, isMixed}
-use Rattle.program.proofs.Conditions.{any-more}
+use Rattle.program.proofs.Conditions.{any-next}
 use Rattle.validity.specs.Marks.{Grown, anyMixed, drawsEdge, drawsAt, drawsIn, shareIn, offendsAt, offendsIn}
 
 -- ---- rows that take in edges
@@ -35,7 +35,7 @@ module _ (p : ℕ → ℕ → ℕ → Bool) where
       → Grown r r″ (λ a b. anyBelow (n + 1) (λ i. p i a b))
   grown-more n {r} g h = record {
     is = λ a b ha hb. h .is a b ha hb ∙ ap (λ (t : Bool). t || p n a b) (g .is a b ha hb) ∙ or-assoc (r a b) (anyBelow n (λ i. p i a b)) (p n a b)
-        ∙ ap (λ (t : Bool). r a b || t) (sym (any-more n (λ i. p i a b)));
+        ∙ ap (λ (t : Bool). r a b || t) (sym (any-next n (λ i. p i a b)));
   }
 
   pub grown-done : {i n : ℕ} {r r′ : ℕ → ℕ → Bool} → i ≡ n → Grown r r′ (λ a b. anyBelow i (λ j. p j a b)) → Grown r r′ (λ a b. anyBelow n (λ j. p j a b))

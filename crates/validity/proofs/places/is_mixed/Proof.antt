@@ -6,7 +6,7 @@ use lib.ListN.{length}
 use Rattle.program.specs.Tables.{anyBelow}
 use Rattle.program.specs.Program.{ruleOf, variablesAt}
 use Rattle.program.specs.Directions.{direction, isMixed}
-use Rattle.fields.proofs.TermLaws.{any-none, any-more}
+use Rattle.program.proofs.Conditions.{any-none, any-more}
 use Rattle.validity.proofs.PlaceLaws.{mixed-done}
 use Rattle.validity.proofs.places.is_mixed.Statement.{statement}
 use Rattle.validity.proofs.places.is_mixed.Tie as tie

@@ -6,7 +6,7 @@ use lib.ListN.{length}
 use Rattle.program.specs.Tables.{anyBelow}
 use Rattle.program.specs.Program.{ruleOf, variablesAt}
 use Rattle.sets.specs.Walk.{rowHas}
-use Rattle.fields.proofs.TermLaws.{any-none, any-more}
+use Rattle.program.proofs.Conditions.{any-none, any-more}
 use Rattle.validity.specs.Marks.{offendsAt}
 use Rattle.validity.proofs.PlaceLaws.{offends-done}
 use Rattle.validity.proofs.places.offends.Statement.{statement}
