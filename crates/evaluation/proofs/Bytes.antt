@@ -1,16 +1,14 @@
 -- Terms and variables, by the bytes that they are read from.
-use Prim.Native.Nat.{ℕ, zero, suc, _+_, _-_, _*_, _<_, _≤_}
+use Prim.Native.Nat.{ℕ, _+_, _-_, _*_, _<_, _≤_}
 use mathlib.Core.Path.{_≡_, refl, sym, ap, ap₂, _∙_}
-use mathlib.Core.List.{List, [], _∷_, _++_}
-use mathlib.Core.Bool.{Bool, true, false}
+use mathlib.Core.List.{List}
 use native.Mathlib.Omega.{arith}
 use native.Mathlib.Nat.{add-sub-cancel-left}
-use lib.Dec.{ltb, lit<}
-use lib.ListN.{length, getD, take, drop, length-drop, length-append, List·getD-append}
-use lib.Seq.{take-all, getD-take, getD-drop, getD-at}
-use borrow.Author.Tests.{ltb-true, ltb-false}
+use lib.Dec.{lit<}
+use lib.ListN.{length, getD, take, drop, length-drop}
+use lib.Seq.{take-all, getD-take, getD-drop}
 use Rattle.format.specs.Numbers.{signed, signedAt}
-use Rattle.program.specs.Program.{Variable, Term, termsOf, termIn, variableIn, variableOf, variablesAt, noVariable}
+use Rattle.program.specs.Program.{Term, termsOf, termIn}
 use Rattle.program.proofs.Bodies.{termAt, term-at}
 use Rattle.evaluation.specs.Terms.{Means}
 use Rattle.evaluation.specs.declared.Term as code

@@ -1,12 +1,10 @@
 -- What is wrong with the terms of a body, one more term at a time.
-use Prim.Native.Nat.{ℕ, _+_, _*_, _/_, _<_, _≤_}
-use mathlib.Core.Path.{_≡_, refl, sym, ap, ap₂, _∙_}
-use mathlib.Core.List.{List, [], _∷_}
-use mathlib.Core.Bool.{Bool, true, false, not, _||_}
-use native.Mathlib.Omega.{arith}
+use Prim.Native.Nat.{ℕ, _+_}
+use mathlib.Core.Path.{_≡_, sym, ap, _∙_}
+use mathlib.Core.List.{List}
+use mathlib.Core.Bool.{Bool, false, _||_}
 use lib.Dec.{leb}
 use lib.IntN.{ℤ}
-use lib.ListN.{length}
 use Rattle.program.specs.Tables.{anyBelow}
 use Rattle.program.specs.Program.{Variable, Term, termIn, variablesAt}
 use Rattle.program.specs.Refusals.{undeclaredTerm, wrongTerm, outsideTerm, repeatedTerm, negativeTerm}

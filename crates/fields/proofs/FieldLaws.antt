@@ -1,22 +1,19 @@
 -- Whole fields, and what stands at a place of the file, case by case.
-use Prim.Native.Nat.{ℕ, suc, _+_, _*_, _<_, _≤_}
-use mathlib.Core.Path.{_≡_, refl, sym, ap, _∙_}
-use mathlib.Core.List.{List, [], _∷_}
-use mathlib.Core.Bool.{Bool, true, false, not, _||_, _&&_}
-use lib.Dec.{eqb, leb}
-use lib.ListN.{length, getD}
+use Prim.Native.Nat.{ℕ, _+_, _<_, _≤_}
+use mathlib.Core.Path.{_≡_, refl}
+use mathlib.Core.List.{List}
+use mathlib.Core.Bool.{Bool, true, false, not, _&&_}
+use lib.Dec.{leb}
+use lib.ListN.{length}
 use native.Mathlib.Omega.{arith}
-use borrow.Author.Tests.{eq-eqb, ne-eqb, lt-ltb, le-ltb, le-leb, lt-leb, leb-true}
+use borrow.Author.Tests.{ne-eqb, lt-ltb, le-ltb, le-leb, lt-leb, leb-true}
 use Rattle.format.specs.Limits.{maxVariables, maxRules, maxConstraints}
-use Rattle.program.specs.Tables.{Condition, _when_, firstOf}
 use Rattle.program.specs.Fields.{tagAt, lengthAt, nextAt}
-use Rattle.program.specs.Program.{Variable, Program, itemOf, variablesAt}
-use Rattle.program.specs.Refusals.{cutShort, unknownTag, tagBelow, oneTooMany, wrongLength, itemRefusal, valueRefusal}
+use Rattle.program.specs.Program.{Variable, Program}
+use Rattle.program.specs.Refusals.{cutShort, unknownTag, tagBelow, oneTooMany, valueRefusal}
 use Rattle.fields.specs.Standing.{fieldAt}
-use Rattle.fields.specs.Faults.{lengthRefusal, Describes}
-use Rattle.fields.specs.declared.cursor.Field.{Field}
+use Rattle.fields.specs.Faults.{lengthRefusal}
 use Rattle.fields.specs.declared.cursor.Field.the-variants.{Whole, Short, End}
-use Rattle.program.specs.declared.Counts.{Counts}
 
 module _ (s : List ℕ) (at : ℕ) where
   pub field-end : length s ≤ at → End ≡ fieldAt s at

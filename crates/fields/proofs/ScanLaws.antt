@@ -1,7 +1,7 @@
 -- The fields of a file one after the other.
-use Prim.Native.Nat.{ℕ, zero, suc, _+_, _*_, _-_, _<_, _≤_}
-use mathlib.Core.Path.{_≡_, refl, sym, ap, _∙_, subst}
-use mathlib.Core.List.{List, [], _∷_}
+use Prim.Native.Nat.{ℕ, _+_, _*_, _-_, _<_, _≤_}
+use mathlib.Core.Path.{_≡_, refl, sym, ap, _∙_}
+use mathlib.Core.List.{List}
 use mathlib.Core.Logic.{_⊎_, ⊎-elim}
 use mathlib.Core.Bool.{Bool, true, false, cond}
 use lib.Dec.{leb, lit<}
@@ -12,15 +12,14 @@ use native.Mathlib.Omega.{arith}
 use borrow.Author.Tests.{leb-true, leb-false}
 use denote.Enum.Declared.{tagOf, declared}
 use Rattle.format.specs.Limits.{maxFile, maxVariables, maxRules, maxConstraints}
-use Rattle.program.specs.Tables.{Condition, _when_, firstOf}
 use Rattle.program.specs.Fields.{tagAt, lengthAt, valueAt, nextAt, place, tagBefore}
-use Rattle.program.specs.Program.{Program, program, variablesAt}
+use Rattle.program.specs.Program.{Program, program}
 use Rattle.program.specs.Refusals.{cutShort, valueRefusal, fieldRefusal}
 use Rattle.program.specs.Reading.{Passed, Whole, Reads, refused, bad-field, too-long, numberOf, counted}
 use Rattle.program.specs.declared.Counts.{Counts}
 use Rattle.program.specs.declared.Refusal.{Refusal}
 use Rattle.program.specs.declared.Refusal.the-variants.{FileTooLong, CutShort, UnknownTag, TagBelow, OneTooMany, WrongLength, WrongForm, OutsideRange, Undeclared, WrongCount, VariableTwice, NegativeProduct, NotValid}
-use Rattle.program.proofs.Places.{variablesTo, passed-none, passed-more, passed-inside, passed-fine, place-next, before-next, not-cut, variables-stand, counts, variables-length}
+use Rattle.program.proofs.Places.{passed-none, passed-more, passed-inside, passed-fine, place-next, before-next, not-cut, variables-stand, counts, variables-length}
 use Rattle.program.proofs.Counting.{countsTo, counts-more}
 use Rattle.fields.specs.Standing.{fieldAt}
 use Rattle.fields.specs.Faults.{Describes, checkedNumber}

@@ -1,22 +1,22 @@
 -- What may stand in a term, case by case.
-use Prim.Native.Nat.{ℕ, zero, suc, _+_, _*_, _-_, _/_, _^_, _<_, _≤_}
-use mathlib.Core.Path.{_≡_, refl, sym, ap, _∙_, subst}
+use Prim.Native.Nat.{ℕ, suc, _+_, _*_, _-_, _^_, _<_, _≤_}
+use mathlib.Core.Path.{_≡_, refl, sym, ap, _∙_}
 use mathlib.Core.List.{List}
-use mathlib.Core.Bool.{Bool, true, false, not, cond, _||_, _&&_}
-use lib.Dec.{eqb, leb}
+use mathlib.Core.Bool.{Bool, true, false, not, _||_}
+use lib.Dec.{eqb}
 use lib.IntN.{ℤ, pos, negsuc, natAbs}
 use lib.ListN.{length, getD, drop, List·getD-eq-default}
-use lib.Signed.{ltZ, mag}
+use lib.Signed.{ltZ}
 use mir.Syntax.{w64}
 use mir.Val.{SFits, ofZ}
 use native.Mathlib.Omega.{arith}
-use borrow.Author.Tests.{eq-eqb, ne-eqb, eqb-false, lt-ltb, le-ltb, lt-leb, le-leb}
+use borrow.Author.Tests.{eq-eqb, ne-eqb, eqb-false}
 use Rattle.format.specs.Limits.{maxNumber, maxCoefficient}
 use Rattle.format.specs.Numbers.{beyond}
 use Rattle.program.specs.Tables.{anyBelow}
 use Rattle.program.specs.Program.{Variable, Term, termsOf, termIn, variableIn, variableOf, variablesAt, noVariable}
 use Rattle.program.specs.Refusals.{literalPlace, wrongOp, mustBeZero, wrongTerm, outsideTerm, repeatedTerm, negativeTerm}
-use Rattle.program.proofs.Bodies.{terms-length, term-at}
+use Rattle.program.proofs.Bodies.{term-at}
 use Rattle.program.proofs.Conditions.{any-more}
 use Rattle.program.proofs.Places.{variables-length, variable-at}
 

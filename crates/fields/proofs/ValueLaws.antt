@@ -2,17 +2,17 @@
 use Prim.Native.Nat.{ℕ, suc, _+_, _*_, _-_, _/_, _%_, _<_, _≤_}
 use mathlib.Core.Path.{_≡_, refl, sym, ap, ap₂, _∙_}
 use mathlib.Core.List.{List, [], _∷_}
-use mathlib.Core.Bool.{Bool, true, false, not, cond, _||_, _&&_}
+use mathlib.Core.Bool.{Bool, true, false, not, cond, _||_}
 use lib.Dec.{eqb, ltb, leb}
-use lib.IntN.{ℤ, pos, natAbs}
+use lib.IntN.{ℤ, natAbs}
 use lib.ListN.{length, getD, take, drop}
 use lib.Signed.{ltZ}
 use native.Mathlib.Omega.{arith}
 use borrow.Author.Tests.{eq-eqb, ne-eqb, eqb-true, lt-ltb, le-ltb, le-leb, lt-leb, ltb-false, leb-false, leb-true}
 use Rattle.format.specs.Limits.{maxNumber, maxTerms}
 use Rattle.format.specs.Numbers.{signedAt, beyond}
-use Rattle.program.specs.Tables.{Condition, _when_, firstOf, anyBelow, Entry, _⇒_, select}
-use Rattle.program.specs.Program.{Variable, Term, Item, variable, rule, constraint, variableOf, ruleOf, constraintOf, itemOf, termsOf, termIn, variableIn, variablesAt}
+use Rattle.program.specs.Tables.{_when_, firstOf, anyBelow}
+use Rattle.program.specs.Program.{Variable, variable, rule, constraint, variableOf, ruleOf, constraintOf, termsOf, termIn, variablesAt}
 use Rattle.program.specs.Refusals.{wrongLength, notTerms, wrongForm, outsideRange, undeclared, wrongCount, variableTwice, negativeProduct, itemRefusal, unknownForm, wrongHead, wrongCountOf, wrongConstraint, bodyForm, wrongTerm, outsideTerm, undeclaredTerm, repeatedTerm, negativeTerm, notFrom}
 use Rattle.program.proofs.Bodies.{terms-length}
 use Rattle.program.proofs.Conditions.{below-none, none-below, never}

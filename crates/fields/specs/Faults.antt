@@ -4,7 +4,7 @@ use mathlib.Core.Path.{_≡_}
 use mathlib.Core.List.{List, [], _∷_}
 use mathlib.Core.Bool.{Bool, true}
 use lib.ListN.{length}
-use Rattle.program.specs.Tables.{Condition, _when_, firstOf, anyBelow}
+use Rattle.program.specs.Tables.{_when_, firstOf, anyBelow}
 use Rattle.program.specs.Program.{Variable, Term, Program, itemOf, termIn, variablesAt}
 use Rattle.program.specs.Refusals.{wrongLength, itemRefusal, wrongTerm, outsideTerm, undeclaredTerm, repeatedTerm, negativeTerm}
 use Rattle.program.specs.Reading.{numberOf}

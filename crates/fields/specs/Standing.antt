@@ -6,7 +6,6 @@ use lib.ListN.{length}
 use lib.Dec.{leb}
 use Rattle.program.specs.Fields.{tagAt, lengthAt, nextAt}
 use Rattle.program.specs.Refusals.{cutShort}
-use Rattle.fields.specs.declared.cursor.Cursor.{Cursor}
 use Rattle.fields.specs.declared.cursor.Field.{Field}
 use Rattle.fields.specs.declared.cursor.Field.the-variants.{Whole, Short, End}
 

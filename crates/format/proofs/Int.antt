@@ -1,14 +1,14 @@
 -- ℤ for `omega`. Each z is up z − dn z, two naturals, of which one is 0. A rule of `int` turns an order or an equation of ℤ into one of
 -- naturals, in the hypotheses (`-out`) and in the goal (`-in`). A sum, a difference or a product stands in such a statement as an
 -- unknown z; list what it is: `omega (int, sum-is a b)`. Assumes nothing.
-use mathlib.Core.Path.{_≡_, refl, sym, ap, _∙_, subst}
+use mathlib.Core.Path.{_≡_, refl, ap, subst}
 use mathlib.Core.Bool.{Bool, true, false, not, cond}
 use Prim.Native.Nat.{ℕ, zero, suc, _+_, _*_, _-_, _≤_, _<_}
 use native.Mathlib.Nat.{mul-le-mul-left, mul-le-mul}
 use native.Mathlib.Omega.{arith}
 use lib.IntN.{ℤ, pos, negsuc, negℤ, natAbs, subℕ, _+ℤ_, _-ℤ_, _*ℤ_}
 use lib.Signed.{_≤ℤ_, _<ℤ_, leZ, ltZ, leZ-yes, ltZ-yes}
-use lib.Dec.{T, leb, ltb, leb→le, le→leb, ltb→lt, lt→ltb, nltb→le, nleb→lt, not-T}
+use lib.Dec.{T, ltb, leb→le, le→leb, ltb→lt, lt→ltb, nltb→le, nleb→lt, not-T}
 
 abbrev pub up : ℤ → ℕ
 up (pos n) = n

@@ -1,13 +1,10 @@
 -- One field more of a kind.
-use Prim.Native.Nat.{ℕ, zero, suc, _+_, _≤_}
-use mathlib.Core.Path.{_≡_, refl, sym, ap, _∙_}
+use Prim.Native.Nat.{ℕ, suc, _+_, _≤_}
+use mathlib.Core.Path.{_≡_, sym, _∙_}
 use mathlib.Core.List.{List}
 use native.Mathlib.Numerals.{add-one}
-use native.Mathlib.Omega.{arith}
 use borrow.Author.Tests.{ne-eqb}
-use lib.ListN.{length}
 use Rattle.program.specs.Fields.{tagAt, place}
-use Rattle.program.specs.Program.{program}
 use Rattle.program.specs.Reading.{counted}
 use Rattle.program.specs.declared.Counts.{Counts}
 use Rattle.program.proofs.Places as places

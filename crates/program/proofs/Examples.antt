@@ -1,22 +1,21 @@
 -- Document 01's small examples, shown of the specification; and two wrong readers that it rules out.
-use Prim.Native.Nat.{ℕ, zero, suc, _+_, _<_}
+use Prim.Native.Nat.{ℕ}
 use mathlib.Core.Path.{_≡_, refl, sym, _∙_}
-use mathlib.Core.Logic.{_⊎_, inl, inr}
+use mathlib.Core.Logic.{inr}
 use mathlib.Core.List.{List, [], _∷_}
-use mathlib.Core.Bool.{Bool, true, false}
+use mathlib.Core.Bool.{Bool, false}
 use lib.Dec.{lit<, lit≤}
 use lib.ListN.{length}
 use native.Mathlib.Omega.{arith}
 use Rattle.format.specs.Numbers.{beyond}
-use Rattle.sets.specs.Walk.{Walk}
 use Rattle.sets.specs.Walk as walk
 use Rattle.program.specs.Tables.{anyBelow}
 use Rattle.program.specs.Fields.{place, tagBefore}
-use Rattle.program.specs.Program.{Program, program, termsOf, ruleIn, termIn}
+use Rattle.program.specs.Program.{Program, program, termsOf, ruleIn}
 use Rattle.program.specs.Refusals.{cutShort, unknownTag, tagBelow, oneTooMany, notTerms, wrongLength, literalPlace, wrongOp, mustBeZero, wrongTerm, unknownForm, wrongConstraint, wrongForm, outsideTerm, outsideRange, undeclaredTerm, wrongHead, undeclared, wrongCountOf, wrongCount, repeatedTerm, variableTwice, negativeTerm, negativeProduct, itemRefusal, valueRefusal, fieldRefusal}
 use Rattle.program.specs.Directions.{direction, isMixed}
-use Rattle.program.specs.Components.{draws, edge, Offends, Valid, FirstOffending}
-use Rattle.program.specs.Reading.{Answer, accepted, refused, Reads, bad-field, not-valid, whole, Passed}
+use Rattle.program.specs.Components.{draws, edge, Valid}
+use Rattle.program.specs.Reading.{Answer, accepted, refused, Reads, bad-field, not-valid, whole}
 use Rattle.program.proofs.Conditions.{never, none-below}
 use Rattle.program.proofs.Places.{passed-none, passed-more}
 use Rattle.program.proofs.Unique.{reads-unique}

@@ -1,8 +1,8 @@
 -- Document 01, "Which way a variable pushes": edges, components, validity.
-use Prim.Native.Nat.{ℕ, _<_, _≤_}
+use Prim.Native.Nat.{ℕ, _<_}
 use mathlib.Core.Path.{_≡_}
 use mathlib.Core.Logic.{_⊎_}
-use mathlib.Core.Bool.{Bool, true, false, _||_, _&&_}
+use mathlib.Core.Bool.{Bool, true, _||_, _&&_}
 use lib.ListN.{length}
 use lib.Dec.{eqb}
 use Rattle.sets.specs.Walk.{Walk}

@@ -4,8 +4,8 @@ use mathlib.Core.List.{List, [], _∷_}
 use mathlib.Core.Bool.{Bool, true, false, cond}
 use lib.IntN.{ℤ, pos}
 use lib.Signed.{leZ, ltZ}
-use Rattle.program.specs.Tables.{Entry, _⇒_, select}
-use Rattle.program.specs.Program.{Variable, Term, Rule, variableIn, termIn}
+use Rattle.program.specs.Tables.{_⇒_, select}
+use Rattle.program.specs.Program.{Variable, Rule, variableIn, termIn}
 use Rattle.program.specs.declared.Direction.{Direction}
 use Rattle.program.specs.declared.Direction.the-variants.{Rising, Falling, Mixed}
 

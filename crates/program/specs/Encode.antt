@@ -3,9 +3,9 @@ use Prim.Native.Nat.{ℕ, _/_, _%_, _<_, _≤_}
 use mathlib.Core.Path.{_≡_}
 use mathlib.Core.List.{List, [], _∷_, _++_}
 use lib.ListN.{length, getD}
-use Rattle.format.specs.Limits.{maxFile, maxVariables, maxRules, maxConstraints, maxTerms}
+use Rattle.format.specs.Limits.{maxFile, maxVariables, maxRules, maxConstraints}
 use Rattle.format.specs.Numbers.{bytesOf}
-use Rattle.program.specs.Program.{Variable, Term, Rule, Constraint, Program, Item, variable, rule, constraint, variableIn, ruleIn}
+use Rattle.program.specs.Program.{Variable, Term, Rule, Constraint, Program, variable, rule, constraint}
 use Rattle.program.specs.Refusals.{itemRefusal}
 use Rattle.program.specs.Components.{Valid}
 

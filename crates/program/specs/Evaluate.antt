@@ -5,7 +5,7 @@ use mathlib.Core.Bool.{Bool, true, false, cond, _&&_}
 use lib.IntN.{ℤ, pos, natAbs, _+ℤ_, _*ℤ_}
 use lib.Signed.{leZ, ltZ}
 use lib.ListN.{length}
-use Rattle.program.specs.Tables.{Entry, _⇒_, select, anyBelow}
+use Rattle.program.specs.Tables.{_⇒_, select, anyBelow}
 use Rattle.program.specs.Program.{Term, Rule, Constraint, termIn}
 use Rattle.program.specs.declared.Given.{Given}
 use Rattle.program.specs.declared.Given.the-variants.{Nothing, Value}

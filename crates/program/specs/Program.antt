@@ -3,10 +3,10 @@ use Prim.Native.Nat.{ℕ, zero, suc, _+_, _*_}
 use mathlib.Core.List.{List, [], _∷_, _++_}
 use mathlib.Core.Bool.{Bool}
 use lib.IntN.{ℤ, pos}
-use lib.ListN.{length, getD, drop}
+use lib.ListN.{getD, drop}
 use lib.Dec.{eqb}
 use Rattle.format.specs.Numbers.{signed, signedAt}
-use Rattle.program.specs.Tables.{Entry, _⇒_, select}
+use Rattle.program.specs.Tables.{_⇒_, select}
 use Rattle.program.specs.Fields.{tagAt, valueAt, place}
 
 -- "kind (1 byte; 0 standard, 1 founded), low (2), high (2)"

@@ -4,7 +4,7 @@ use mathlib.Core.Path.{_≡_}
 use mathlib.Core.List.{List, [], _∷_}
 use lib.ListN.{length}
 use Rattle.format.specs.Limits.{maxFile}
-use Rattle.program.specs.Tables.{Entry, _⇒_, select}
+use Rattle.program.specs.Tables.{_⇒_, select}
 use Rattle.program.specs.Fields.{place, tagAt}
 use Rattle.program.specs.Program.{Program, program}
 use Rattle.program.specs.Refusals.{fieldRefusal}

@@ -1,6 +1,6 @@
 -- Document 01, "When a file or call is turned down": a condition for each of the refusals 2 to 12.
 use Prim.Native.Nat.{ℕ, _+_, _*_}
-use mathlib.Core.List.{List, [], _∷_, _++_}
+use mathlib.Core.List.{List, [], _∷_}
 use mathlib.Core.Bool.{Bool, true, false, not, cond, _||_, _&&_}
 use lib.IntN.{ℤ, pos, natAbs}
 use lib.Signed.{ltZ}
@@ -8,9 +8,9 @@ use lib.ListN.{length}
 use lib.Dec.{leb, ltb, eqb}
 use Rattle.format.specs.Limits.{maxVariables, maxRules, maxConstraints, maxTerms, maxNumber, maxCoefficient}
 use Rattle.format.specs.Numbers.{beyond}
-use Rattle.program.specs.Tables.{Entry, _⇒_, select, Condition, _when_, firstOf, anyBelow}
+use Rattle.program.specs.Tables.{_⇒_, select, Condition, _when_, firstOf, anyBelow}
 use Rattle.program.specs.Fields.{tagAt, valueAt, nextAt, place, tagBefore}
-use Rattle.program.specs.Program.{Variable, Term, Rule, Constraint, Program, Item, variable, rule, constraint, none, itemOf, program, variableIn, termIn, founded}
+use Rattle.program.specs.Program.{Variable, Term, Program, Item, variable, rule, constraint, none, itemOf, program, variableIn, termIn, founded}
 
 -- 2: "field cut short", in its value or in its tag and length
 unfoldable pub cutShort : List ℕ → ℕ → Bool

@@ -1,13 +1,13 @@
 -- What the layers above rely on, for an accepted file s and the program P that it means. What acceptance promises of each variable, rule
 -- and constraint is `accepts-promises` (Rattle.program.proofs.Promises).
 use Prim.Native.Nat.{ℕ, _+_, _*_, _<_, _≤_}
-use mathlib.Core.Path.{_≡_, refl, sym, ap, _∙_}
+use mathlib.Core.Path.{_≡_, refl, ap, _∙_}
 use mathlib.Core.List.{List}
 use native.Mathlib.Nat.{add-zero}
 use native.Mathlib.Omega.{arith}
 use lib.ListN.{length, drop}
-use Rattle.program.specs.Fields.{place, valueAt, lengthAt, nextAt}
-use Rattle.program.specs.Program.{Variable, Rule, Program, program, variableOf, ruleOf, constraintOf, variableIn, ruleIn, constraintIn, variablesAt}
+use Rattle.program.specs.Fields.{place, nextAt}
+use Rattle.program.specs.Program.{Variable, Rule, Program, program, variableOf, variableIn, variablesAt}
 use Rattle.program.specs.Reading.{Accepts, Whole}
 use Rattle.program.proofs.Places.{place-next, passed-fine, variables-stand, variable-stands, rule-at, constraint-at, rule-length, constraint-length}
 use Rattle.program.proofs.Promises.{RulePromise, CountPromise, rule-promised}

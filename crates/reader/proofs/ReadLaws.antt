@@ -2,8 +2,6 @@
 use Prim.Native.Nat.{ℕ}
 use mathlib.Core.Path.{_≡_, sym, subst}
 use mathlib.Core.List.{List}
-use lib.ListN.{length}
-use Rattle.program.specs.Fields.{place}
 use Rattle.program.specs.Program.{program}
 use Rattle.program.specs.Components as components
 use Rattle.program.specs.Reading.{Whole, Reads, accepted, refused, whole, not-valid, numberOf}

@@ -15,7 +15,6 @@ use Rattle.sets.specs.Walk as walk
 use Rattle.sets.proofs.Bits.{bit-zero}
 use Rattle.sets.proofs.Walks.{stops-below}
 use Rattle.program.specs.Tables.{anyBelow}
-use Rattle.program.specs.Fields.{place}
 use Rattle.program.specs.Program.{Variable, Rule, Program, program, ruleIn, termIn}
 use Rattle.program.specs.Components as components
 use Rattle.program.specs.Components.{draws, edge, Reaches, Share, Offends}

@@ -6,7 +6,7 @@ use Rattle.program.specs.Fields.{place}
 use Rattle.program.specs.Program.{program}
 use Rattle.program.specs.Components as components
 use Rattle.program.specs.Components.{FirstOffending}
-use Rattle.program.specs.Reading.{Whole, RuleField}
+use Rattle.program.specs.Reading.{RuleField}
 use Rattle.validity.specs.declared.Judged.{Judged}
 use Rattle.validity.specs.declared.Judged.the-variants.{Valid, Offending}
 

@@ -1,7 +1,6 @@
-use mathlib.Core.Path.{_≡_, refl, sym, ap, ap₂, _∙_}
-use Prim.Native.Nat.{ℕ, suc, _≤_, _<_, _+_, _*_, _-_}
+use Prim.Native.Nat.{suc, _+_, _*_, _-_}
 use native.Mathlib.Omega.{arith}
-use lib.IntN.{ℤ, negsuc, natAbs}
+use lib.IntN.{negsuc}
 use Rattle.format.proofs.Ints.{low16, high16, high16-is, sfits-abs, back}
 use borrow.Author.Needs.{needs}
 use Rattle.format.proofs.number.Statement.{statement}

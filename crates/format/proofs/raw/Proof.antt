@@ -1,10 +1,8 @@
-use mathlib.Core.Path.{_≡_, refl, sym, ap, _∙_, subst}
-use Prim.Native.Nat.{ℕ, _+_, _≤_, _<_}
-use lib.IntN.{ℤ, pos, negℤ, natAbs, _+ℤ_}
-use lib.Dec.{T}
-use lib.Signed.{ltZ}
+use mathlib.Core.Path.{refl, sym, ap, subst}
+use Prim.Native.Nat.{_<_}
+use lib.IntN.{ℤ, pos, natAbs}
 use mir.Syntax.{w16, w64}
-use mir.Val.{toZ, ofZ, Fits}
+use mir.Val.{ofZ}
 use mir.Facts.{toZ-ofZ, toZ-pos}
 use native.Mathlib.Omega.{arith}
 use Rattle.format.proofs.Ints.{raw-negative, raw-positive, raw-small, sfits-abs}

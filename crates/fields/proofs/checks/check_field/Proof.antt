@@ -1,8 +1,7 @@
 use native.Mathlib.Omega.{arith}
-use mathlib.Core.Path.{_≡_, refl, sym, ap, _∙_}
+use mathlib.Core.Path.{sym, ap, _∙_}
 use lib.ListN.{length}
-use Prim.Native.Nat.{ℕ}
-use Rattle.program.specs.Program.{Program, Variable}
+use Rattle.program.specs.Program.{Variable}
 use mathlib.Core.List.{List}
 use Rattle.program.proofs.Places.{variables-length}
 use Rattle.fields.proofs.FieldLaws.{whole-unknown, whole-below, whole-many, whole-value}

@@ -1,5 +1,5 @@
 use native.Mathlib.Omega.{arith}
-use mathlib.Core.Path.{_≡_, refl, sym, ap, _∙_}
+use mathlib.Core.Path.{sym, _∙_}
 use Rattle.fields.proofs.TermLaws.{outside-literal, outside-plain, outside-zero, outside-sum}
 use mir.Facts.{toZ-ofZ}
 use borrow.Author.Needs.{needs}

@@ -2,9 +2,7 @@ use Rattle.program.proofs.Conditions.{any-none}
 use native.Mathlib.Omega.{arith}
 use borrow.Author.Needs.{needs}
 use mathlib.Core.Path.{_≡_}
-use Prim.Native.Nat.{_≤_, _<_, _-_, _*_, _+_}
-use lib.ListN.{length, getD}
-use mathlib.Core.Bool.{false}
+use Prim.Native.Nat.{_≤_, _-_}
 use Rattle.program.specs.Tables.{anyBelow}
 use Rattle.fields.proofs.TermLaws.{repeated-more, repeated-done, same-as}
 use Rattle.fields.proofs.terms.is_repeated.Statement.{statement}

@@ -1,4 +1,3 @@
-use mathlib.Core.Path.{_≡_, refl, sym, ap, _∙_}
 use Rattle.fields.proofs.TermLaws.{wrong-op, wrong-zero, wrong-none}
 use mir.Facts.{toZ-ofZ}
 use borrow.Author.Needs.{needs}

@@ -1,5 +1,3 @@
-use native.Mathlib.Omega.{arith}
-use mathlib.Core.Path.{_≡_, refl, sym, ap, _∙_}
 use Rattle.fields.proofs.TermLaws.{zero-literal, zero-plain}
 use borrow.Author.Needs.{needs}
 use Rattle.fields.proofs.terms.is_zero_place.Statement.{statement}

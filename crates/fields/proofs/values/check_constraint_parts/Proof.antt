@@ -1,11 +1,9 @@
 use mathlib.Core.Bool.{false}
-use mathlib.Core.Path.{_≡_, refl, sym, ap, _∙_}
+use mathlib.Core.Path.{_≡_, refl, ap, _∙_}
 use mir.Syntax.{w64}
 use mir.Val.{toZ, ofZ}
 use Rattle.format.specs.Limits.{maxNumber}
-use Rattle.format.specs.Numbers.{beyond, signedAt}
-use native.Mathlib.Omega.{arith}
-use lib.IntN.{ℤ}
+use Rattle.format.specs.Numbers.{beyond}
 use Rattle.program.specs.Refusals.{wrongConstraint}
 use lib.ListN.{getD}
 use Rattle.fields.proofs.ValueLaws.{constraint-refusal, body-refusal}

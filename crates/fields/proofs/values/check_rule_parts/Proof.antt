@@ -1,9 +1,8 @@
-use mathlib.Core.Path.{_≡_, refl, sym, ap, _∙_}
+use mathlib.Core.Path.{_≡_, refl, ap, _∙_}
 use mir.Syntax.{w64}
 use mir.Val.{toZ, ofZ}
 use Rattle.format.specs.Limits.{maxNumber}
-use Rattle.format.specs.Numbers.{beyond, signedAt}
-use native.Mathlib.Omega.{arith}
+use Rattle.format.specs.Numbers.{beyond}
 use Rattle.fields.proofs.ValueLaws.{rule-refusal, body-refusal}
 use borrow.Author.Needs.{needs}
 use Rattle.fields.proofs.values.check_rule_parts.Statement.{statement}

@@ -1,5 +1,4 @@
 use native.Mathlib.Omega.{arith}
-use mathlib.Core.Path.{_≡_, refl, sym, ap, _∙_}
 use Rattle.fields.proofs.ValueLaws.{variable-length, variable-kind, variable-range, variable-fine}
 use borrow.Author.Needs.{needs}
 use Rattle.fields.proofs.values.check_variable.Statement.{statement}

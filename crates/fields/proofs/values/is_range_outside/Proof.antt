@@ -1,9 +1,8 @@
 use Rattle.format.specs.Limits.{maxNumber}
 use Rattle.format.specs.Numbers.{beyond, signedAt}
-use lib.IntN.{ℤ}
 use lib.Signed.{ltZ}
 use mathlib.Core.Path.{ap₂}
-use mathlib.Core.Path.{_≡_, refl, sym, ap, _∙_}
+use mathlib.Core.Path.{_≡_, ap, _∙_}
 use mir.Syntax.{w64}
 use mir.Val.{toZ, ofZ}
 use Rattle.fields.proofs.ValueLaws.{range-outside}

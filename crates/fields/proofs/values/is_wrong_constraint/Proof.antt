@@ -1,5 +1,4 @@
 use native.Mathlib.Omega.{arith}
-use mathlib.Core.Path.{_≡_, refl, sym, ap, _∙_}
 use Rattle.fields.proofs.ValueLaws.{constraint-sum, constraint-literals, constraint-unknown}
 use mir.Facts.{toZ-ofZ}
 use borrow.Author.Needs.{needs}

@@ -1,4 +1,4 @@
-use mathlib.Core.Path.{_≡_, _∙_}
+use mathlib.Core.Path.{_∙_}
 use native.Mathlib.Omega.{arith}
 use Rattle.fields.proofs.ValueLaws.{count-form, count-sum, count-max, count-min, count-product, count-size, count-if, count-carry, count-unknown}
 use borrow.Author.Needs.{needs}

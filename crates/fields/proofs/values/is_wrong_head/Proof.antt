@@ -1,5 +1,5 @@
 use native.Mathlib.Omega.{arith}
-use mathlib.Core.Path.{_≡_, refl, sym, ap, _∙_}
+use mathlib.Core.Path.{sym, _∙_}
 use Rattle.fields.proofs.ValueLaws.{head-undeclared, head-kind}
 use borrow.Author.Tests.{leb-false}
 use borrow.Author.Needs.{needs}
