@@ -1,4 +1,4 @@
-// The length of a field, and the variables of a body: refusals 6, 9, 11 and 12.
+// The length of a field, and the variables of a body: refusals 6, 9 and 11.
 use crate::build;
 use crate::build::MOST_TERMS;
 use crate::forms::AT_LEAST;
@@ -20,6 +20,7 @@ use crate::shape::B;
 use crate::shape::D;
 use crate::shape::OTHER;
 use crate::show;
+use format::Format;
 
 fn lengths() {
     show::bytes(
@@ -35,21 +36,21 @@ fn lengths() {
 
 // 17 variables, which take 136 bytes, and a rule with so many terms of one op and number.
 fn long_rule(file: &mut [u8], form: u8, count: u8, op: u8, k: i64) -> usize {
-    let n = build::variables(file, 17, 0, 10);
+    let n = build::variables(file, Format::MAX_TERMS + 1, 0, 10);
     let n = build::rule(file, n, form, 0, 0, count);
     build::terms(file, n, 0, count, op, k)
 }
 
 // The same for a carry of variable 0.
 fn long_carry(file: &mut [u8], count: u8) -> usize {
-    let n = build::variables(file, 17, 0, 10);
+    let n = build::variables(file, Format::MAX_TERMS + 1, 0, 10);
     let n = build::rule(file, n, CARRY, 0, 0, count);
     let n = build::term(file, n, Term::plain(0));
     build::terms(file, n, 1, count, AT_LEAST, 1)
 }
 
 fn long_constraint(file: &mut [u8], form: u8, count: u8, op: u8, k: i64) -> usize {
-    let n = build::variables(file, 17, 0, 10);
+    let n = build::variables(file, Format::MAX_TERMS + 1, 0, 10);
     let n = build::constraint(file, n, form, 0, count);
     build::terms(file, n, 0, count, op, k)
 }

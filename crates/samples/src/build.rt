@@ -21,7 +21,7 @@ pub fn byte(file: &mut [u8], n: usize, x: u8) -> usize {
     n
 }
 
-// The two bytes of a number, which lies within -32,767..32,767.
+// The two bytes of a number within -32,767..32,767; any other is left out.
 pub fn number(file: &mut [u8], n: usize, v: i64) -> usize {
     if v < -32767 {
         return n;
@@ -49,7 +49,7 @@ pub fn variable(file: &mut [u8], n: usize, kind: u8, low: i64, high: i64) -> usi
     number(file, m, high)
 }
 
-// The head of a rule whose body has so many terms, fewer than 32.
+// A rule up to its body, which has so many terms, fewer than 32.
 pub fn rule(file: &mut [u8], n: usize, form: u8, head: u8, c: i64, terms: u8) -> usize {
     let m = header(file, n, Format::RULE, 4 + 4 * (terms % 32));
     let m = byte(file, m, form);

@@ -12,14 +12,14 @@ use crate::forms::SUM;
 use crate::show;
 use format::Format;
 
-// The bytes of a rule and of a constraint with no term, and with 16.
+// The bytes of a rule and of a constraint, with no term and with as many as a body may have.
 const RULE: usize = 7;
 
 const CONSTRAINT: usize = 6;
 
-const FULL_RULE: usize = 71;
+const FULL_RULE: usize = RULE + 4 * Format::MAX_TERMS;
 
-const FULL_CONSTRAINT: usize = 70;
+const FULL_CONSTRAINT: usize = CONSTRAINT + 4 * Format::MAX_TERMS;
 
 // One rule and so many more, after one variable.
 fn rules(name: &[u8], more: usize) {

@@ -1,4 +1,4 @@
-// Two faults: in one field the lower number is named, in two fields the first field.
+// Tags, and files with two faults: in one field the lower number is named, in two fields the first field.
 use crate::build;
 use crate::forms::FOUNDED;
 use crate::forms::MAX;
