@@ -1,18 +1,20 @@
 -- The members of a set, counted word by word.
 use mathlib.Core.Path.{_≡_, refl, sym, ap, ap₂, _∙_, subst}
-use mathlib.Core.Bool.{Bool}
+use mathlib.Core.Bool.{Bool, true, false, _&&_, not, true≢false}
 use mathlib.Core.List.{List}
-use Prim.Native.Nat.{ℕ, zero, suc, _+_, _*_, _/_, _%_, _^_, _<_}
+use Prim.Native.Nat.{ℕ, zero, suc, _+_, _*_, _/_, _%_, _^_, _≤_, _<_}
 use native.Mathlib.Nat.{add-zero, zero-add, suc-add, mod-lt}
 use native.Mathlib.Numerals.{add-one, one-add}
+use native.Mathlib.Decide.{ℕ-discrete}
 use native.Mathlib.Omega.{arith}
 use lib.Dec.{eqb}
 use lib.Arith.{lt-one}
 use lib.Pow.{shr-lt}
 use lib.Count.{ones, ones-step}
 use lib.ListN.{getD}
+use borrow.Author.Tests.{eq-eqb}
 use Rattle.format.specs.Limits.{maxVariables}
-use Rattle.sets.specs.Bit.{wordBits, bit, has, one-if, countFrom}
+use Rattle.sets.specs.Bit.{wordBits, bit, has, one-if, countFrom, sizeBelow}
 use Rattle.sets.proofs.Bits.{bit-suc, no-two}
 
 move : (x i : ℕ) → suc x + i ≡ x + suc i
@@ -85,3 +87,65 @@ count-set ws h =
     ∙ ap (λ (k : ℕ). k + from 2 + from 3) (sym (count-split (has ws) wordBits wordBits 0))
     ∙ ap (λ (k : ℕ). k + from 3) (sym (count-split (has ws) (wordBits * 2) wordBits 0))
     ∙ sym (count-split (has ws) (wordBits * 3) wordBits 0)
+
+-- tests that agree below n
+pub count-same : (p q : ℕ → Bool) (n : ℕ) → ((j : ℕ) → j < n → p j ≡ q j) → sizeBelow p n ≡ sizeBelow q n
+count-same p q n h = count-ext p q n 0 0 (λ i l. ap p (zero-add i) ∙ h i l ∙ ap q (sym (zero-add i)))
+
+one-most : (b : Bool) → one-if b ≤ 1
+one-most true = omega arith
+one-most false = omega arith
+
+most-from : (p : ℕ → Bool) (a n : ℕ) → countFrom p a n ≤ n
+unfolding countFrom
+most-from p a zero = omega arith
+most-from p a (suc n) = omega (arith, one-most (p a), most-from p (suc a) n)
+
+-- no more numbers than there are
+pub count-most : (p : ℕ → Bool) (n : ℕ) → sizeBelow p n ≤ n
+count-most p n = most-from p 0 n
+
+one-within : (x y : Bool) → (x ≡ true → y ≡ true) → one-if x ≤ one-if y
+one-within true true h = omega arith
+one-within true false h = absurd (true≢false (sym (h refl)))
+one-within false y h = omega arith
+
+-- what meets q meets p, among the n numbers from a on
+abbrev Within : (ℕ → Bool) → (ℕ → Bool) → ℕ → ℕ → Type 0
+Within q p a n = (j : ℕ) → a ≤ j → j < a + n → q j ≡ true → p j ≡ true
+
+within-from : (q p : ℕ → Bool) (a n : ℕ) → Within q p a n → countFrom q a n ≤ countFrom p a n
+unfolding countFrom
+within-from q p a zero h = omega arith
+within-from q p a (suc n) h =
+    omega (arith, one-within (q a) (p a) (h a (omega arith) (omega arith)), within-from q p (suc a) n (λ j l m. h j (omega arith) (omega arith)))
+
+less-from : (q p : ℕ → Bool) (v a n : ℕ) → a ≤ v → v < a + n → q v ≡ false → p v ≡ true → Within q p a n → countFrom q a n < countFrom p a n
+unfolding countFrom
+less-from q p v a zero l m out in-it h = let f : ⊥ = omega arith in absurd f
+less-from q p v a (suc n) l m out in-it h = go (ℕ-discrete a v) (λ g. less-from q p v (suc a) n (omega arith) (omega arith) out in-it rest)
+  where
+    rest : Within q p (suc a) n
+    rest j x y = h j (omega arith) (omega arith)
+
+    go : Dec (a ≡ v) → ((a ≡ v → ⊥) → countFrom q (suc a) n < countFrom p (suc a) n) → countFrom q a (suc n) < countFrom p a (suc n)
+    go (yes e) k =
+        omega (arith, ap one-if (ap q e ∙ out), ap one-if (ap p e ∙ in-it), within-from q p (suc a) n rest)
+    go (no g) k = omega (arith, one-within (q a) (p a) (h a (omega arith) (omega arith)), k g)
+
+-- a set within another is no larger
+pub count-within : (q p : ℕ → Bool) (n : ℕ) → ((j : ℕ) → j < n → q j ≡ true → p j ≡ true) → sizeBelow q n ≤ sizeBelow p n
+count-within q p n h = within-from q p 0 n (λ j l m. h j (omega arith))
+
+-- and smaller where it lacks one
+pub count-less : (q p : ℕ → Bool) (v n : ℕ) → v < n → q v ≡ false → p v ≡ true → ((j : ℕ) → j < n → q j ≡ true → p j ≡ true)
+    → sizeBelow q n < sizeBelow p n
+count-less q p v n l out in-it h = less-from q p v 0 n (omega arith) (omega arith) out in-it (λ j x y. h j (omega arith))
+
+-- a set that has lost a member
+pub count-drop : (q p : ℕ → Bool) (v n : ℕ) → v < n → p v ≡ true → ((j : ℕ) → q j ≡ (not (eqb j v) && p j)) → sizeBelow q n < sizeBelow p n
+count-drop q p v n l in-it h = count-less q p v n l (h v ∙ ap (λ (b : Bool). not b && p v) (eq-eqb v v refl)) in-it (λ j m e. kept j (eqb j v) (sym (h j) ∙ e))
+  where
+    kept : (j : ℕ) (b : Bool) → (not b && p j) ≡ true → p j ≡ true
+    kept j true e = absurd (true≢false (sym e))
+    kept j false e = e

@@ -1,5 +1,6 @@
 pub mod Bits
 pub mod Counts
+pub mod Joins
 pub mod Nexts
 pub mod Rows
 pub mod Rounds

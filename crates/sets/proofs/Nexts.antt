@@ -13,7 +13,6 @@ use lib.Arith.{lt-one}
 use lib.Pow.{shr-lt, shr-le, shr-shr, pow-mono}
 use lib.Count.{trailingZeros, under}
 use lib.ListN.{getD}
-use Rattle.format.specs.Limits.{maxVariables}
 use Rattle.sets.specs.Bit.{wordBits, bit, has, NoneIn, LeastFrom}
 use Rattle.sets.proofs.Bits.{bit-suc, bit-zero}
 
@@ -109,8 +108,8 @@ further ws from at e none i x y = go (decLt i at)
     go (no g) =
         ap (has ws) (back i at (omega arith)) ∙ in-word ws at (i - at) (omega arith) ∙ ap (λ (w : ℕ). bit w (i - at)) e ∙ bit-zero (i - at)
 
--- none before `at`, and some in the rest of its word
-module _ (ws : List ℕ) (from at : ℕ) (ha : at < maxVariables) (fits : getD ws (at / wordBits) 0 < 2 ^ wordBits) (some : rest-at ws at ≢ 0)
+-- none before `at`, and some in the rest of its word, of m words
+module _ (ws : List ℕ) (m from at : ℕ) (ha : at < wordBits * m) (fits : getD ws (at / wordBits) 0 < 2 ^ wordBits) (some : rest-at ws at ≢ 0)
     (past : from ≤ at) (none : NoneIn (has ws) from at) where
   low : Lowest wordBits (rest-at ws at)
   low = lowest wordBits (rest-at ws at) (lt-of-le-of-lt (shr-le (getD ws (at / wordBits) 0) (at % wordBits)) fits) some
@@ -121,7 +120,7 @@ module _ (ws : List ℕ) (from at : ℕ) (ha : at < maxVariables) (fits : getD w
       bit-below (getD ws (at / wordBits) 0) wordBits (at % wordBits + t) fits
       (sym (bit-shr (getD ws (at / wordBits) 0) (at % wordBits) t) ∙ low .set-bit) (decLt (at % wordBits + t) wordBits)
 
-  pub found-in-word : LeastFrom (has ws) from (at + trailingZeros wordBits (rest-at ws at))
+  pub found-in-word : LeastFrom (has ws) from (wordBits * m) (at + trailingZeros wordBits (rest-at ws at))
   found-in-word =
       let t = trailingZeros wordBits (rest-at ws at) in
       let s = stays in

@@ -4,63 +4,35 @@ use mathlib.Core.Logic.{_≢_}
 use mathlib.Core.Bool.{Bool, _||_, _&&_, or-false}
 use mathlib.Core.List.{List}
 use Prim.Native.Nat.{ℕ, _+_, _*_, _/_, _%_, _^_, _≤_, _<_}
-use native.Mathlib.Nat.{not-suc-le-zero}
 use native.Mathlib.Decide.{ℕ-discrete, decLt}
 use native.Mathlib.Omega.{arith}
 use lib.Dec.{eqb}
-use lib.ListN.{length, getD, set, length-set}
-use lib.Seq.{getD-set-same, getD-set-other}
+use lib.ListN.{length, getD, set}
 use lib.Bits.{bitOr}
 use borrow.Author.Tests.{eq-eqb, ne-eqb}
 use Rattle.format.specs.Limits.{maxVariables}
 use Rattle.sets.specs.Bit.{wordBits, wordCount, bit, has}
 use Rattle.sets.specs.Walk.{rowsLength, rowHas, Marked, Joined}
 use Rattle.sets.proofs.Bits.{bit-or, has-insert}
+use Rattle.sets.proofs.Joins.{Taken, taken-more}
 
 -- ws is vs where the first t words of row i have taken in those of row k
-pub record Taken (vs ws : List ℕ) (i k t : ℕ) : Type 0 where
-  pub long : length ws ≡ rowsLength
-  pub within : (m : ℕ) → m < t → getD ws (wordCount * i + m) 0 ≡ bitOr (getD vs (wordCount * i + m) 0) (getD vs (wordCount * k + m) 0)
-  pub below : (m : ℕ) → m < wordCount * i → getD ws m 0 ≡ getD vs m 0
-  pub above : (m : ℕ) → wordCount * i + t ≤ m → getD ws m 0 ≡ getD vs m 0
-
--- none yet
-pub taken-none : (vs : List ℕ) (i k : ℕ) → length vs ≡ rowsLength → Taken vs vs i k 0
-taken-none vs i k len =
-    record { long = len; within = λ m l. absurd (not-suc-le-zero l); below = λ m l. refl; above = λ m l. refl }
+abbrev pub RowTaken : List ℕ → List ℕ → ℕ → ℕ → ℕ → Type 0
+RowTaken vs ws i k t = Taken vs vs ws (wordCount * i) (wordCount * k) t
 
 -- word t, which neither row has lost
-pub taken-more : (vs ws : List ℕ) (i k t : ℕ) → t < wordCount → i < maxVariables → Taken vs ws i k t
-    → Taken vs (set ws (wordCount * i + t) (bitOr (getD ws (wordCount * i + t) 0) (getD ws (wordCount * k + t) 0))) i k (t + 1)
-taken-more vs ws i k t ht hi s =
-    record {
-      long = length-set ws p x ∙ s .long;
-      within = λ m l. within m l (ℕ-discrete m t);
-      below = λ m l. getD-set-other ws p m x 0 (omega arith) ∙ s .below m l;
-      above = λ m l. getD-set-other ws p m x 0 (omega arith) ∙ s .above m (omega arith);
-    }
+pub row-more : (vs ws : List ℕ) (i k t : ℕ) → length vs ≡ rowsLength → t < wordCount → i < maxVariables → RowTaken vs ws i k t
+    → RowTaken vs (set ws (wordCount * i + t) (bitOr (getD ws (wordCount * i + t) 0) (getD ws (wordCount * k + t) 0))) i k (t + 1)
+row-more vs ws i k t len ht hi s = taken-more vs vs ws (wordCount * i) (wordCount * k) t _ _ refl (omega arith) (of-k (decLt k i)) s
   where
-    p : ℕ
-    p = wordCount * i + t
-
-    x : ℕ
-    x = bitOr (getD ws (wordCount * i + t) 0) (getD ws (wordCount * k + t) 0)
-
     of-k : Dec (k < i) → getD ws (wordCount * k + t) 0 ≡ getD vs (wordCount * k + t) 0
     of-k (yes l) = s .below (wordCount * k + t) (omega arith)
     of-k (no g) = s .above (wordCount * k + t) (omega arith)
 
-    within : (m : ℕ) → m < t + 1 → Dec (m ≡ t)
-        → getD (set ws p x) (wordCount * i + m) 0 ≡ bitOr (getD vs (wordCount * i + m) 0) (getD vs (wordCount * k + m) 0)
-    within m l (yes e) =
-        let h : wordCount * i + t < length ws = omega (arith, s .long) in
-        rw e (getD-set-same ws p x 0 h ∙ ap₂ bitOr (s .above p (omega arith)) (of-k (decLt k i)))
-    within m l (no f) = getD-set-other ws p (wordCount * i + m) x 0 (λ q. f (omega arith)) ∙ s .within m (omega arith)
-
 -- row i takes in row k
-pub taken-all : (vs ws : List ℕ) (i k t : ℕ) → wordCount ≤ t → t ≤ wordCount → Taken vs ws i k t → Joined (rowHas vs) (rowHas ws) i k
+pub row-all : (vs ws : List ℕ) (i k t : ℕ) → wordCount ≤ t → t ≤ wordCount → RowTaken vs ws i k t → Joined (rowHas vs) (rowHas ws) i k
 unfolding rowHas
-taken-all vs ws i k t l g s a b ha hb = go (ℕ-discrete a i)
+row-all vs ws i k t l g s a b ha hb = go (ℕ-discrete a i)
   where
     other : a ≢ i → Dec (a < i) → getD ws (wordCount * a + b / wordBits) 0 ≡ getD vs (wordCount * a + b / wordBits) 0
     other f (yes h) = s .below (wordCount * a + b / wordBits) (omega arith)

@@ -6,7 +6,6 @@ use mathlib.Core.Bool.{Bool, true, false}
 use mathlib.Core.List.{List}
 use lib.Dec.{eqb}
 use lib.ListN.{getD}
-use Rattle.format.specs.Limits.{maxVariables}
 use Rattle.sets.specs.declared.Found.{Found}
 use Rattle.sets.specs.declared.Found.the-variants.{At, Nothing}
 
@@ -17,6 +16,10 @@ wordBits = 64
 -- the words of a set
 abbrev pub wordCount : ℕ
 wordCount = 4
+
+-- the most words of a set that a search is lent: the numbers of so many words are numbers of the machine
+abbrev pub mostWords : ℕ
+mostWords = 65536
 
 -- whether bit j of the word w is set
 unfoldable pub bit : ℕ → ℕ → Bool
@@ -36,18 +39,22 @@ unfoldable pub countFrom : (ℕ → Bool) → ℕ → ℕ → ℕ
 countFrom p a zero = 0
 countFrom p a (suc n) = one-if (p a) + countFrom p (suc a) n
 
+-- how many numbers below n meet the test p
+abbrev pub sizeBelow : (ℕ → Bool) → ℕ → ℕ
+sizeBelow p n = countFrom p 0 n
+
 -- nothing from `from` on and below `to` meets p
 abbrev pub NoneIn : (ℕ → Bool) → ℕ → ℕ → Type 0
 NoneIn p from to = (i : ℕ) → from ≤ i → i < to → p i ≡ false
 
--- v is the least variable at or above `from` that meets p
-pub record LeastFrom (p : ℕ → Bool) (from v : ℕ) : Type 0 where
+-- v is the least number at or above `from` and below `top` that meets p
+pub record LeastFrom (p : ℕ → Bool) (from top v : ℕ) : Type 0 where
   pub above : from ≤ v
-  pub below : v < maxVariables
+  pub below : v < top
   pub member : p v ≡ true
   pub first : NoneIn p from v
 
--- the answer is that variable, or nothing where there is none
-abbrev pub NextIs : (ℕ → Bool) → ℕ → Found → Type 0
-NextIs p from (At v) = LeastFrom p from v
-NextIs p from Nothing = NoneIn p from maxVariables
+-- the answer is that number, or nothing where there is none
+abbrev pub NextIs : (ℕ → Bool) → ℕ → ℕ → Found → Type 0
+NextIs p from top (At v) = LeastFrom p from top v
+NextIs p from top Nothing = NoneIn p from top

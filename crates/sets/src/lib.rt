@@ -1,5 +1,6 @@
 // A set of variables: one bit for each number.
 mod reach;
+pub mod words;
 
 use format::Format;
 pub use reach::Rows;
@@ -96,7 +97,7 @@ impl Set {
 
     // The least variable of the set at or above `from`.
     pub fn next(self, from: usize) -> Found
-        ensures { λ r. ⌜ NextIs (has (self .words)) from r ⌝ }
+        ensures { λ r. ⌜ NextIs (has (self .words)) from maxVariables r ⌝ }
     {
         let mut at = from;
         while at < Format::MAX_VARIABLES {

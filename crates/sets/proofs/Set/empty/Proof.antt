@@ -1,11 +1,12 @@
-use Rattle.sets.proofs.Bits.{has-empty}
+use Rattle.sets.specs.Bit.{wordCount}
+use Rattle.sets.proofs.Bits.{none-in}
 use Rattle.sets.proofs.Set.empty.Statement.{statement}
 use Rattle.sets.proofs.Set.empty.Tie as tie
 use Rattle.sets.proofs.Set.empty.Reads as reads
 use Rattle.sets.proofs.Set.empty.Lts as lts
 
 returns : tie.Need-returns
-returns c = has-empty
+returns c = none-in wordCount
 
 pub empty-spec : {M : Type 1} → statement M
 empty-spec = tie.close (tie.spec returns)

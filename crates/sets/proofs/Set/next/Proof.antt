@@ -6,7 +6,7 @@ use lib.ListN.{getD}
 use mir.Syntax.{w64}
 use mir.Val.{Fits}
 use Rattle.format.specs.Limits.{maxVariables}
-use Rattle.sets.specs.Bit.{wordBits, has, NoneIn}
+use Rattle.sets.specs.Bit.{wordBits, wordCount, has, NoneIn}
 use Rattle.sets.proofs.Nexts.{rest-at, none-at, further, found-in-word}
 use Rattle.sets.proofs.Set.next.Statement.{statement}
 use Rattle.sets.proofs.Set.next.Tie as tie
@@ -46,7 +46,7 @@ returns c =
     let l = c .before .before .before in
     let a = l .before .args in
     let f : Fits w64 (getD (a .t1 .words) (l .loop .at / wordBits) 0) = search needs in
-    found-in-word (a .t1 .words) (a .from) (l .loop .at) (omega arith) (f .fits) (c .if1 .taken) (omega arith) (l .loop .inv .1)
+    found-in-word (a .t1 .words) wordCount (a .from) (l .loop .at) (omega arith) (f .fits) (c .if1 .taken) (omega arith) (l .loop .inv .1)
 
 add-at : tie.Need-add-at Inv-loop μ-loop
 add-at c = search needs

@@ -1,7 +1,11 @@
+use mathlib.Core.Path.{_≡_, _∙_}
 use Prim.Native.Nat.{_≤_, _-_}
 use native.Mathlib.Omega.{arith}
+use lib.ListN.{length}
 use Rattle.sets.specs.Bit.{wordCount}
-use Rattle.sets.proofs.Rows.{Taken, taken-none, taken-more, taken-all}
+use Rattle.sets.specs.Walk.{rowsLength}
+use Rattle.sets.proofs.Joins.{taken-none}
+use Rattle.sets.proofs.Rows.{RowTaken, row-more, row-all}
 use borrow.Author.Needs.{needs}
 use Rattle.sets.proofs.reach.join.Statement.{statement}
 use Rattle.sets.proofs.reach.join.Tie as tie
@@ -9,7 +13,7 @@ use Rattle.sets.proofs.reach.join.Reads as reads
 use Rattle.sets.proofs.reach.join.Lts as lts
 
 abbrev Inv-loop : tie.InvT-loop
-Inv-loop rows₀ i k p q t₀ rows t = (t ≤ wordCount) × Taken rows₀ rows i k t
+Inv-loop rows₀ i k p q t₀ rows t = (t ≤ wordCount) × (length rows₀ ≡ rowsLength) × RowTaken rows₀ rows i k t
 
 abbrev μ-loop : tie.MeasureT-loop
 μ-loop rows₀ i k p q t₀ rows t = wordCount - t
@@ -21,7 +25,7 @@ mul-q : tie.Need-mul-q Inv-loop μ-loop
 mul-q c = search needs
 
 loop-holds : tie.Need-loop-holds Inv-loop μ-loop
-loop-holds c = (omega arith, taken-none _ _ _ (c .pre .1))
+loop-holds c = (omega arith, c .pre .1, taken-none _ _ _ _)
 
 add-w : tie.Need-add-w Inv-loop μ-loop
 add-w c = search needs
@@ -57,10 +61,14 @@ loop-less : tie.Need-loop-less Inv-loop μ-loop
 loop-less c = search needs
 
 loop-again : tie.Need-loop-again Inv-loop μ-loop
-loop-again c = (omega arith, taken-more _ _ _ _ _ (omega arith) (omega arith) (c .before .before .before .loop .inv .1))
+loop-again c =
+    let i = c .before .before .before .loop .inv in
+    (omega arith, i .1, row-more _ _ _ _ _ (i .1) (omega arith) (omega arith) (i .2))
 
 returns : tie.Need-returns Inv-loop μ-loop
-returns c = (c .before .loop .inv .1 .long, taken-all _ _ _ _ (c .before .loop .t) (omega arith) (omega arith) (c .before .loop .inv .1))
+returns c =
+    let i = c .before .loop .inv in
+    (i .2 .long ∙ i .1, row-all _ _ _ _ (c .before .loop .t) (omega arith) (omega arith) (i .2))
 
 pub join-spec : {M : Type 1} → statement M
 join-spec =
