@@ -1,7 +1,7 @@
 -- A number that passed both tests is small enough for two bytes.
 use mathlib.Core.Path.{_≡_, sym, _∙_}
-use mathlib.Core.Bool.{Bool, false}
-use Prim.Native.Nat.{ℕ, _<_, _≤_}
+use mathlib.Core.Bool.{false}
+use Prim.Native.Nat.{_<_, _≤_}
 use lib.IntN.{ℤ, pos, negℤ, natAbs}
 use lib.Signed.{ltZ}
 use mir.Syntax.{w64}

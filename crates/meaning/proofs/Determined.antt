@@ -1,0 +1,99 @@
+-- The call least has at most one answer, and leaves the lent buffer in at most one way.
+use Prim.Native.Nat.{ℕ, zero, suc, _*_, _<_}
+use mathlib.Core.Path.{_≡_, refl, sym, ap, ap₂, subst, _∙_}
+use mathlib.Core.List.{List, _++_}
+use native.Mathlib.Omega.{arith}
+use lib.ListN.{length, drop}
+use Rattle.format.specs.Numbers.{bytesOf}
+use Rattle.program.specs.Program.{Program}
+use Rattle.program.specs.Reading.{Reads, refused, Accepts}
+use Rattle.program.proofs.Conditions.{never}
+use Rattle.program.proofs.Promises.{accepts-promises}
+use Rattle.program.proofs.Unique.{reads-unique, accepts-unique, accepts-reads}
+use Rattle.meaning.specs.Founded.{Valuation, Model, Least}
+use Rattle.meaning.specs.Reduct.{system}
+use Rattle.meaning.specs.LeastCall.{Answer, refusal, range, FirstOutside, AllInside, written}
+use Rattle.meaning.specs.LeastCall.{LeastCall, bad-file, bad-assignment, short-buffer, outside, no-model, least-model}
+use Rattle.meaning.proofs.Theory.{least-unique}
+use Rattle.meaning.proofs.Monotone.{laws}
+
+-- the bytes of a valuation are those of its values
+pub written-same : {m m′ : Valuation} (n : ℕ) → ((v : ℕ) → m v ≡ m′ v) → written m n ≡ written m′ n
+unfolding written
+written-same zero h = refl
+written-same (suc n) h = ap₂ _++_ (written-same n h) (ap bytesOf (h n))
+
+-- a file is turned down or accepted
+refused-or : {s : List ℕ} {n at : ℕ} {P : Program} → Reads s (refused n at) → Accepts s P → ⊥
+refused-or r x = let e = reads-unique r (accepts-reads x) in let z : _≡_ {A = ℕ} 0 1 = cc in omega arith
+
+same-refusal : {s : List ℕ} {n at n′ at′ : ℕ} → Reads s (refused n at) → Reads s (refused n′ at′) → refusal n at ≡ refusal n′ at′
+same-refusal r t = let e = reads-unique r t in cc
+
+-- values all lie in their ranges, or there is a first that does not
+inside-or : {P : Program} {θ : Valuation} {v : ℕ} → AllInside P θ → FirstOutside P θ v → ⊥
+inside-or {P} {θ} {v} i o = never (i v (o .declared)) (o .outside)
+
+same-outside : {P : Program} {θ : Valuation} {v w : ℕ} → FirstOutside P θ v → FirstOutside P θ w → v ≡ w
+same-outside {P} {θ} {v} {w} o q = by (λ h. never (q .first v h) (o .outside)) (λ h. never (o .first w h) (q .outside))
+  where
+    by : (v < w → ⊥) → (w < v → ⊥) → v ≡ w
+    by h k = omega arith
+
+module _ {s : List ℕ} {P Q : Program} (x : Accepts s P) (y : Accepts s Q) where
+  count : length (P .variables) ≡ length (Q .variables)
+  count = ap (λ R. length (R .variables)) (accepts-unique x y)
+
+  inside-or-first : {θ : Valuation} {v : ℕ} → AllInside P θ → FirstOutside Q θ v → ⊥
+  inside-or-first i o = inside-or i (rw (← accepts-unique x y) at o)
+
+  model-or-none : {θ m : Valuation} → ((m′ : Valuation) → Model (system P) θ m′ → ⊥) → Least (system Q) θ m → ⊥
+  model-or-none {θ} {m} n l = n m (subst (λ R. Model (system R) θ m) (sym (accepts-unique x y)) (l .model))
+
+  same-first : {θ : Valuation} {v w : ℕ} → FirstOutside P θ v → FirstOutside Q θ w → v ≡ w
+  same-first o q = same-outside o (rw (← accepts-unique x y) at q)
+
+  same-bytes : {θ m m′ : Valuation} (b : List ℕ) → Least (system P) θ m → Least (system Q) θ m′
+      → written m (length (P .variables)) ++ drop (2 * length (P .variables)) b ≡ written m′ (length (Q .variables)) ++ drop (2 * length (Q .variables)) b
+  same-bytes {θ} {m} {m′} b l k =
+      let e = least-unique (laws (accepts-promises x)) l (subst (λ R. Least (system R) θ m′) (sym (accepts-unique x y)) k) in
+      ap₂ _++_ (written-same (length (P .variables)) e ∙ ap (written m′) count) (ap (λ n. drop (2 * n) b) count)
+
+-- the first call's case against the second's
+pub least-call-unique : {s a b : List ℕ} {r r′ : Answer} {b₁ b₂ : List ℕ} → LeastCall s a b r b₁ → LeastCall s a b r′ b₂ → (r ≡ r′) × (b₁ ≡ b₂)
+least-call-unique (bad-file p) (bad-file q) = (same-refusal p q, refl)
+least-call-unique (bad-file p) (bad-assignment y g) = absurd (refused-or p y)
+least-call-unique (bad-file p) (short-buffer y g j) = absurd (refused-or p y)
+least-call-unique (bad-file p) (outside y g j u) = absurd (refused-or p y)
+least-call-unique (bad-file p) (no-model y g j w d) = absurd (refused-or p y)
+least-call-unique (bad-file p) (least-model y g j w e) = absurd (refused-or p y)
+least-call-unique (bad-assignment x h) (bad-file q) = absurd (refused-or q x)
+least-call-unique (bad-assignment x h) (bad-assignment y g) = (refl, refl)
+least-call-unique (bad-assignment x h) (short-buffer y g j) = absurd (h (omega (arith, count x y)))
+least-call-unique (bad-assignment x h) (outside y g j u) = absurd (h (omega (arith, count x y)))
+least-call-unique (bad-assignment x h) (no-model y g j w d) = absurd (h (omega (arith, count x y)))
+least-call-unique (bad-assignment x h) (least-model y g j w e) = absurd (h (omega (arith, count x y)))
+least-call-unique (short-buffer x h k) (bad-file q) = absurd (refused-or q x)
+least-call-unique (short-buffer x h k) (bad-assignment y g) = absurd (g (omega (arith, count x y)))
+least-call-unique (short-buffer x h k) (short-buffer y g j) = (refl, refl)
+least-call-unique (short-buffer x h k) (outside y g j u) = absurd (omega (arith, count x y))
+least-call-unique (short-buffer x h k) (no-model y g j w d) = absurd (omega (arith, count x y))
+least-call-unique (short-buffer x h k) (least-model y g j w e) = absurd (omega (arith, count x y))
+least-call-unique (outside x h k o) (bad-file q) = absurd (refused-or q x)
+least-call-unique (outside x h k o) (bad-assignment y g) = absurd (g (omega (arith, count x y)))
+least-call-unique (outside x h k o) (short-buffer y g j) = absurd (omega (arith, count x y))
+least-call-unique (outside x h k o) (outside y g j u) = (ap range (same-first x y o u), refl)
+least-call-unique (outside x h k o) (no-model y g j w d) = absurd (inside-or-first y x w o)
+least-call-unique (outside x h k o) (least-model y g j w e) = absurd (inside-or-first y x w o)
+least-call-unique (no-model x h k i n) (bad-file q) = absurd (refused-or q x)
+least-call-unique (no-model x h k i n) (bad-assignment y g) = absurd (g (omega (arith, count x y)))
+least-call-unique (no-model x h k i n) (short-buffer y g j) = absurd (omega (arith, count x y))
+least-call-unique (no-model x h k i n) (outside y g j u) = absurd (inside-or-first x y i u)
+least-call-unique (no-model x h k i n) (no-model y g j w d) = (refl, refl)
+least-call-unique (no-model x h k i n) (least-model y g j w e) = absurd (model-or-none x y n e)
+least-call-unique (least-model x h k i l) (bad-file q) = absurd (refused-or q x)
+least-call-unique (least-model x h k i l) (bad-assignment y g) = absurd (g (omega (arith, count x y)))
+least-call-unique (least-model x h k i l) (short-buffer y g j) = absurd (omega (arith, count x y))
+least-call-unique (least-model x h k i l) (outside y g j u) = absurd (inside-or-first x y i u)
+least-call-unique (least-model x h k i l) (no-model y g j w d) = absurd (model-or-none y x d l)
+least-call-unique {b = b} (least-model x h k i l) (least-model y g j w e) = (refl, same-bytes x y b l e)

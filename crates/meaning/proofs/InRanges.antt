@@ -1,0 +1,53 @@
+-- Assignments in their ranges. Past the last variable stands one of range 0..0, and an assignment reads 0 there.
+use Prim.Native.Nat.{ℕ, _+_, _*_, _<_, _≤_}
+use mathlib.Core.Path.{_≡_}
+use mathlib.Core.List.{List}
+use native.Mathlib.Omega.{arith}
+use lib.IntN.{pos}
+use lib.Signed.{leZ}
+use lib.ListN.{length, List·getD-eq-default}
+use lib.Dec.{T, ltb, ltb→lt, nltb→le}
+use Rattle.format.proofs.Int.{int}
+use Rattle.program.specs.Program.{Variable, Program, noVariable, variableIn, founded}
+use Rattle.meaning.specs.Founded.{Valuation, Within}
+use Rattle.meaning.specs.Reduct.{system}
+use Rattle.meaning.specs.Stable.{assigned}
+use Rattle.meaning.specs.LeastCall.{inRange, AllInside}
+use Rattle.meaning.proofs.Tests.{cases, is-true, is-test, and-left, and-right, and-both}
+
+-- a founded variable is declared
+pub founded-declared : (vs : List Variable) (v : ℕ) → T (founded (variableIn vs v)) → v < length vs
+founded-declared vs v t = cases (ltb v (length vs)) (λ b. v < length vs) (ltb→lt v (length vs))
+    (λ n. let e : T (founded noVariable) = rw (List·getD-eq-default vs noVariable (nltb→le v (length vs) n)) at t in absurd e)
+
+pub assigned-past : (a : List ℕ) (v : ℕ) → length a ≤ 2 * v → assigned a v ≡ pos 0
+assigned-past a v h =
+    let k : length a ≤ 2 * v + 1 = omega arith in
+    rw (List·getD-eq-default a 0 h, List·getD-eq-default a 0 k)
+
+module _ (P : Program) {θ : Valuation} where
+  pub inside-within : ((v : ℕ) → length (P .variables) ≤ v → θ v ≡ pos 0) → AllInside P θ → Within (system P) θ
+  inside-within past i = record {
+    low = λ v. record { le = and-left (leZ (variableIn vs v .low) (θ v)) (leZ (θ v) (variableIn vs v .high)) (at v) };
+    high = λ v. record { le = and-right (leZ (variableIn vs v .low) (θ v)) (leZ (θ v) (variableIn vs v .high)) (at v) };
+  }
+    where
+      vs : List Variable
+      vs = P .variables
+
+      at : (v : ℕ) → T (inRange (variableIn vs v) θ v)
+      at v = cases (ltb v (length vs)) (λ b. T (inRange (variableIn vs v) θ v)) (λ t. is-test (i v (ltb→lt v (length vs) t)))
+          (λ n. let h = nltb→le v (length vs) n in rw (List·getD-eq-default vs noVariable h, past v h) tt)
+
+  pub within-inside : Within (system P) θ → AllInside P θ
+  within-inside w v h = is-true (inRange (variableIn (P .variables) v) θ v)
+      (and-both (leZ (variableIn (P .variables) v .low) (θ v)) (leZ (θ v) (variableIn (P .variables) v .high)) (w .low v .le) (w .high v .le))
+
+  pub past-zero : Within (system P) θ → (v : ℕ) → length (P .variables) ≤ v → θ v ≡ pos 0
+  past-zero w v h =
+      let a : T (leZ (pos 0) (θ v)) = rw (List·getD-eq-default (P .variables) noVariable h) at (w .low v .le) in
+      let b : T (leZ (θ v) (pos 0)) = rw (List·getD-eq-default (P .variables) noVariable h) at (w .high v .le) in
+      omega int
+
+pub assigned-within : (P : Program) (a : List ℕ) → length a ≤ 2 * length (P .variables) → AllInside P (assigned a) → Within (system P) (assigned a)
+assigned-within P a h = inside-within P (λ v k. assigned-past a v (omega arith))

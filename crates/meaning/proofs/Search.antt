@@ -1,0 +1,157 @@
+-- A fixpoint that the search of `specs/Search.antt` reaches is the least model, and where it finds none there is none.
+use Prim.Native.Nat.{ℕ, zero, suc, _+_, _<_, _≤_, zero-le, suc-le-suc}
+use mathlib.Core.Path.{_≡_, refl, sym, _∙_, ap, subst}
+use mathlib.Core.Logic.{_⊎_, inl, inr}
+use mathlib.Core.Bool.{not, cond}
+use mathlib.Core.List.{List, [], _∷_}
+use native.Mathlib.Decide.{ℕ-discrete}
+use native.Mathlib.Omega.{arith}
+use lib.IntN.{ℤ, pos}
+use lib.Signed.{leZ}
+use lib.ListN.{length, getD, set, length-set, List·getD-eq-default}
+use lib.Seq.{getD-set-same, getD-set-other}
+use lib.Dec.{T, ltb, ltb→lt, nltb→le}
+use Rattle.format.proofs.Int.{int}
+use Rattle.program.specs.Program.{Variable, Rule, Program, noVariable, variableIn, ruleIn, founded}
+use Rattle.program.specs.Directions.{direction}
+use Rattle.program.specs.Evaluate.{sumBelow, largestTo, smallestTo, allHold, evaluate}
+use Rattle.program.specs.declared.Given.{Given}
+use Rattle.program.specs.declared.Given.the-variants.{Nothing, Value}
+use Rattle.program.proofs.Promises.{Promises}
+use Rattle.meaning.specs.Founded.{Valuation, Below, Reaches, Within, Model, Least}
+use Rattle.meaning.specs.Reduct.{kept, gives, system}
+use Rattle.meaning.specs.Search.{lows, Step, closed, raise, ask, firstUnmet, Outcome, found, none, unfinished, raised, act, iterate, search}
+use Rattle.meaning.specs.Values.{valued}
+use Rattle.meaning.proofs.Tests.{cases}
+use Rattle.meaning.proofs.Theory.{Progress, progress-start, progress-raise, progress-done, progress-over}
+use Rattle.meaning.proofs.Monotone.{laws, head-founded}
+use Rattle.meaning.proofs.InRanges.{founded-declared, past-zero}
+
+-- unfolding this unfolds the search and what it reads of a program
+unfoldable pub computes : Unit {0}
+unfolding direction sumBelow largestTo smallestTo allHold evaluate kept gives lows firstUnmet iterate
+computes = tt
+
+-- ---- lists
+
+lows-length : (θ : Valuation) (i : ℕ) (vs : List Variable) → length (lows θ i vs) ≡ length vs
+unfolding lows
+lows-length θ i [] = refl
+lows-length θ i (x ∷ xs) = ap suc (lows-length θ (suc i) xs)
+
+lows-at : (θ : Valuation) (i : ℕ) (vs : List Variable) (v : ℕ) → v < length vs
+    → valued (lows θ i vs) v ≡ cond (founded (variableIn vs v)) (variableIn vs v .low) (θ (i + v))
+unfolding lows
+lows-at θ i [] v h = let f : ⊥ = omega arith in absurd f
+lows-at θ i (x ∷ xs) zero h = let e : i ≡ i + 0 = omega arith in ap (λ n. cond (founded x) (x .low) (θ n)) e
+lows-at θ i (x ∷ xs) (suc v) h =
+    let e : suc i + v ≡ i + suc v = omega arith in
+    lows-at θ (suc i) xs v (omega arith) ∙ ap (λ n. cond (founded (variableIn xs v)) (variableIn xs v .low) (θ n)) e
+
+lows-is : (P : Program) {θ : Valuation} → Within (system P) θ → (v : ℕ)
+    → valued (lows θ 0 (P .variables)) v ≡ cond (founded (variableIn (P .variables) v)) (variableIn (P .variables) v .low) (θ v)
+lows-is P {θ} w v = cases (ltb v (length vs)) (λ b. valued (lows θ 0 vs) v ≡ cond (founded (variableIn vs v)) (variableIn vs v .low) (θ v))
+    (λ t. let z : 0 + v ≡ v = omega arith in rw z at (lows-at θ 0 vs v (ltb→lt v (length vs) t)))
+    (λ n. let h = nltb→le v (length vs) n in
+    let k : length (lows θ 0 vs) ≤ v = omega (arith, lows-length θ 0 vs) in
+    rw (List·getD-eq-default vs noVariable h, List·getD-eq-default (lows θ 0 vs) (pos 0) k) (sym (past-zero P w v h)))
+  where
+    vs : List Variable
+    vs = P .variables
+
+-- after a store
+stored : (l : List ℤ) (h : ℕ) (a : ℤ) → h < length l → (v : ℕ) → (valued (set l h a) v ≡ valued l v) ⊎ ((h ≡ v) × (valued (set l h a) v ≡ a))
+stored l h a k v = go (ℕ-discrete h v)
+  where
+    go : Dec (h ≡ v) → (valued (set l h a) v ≡ valued l v) ⊎ ((h ≡ v) × (valued (set l h a) v ≡ a))
+    go (yes e) = inr (e, subst (λ w. getD (set l h a) w (pos 0) ≡ a) e (getD-set-same l h a (pos 0) k))
+    go (no n) = inl (getD-set-other l h v a (pos 0) (λ e. n (sym e)))
+
+-- ---- the first rule that is not met
+
+module _ (P : Program) (θ m : Valuation) where
+  ask-closed : (i : ℕ) (g : Given) (v : ℕ) (b : ℤ) (next : Step) → ask i g b next ≡ closed → Reaches (system P) v g b × (next ≡ closed)
+  ask-closed i Nothing v b next e = (tt, e)
+  ask-closed i (Value a) v b next e = cases (leZ a b) (λ c. cond c next (raise i a) ≡ closed → Below (system P) v a b × (next ≡ closed))
+      (λ t q. (record { le = t }, q)) (λ n q. let z : _≡_ {A = ℕ} 0 1 = cc in let f : ⊥ = omega arith in absurd f) e
+
+  closed-met : (i : ℕ) (rs : List Rule) → firstUnmet P θ m i rs ≡ closed → (j : ℕ) → j < length rs
+      → Reaches (system P) (ruleIn rs j .head) (gives P (ruleIn rs j) m θ) (m (ruleIn rs j .head))
+  unfolding firstUnmet
+  closed-met i [] e j h = let f : ⊥ = omega arith in absurd f
+  closed-met i (r ∷ rs) e zero h = ask-closed i (gives P r m θ) (r .head) (m (r .head)) (firstUnmet P θ m (suc i) rs) e .0
+  closed-met i (r ∷ rs) e (suc j) h = closed-met (suc i) rs (ask-closed i (gives P r m θ) (r .head) (m (r .head)) (firstUnmet P θ m (suc i) rs) e .1) j (omega arith)
+
+  -- rule r gives a, and that is more than its head has
+  record Unmet (r : Rule) (a : ℤ) : Type 0 where
+    value-is : gives P r m θ ≡ Value a
+    more : T (not (leZ a (m (r .head))))
+
+  ask-raise : (i : ℕ) (g : Given) (b : ℤ) (next : Step) (k : ℕ) (a : ℤ) → ask i g b next ≡ raise k a → ((k ≡ i) × (g ≡ Value a) × T (not (leZ a b))) ⊎ (next ≡ raise k a)
+  ask-raise i Nothing b next k a e = inr e
+  ask-raise i (Value x) b next k a e = cases (leZ x b) (λ c. cond c next (raise i x) ≡ raise k a → ((k ≡ i) × (Value x ≡ Value a) × T (not (leZ a b))) ⊎ (next ≡ raise k a))
+      (λ t q. inr q) (λ n q. let s : x ≡ a = cc in inl (cc, cc, subst (λ y. T (not (leZ y b))) s n)) e
+
+  raise-unmet : (i : ℕ) (rs : List Rule) (k : ℕ) (a : ℤ) → firstUnmet P θ m i rs ≡ raise k a → (j : ℕ) × (k ≡ i + j) × (j < length rs) × Unmet (ruleIn rs j) a
+  unfolding firstUnmet
+  raise-unmet i [] k a e = let z : _≡_ {A = ℕ} 0 1 = cc in let f : ⊥ = omega arith in absurd f
+  raise-unmet i (r ∷ rs) k a e = go (ask-raise i (gives P r m θ) (m (r .head)) (firstUnmet P θ m (suc i) rs) k a e) (raise-unmet (suc i) rs k a)
+    where
+      go : ((k ≡ i) × (gives P r m θ ≡ Value a) × T (not (leZ a (m (r .head))))) ⊎ (firstUnmet P θ m (suc i) rs ≡ raise k a)
+          → (firstUnmet P θ m (suc i) rs ≡ raise k a → (j : ℕ) × (k ≡ suc i + j) × (j < length rs) × Unmet (ruleIn rs j) a)
+          → (j : ℕ) × (k ≡ i + j) × (j < length (r ∷ rs)) × Unmet (ruleIn (r ∷ rs) j) a
+      go (inl u) f = (zero, omega (arith, u .0), suc-le-suc zero-le, record { value-is = u .1; more = u .2 })
+      go (inr e) f = (suc (f e .0), omega (arith, f e .1), suc-le-suc (f e .2), f e .3)
+
+-- ---- the search
+
+-- what an outcome says
+abbrev pub Right : Program → Valuation → Outcome → Type 0
+Right P θ (found m) = Least (system P) θ (valued m)
+Right P θ none = (m : Valuation) → Model (system P) θ m → ⊥
+Right P θ unfinished = Unit {0}
+
+module _ {P : Program} (p : Promises P) {θ : Valuation} (w : Within (system P) θ) where
+  -- the values on the way
+  record OnWay (m : List ℤ) : Type 0 where
+    len : length m ≡ length (P .variables)
+    progress : Progress (system P) θ (valued m)
+
+  act-right : (go : List ℤ → Outcome) → ((m : List ℤ) → OnWay m → Right P θ (go m)) → (m : List ℤ) → OnWay m
+      → (s : Step) → firstUnmet P θ (valued m) zero (P .rules) ≡ s → Right P θ (act P go m s)
+  act-right go ih m o closed e = progress-done (o .progress) (closed-met P θ (valued m) zero (P .rules) e)
+  act-right go ih m o (raise i a) e =
+      let n = raise-unmet P θ (valued m) zero (P .rules) i a e in
+      subst (λ k. Right P θ (act P go m (raise k a))) (omega (arith, n .1)) (at (n .0) (n .2) (n .3))
+    where
+      at : (j : ℕ) → j < length (P .rules) → Unmet P θ (valued m) (ruleIn (P .rules) j) a → Right P θ (act P go m (raise j a))
+      at j h u = cases (leZ a (variableIn (P .variables) x .high)) (λ c. Right P θ (raised go c (set m x a)))
+          (λ t. ih (set m x a) (record {
+            len = length-set m x a ∙ o .len;
+            progress = progress-raise (laws p) w (o .progress) j h f a a (u .value-is) (laws p .refl x a) (record { le = low (u .more) }) (record { le = t })
+                (valued (set m x a)) (stored m x a there);
+          }))
+          (λ n. progress-over (laws p) w (o .progress) j h a (u .value-is) (record { lt = n }))
+        where
+          x : ℕ
+          x = ruleIn (P .rules) j .head
+
+          f : T (founded (variableIn (P .variables) x))
+          f = head-founded p j h
+
+          there : x < length m
+          there = omega (arith, founded-declared (P .variables) x f, o .len)
+
+          low : T (not (leZ a (valued m x))) → T (leZ (valued m x) a)
+          low t = omega int
+
+  iterate-right : (k : ℕ) (m : List ℤ) → OnWay m → Right P θ (iterate P θ k m)
+  unfolding iterate
+  iterate-right zero m o = tt
+  iterate-right (suc k) m o = act-right (iterate P θ k) (iterate-right k) m o (firstUnmet P θ (valued m) zero (P .rules)) refl
+
+  pub search-right : (k : ℕ) → Right P θ (search k P θ)
+  search-right k = iterate-right k (lows θ 0 (P .variables)) (record {
+    len = lows-length θ 0 (P .variables);
+    progress = progress-start (laws p) w (valued (lows θ 0 (P .variables))) (lows-is P w);
+  })

@@ -1,0 +1,69 @@
+-- Documents 000 (section 3) and 003 (Preliminaries): the reduct's models and the least one, over any rules. A variable is a number and a
+-- valuation gives each a value of ℤ. Each variable has an order of its own and a starting end: ≤ and its low for one founded from below.
+use mathlib.Core.Path.{_≡_}
+use mathlib.Core.Bool.{Bool, not}
+use Prim.Native.Nat.{ℕ}
+use lib.IntN.{ℤ}
+use lib.Dec.{T}
+use Rattle.program.specs.declared.Direction.{Direction}
+use Rattle.program.specs.declared.Given.{Given}
+use Rattle.program.specs.declared.Given.the-variants.{Nothing, Value}
+
+abbrev pub Valuation : Type 0
+Valuation = ℕ → ℤ
+
+-- the rules of a program and its variables, as far as the theory reads them
+pub record System : Type 1 where
+  pub founded : ℕ → Bool
+  -- the order of a variable, its starting end and its far end
+  pub leq : ℕ → ℤ → ℤ → Bool
+  pub start : ℕ → ℤ
+  pub far : ℕ → ℤ
+  pub Rule : Type 0
+  pub In : Rule → Type 0
+  pub head : Rule → ℕ
+  -- the variable stands at a place of the rule's body that pushes this way
+  pub occurs : Rule → ℕ → Direction → Type 0
+  -- what the rule gives, kept places read in the first valuation and all others in the second
+  pub gives : Rule → Valuation → Valuation → Given
+
+module _ (𝒮 : System) where
+  open System 𝒮 using (founded, leq, start, far, Rule, In, head, gives)
+
+  -- a is at or before b, and a is before b, in the order of the variable v
+  pub record Below (v : ℕ) (a b : ℤ) : Type 0 where
+    pub le : T (leq v a b)
+
+  pub record Short (v : ℕ) (a b : ℤ) : Type 0 where
+    pub lt : T (not (leq v b a))
+
+  -- "A rule is met when it gives no more than its head has; one that gives nothing never gives more."
+  abbrev pub Reaches : ℕ → Given → ℤ → Type 0
+  Reaches v Nothing b = Unit {0}
+  Reaches v (Value a) b = Below v a b
+
+  -- every value lies in its range
+  pub record Within (m : Valuation) : Type 0 where
+    pub low : (v : ℕ) → Below v (start v) (m v)
+    pub high : (v : ℕ) → Below v (m v) (far v)
+
+  -- m is a model of the reduct of θ: "The reduct says that each head is at least what its rule gives, kept variables read from the model;
+  -- founded values lie in low..high." Standard variables are as assigned
+  pub record Model (θ m : Valuation) : Type 0 where
+    pub standard : (v : ℕ) → T (not (founded v)) → m v ≡ θ v
+    pub within : Within m
+    pub rules : (r : Rule) → In r → Reaches (head r) (gives r m θ) (m (head r))
+
+  -- m is at or below every model
+  pub record Floor (θ m : Valuation) : Type 0 where
+    pub under : (m′ : Valuation) → Model θ m′ → (v : ℕ) → Below v (m v) (m′ v)
+
+  -- the least model of the reduct of θ
+  pub record Least (θ m : Valuation) : Type 0 where
+    pub model : Model θ m
+    pub floor : Floor θ m
+
+  -- 003: a solution such that there is no other solution, and a variable at which that other is below it
+  pub record Minimal (θ m : Valuation) : Type 0 where
+    pub model : Model θ m
+    pub none-below : (m′ : Valuation) → Model θ m′ → (v : ℕ) → Short v (m′ v) (m v) → ⊥

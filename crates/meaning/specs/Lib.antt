@@ -1,0 +1,13 @@
+pub mod Founded
+pub mod Reduct
+pub mod Stable
+pub mod LeastCall
+pub mod Unfounded
+pub mod Search
+pub mod Values
+pub mod Masks
+pub mod Reads
+pub mod Tabled
+pub mod Entries
+pub mod Running
+pub mod Starred

@@ -1,0 +1,12 @@
+-- Which rules a raised variable concerns.
+use Prim.Native.Nat.{ℕ}
+use mathlib.Core.Bool.{Bool, _&&_}
+use lib.ListN.{length}
+use lib.Dec.{eqb}
+use Rattle.program.specs.Tables.{anyBelow}
+use Rattle.program.specs.Program.{Program, Rule}
+use Rattle.meaning.specs.Reduct.{kept, placed}
+
+-- the rule reads x at a kept place
+unfoldable pub readsKept : Program → Rule → ℕ → Bool
+readsKept P r x = anyBelow (length (r .terms)) (λ j. kept P r j && eqb (placed r j) x)
