@@ -17,3 +17,4 @@ pub mod RunLaws
 pub mod StepLaws
 pub mod SolveLaws
 pub mod Starred
+pub mod CallLaws

@@ -1,4 +1,5 @@
 // The meaning of a program: the reduct and its least model.
+pub mod call;
 pub mod demands;
 pub mod places;
 pub mod solve;

@@ -12,71 +12,51 @@ use Rattle.meaning.proofs.TableLaws.{part-here, terms-here, entry-made}
 use borrow.Author.Needs.{needs}
 use Rattle.meaning.proofs.tables.enter.Statement.{statement}
 use Rattle.meaning.proofs.tables.enter.Tie as tie
-use Rattle.meaning.proofs.tables.enter.Reads as reads
-use Rattle.meaning.proofs.tables.enter.Lts as lts
-use Rattle.fields.proofs.cursor.extent_at.Reads as extent-at-reads
-use Rattle.meaning.proofs.places.kept_places.Reads as kept-places-reads
-use Rattle.meaning.proofs.tables.enter_rule.Reads as enter-rule-reads
 
--- src/tables.rt:87:9
 extent-at-requires : tie.Need-extent-at-requires
 extent-at-requires c κs = search needs
 
--- src/tables.rt:90:15
 add-end : tie.Need-add-end
 add-end c = search needs
 
--- src/tables.rt:91:45
 sub-kept-places : tie.Need-sub-kept-places
 sub-kept-places c = search needs
 
--- src/tables.rt:91:45
 part-kept-places-start : tie.Need-part-kept-places-start
 part-kept-places-start c = search needs
 
--- src/tables.rt:91:45
 part-kept-places-end : tie.Need-part-kept-places-end
 part-kept-places-end c = search needs
 
--- src/tables.rt:91:9
 kept-places-requires : tie.Need-kept-places-requires
 kept-places-requires c κs = let s = c .before .before .before .args .file .now in
     let p = part-here _ _ _ _ (c .before .extent-at .ensures .0) (c .before .extent-at .ensures .1) in
     (subst (λ (v : List ℕ). Standing s (c .before .before .before .args .variables) v) (sym p) (c .before .before .before .pre .0 .standing), subst (λ (v : List ℕ). length (ruleOf v .terms) ≤ maxTerms) (sym p) (c .before .before .before .pre .0 .few))
 
--- src/tables.rt:92:5
 mul-places : tie.Need-mul-places
 mul-places c = search needs
 
--- src/tables.rt:92:5
 element-write-places : tie.Need-element-write-places
 element-write-places c = search needs
 
--- src/tables.rt:93:5
 mul-masks : tie.Need-mul-masks
 mul-masks c = search needs
 
--- src/tables.rt:93:5
 element-write-masks : tie.Need-element-write-masks
 element-write-masks c = search needs
 
--- src/tables.rt:94:25
 sub-enter-rule : tie.Need-sub-enter-rule
 sub-enter-rule c = search needs
 
--- src/tables.rt:94:25
 part-enter-rule-start : tie.Need-part-enter-rule-start
 part-enter-rule-start c = search needs
 
--- src/tables.rt:94:25
 part-enter-rule-end : tie.Need-part-enter-rule-end
 part-enter-rule-end c = search needs
 
--- src/tables.rt:94:53
 sub-enter-rule-2 : tie.Need-sub-enter-rule-2
 sub-enter-rule-2 c = let t = terms-here _ _ _ _ (c .before .before .before .before .before .before .pre .0) (c .before .before .before .before .extent-at .ensures .1) in omega arith
 
--- src/tables.rt:94:5
 enter-rule-requires : tie.Need-enter-rule-requires
 enter-rule-requires c κs = let b = c .before .before .before .before .before .before in
     let h = b .pre .0 in
@@ -88,7 +68,6 @@ enter-rule-requires c κs = let b = c .before .before .before .before .before .b
     let f = h .few in
     ((omega arith, omega arith, omega arith), b .pre .1 .3)
 
--- src/tables.rt:73:1
 returns : tie.Need-returns
 returns c = let b = c .before .before .before .before .before .before .before in
     let x = c .before .before .before .before .before .extent-at in (

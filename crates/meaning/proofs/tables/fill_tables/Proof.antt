@@ -12,9 +12,6 @@ use Rattle.meaning.specs.Tabled.{readersWords, Tabled}
 use Rattle.meaning.proofs.TableLaws.{rules-few, here, tabled-none, tabled-more, tabled-whole, tabled-all, next-place}
 use Rattle.meaning.proofs.tables.fill_tables.Statement.{statement}
 use Rattle.meaning.proofs.tables.fill_tables.Tie as tie
-use Rattle.meaning.proofs.tables.fill_tables.Reads as reads
-use Rattle.meaning.proofs.tables.fill_tables.Lts as lts
-use Rattle.meaning.proofs.tables.enter.Reads as enter-reads
 
 abbrev Inv-loop : tie.InvT-loop
 Inv-loop file places₀ masks₀ readers₀ n rules at₀ i₀ places masks readers at i =
@@ -24,16 +21,13 @@ Inv-loop file places₀ masks₀ readers₀ n rules at₀ i₀ places masks read
 abbrev μ-loop : tie.MeasureT-loop
 μ-loop file places₀ masks₀ readers₀ n rules at₀ i₀ places masks readers at i = rules - i
 
--- src/tables.rt:114:18
 mul-at : tie.Need-mul-at Inv-loop μ-loop
 mul-at c = let v = variables-few (c .before .pre .0) in omega arith
 
--- src/tables.rt:116:5
 loop-holds : tie.Need-loop-holds Inv-loop μ-loop
 loop-holds c = let k = c .before .pre .0 in
     (omega arith, first-rule k, c .before .pre .1 .0, tabled-whole k (tabled-none k _ _ _ (c .before .pre .1 .1)))
 
--- src/tables.rt:117:13
 enter-requires : tie.Need-enter-requires Inv-loop μ-loop
 enter-requires c κs = let b = c .before .before .before .before .before .before in
     let l = c .before .before .before .before .loop in
@@ -41,15 +35,12 @@ enter-requires c κs = let b = c .before .before .before .before .before .before
     let f = rules-few (b .pre .0) in
     (here (b .pre .0) _ _ t (l .inv .1), (omega arith, l .inv .2 .0, l .inv .2 .1, l .inv .2 .2))
 
--- src/tables.rt:119:9
 add-i : tie.Need-add-i Inv-loop μ-loop
 add-i c = search needs
 
--- src/tables.rt:116:5
 loop-less : tie.Need-loop-less Inv-loop μ-loop
 loop-less c = search needs
 
--- src/tables.rt:116:5
 loop-again : tie.Need-loop-again Inv-loop μ-loop
 loop-again c = let k = c .before .before .before .before .before .before .before .pre .0 in
     let l = c .before .before .before .before .before .loop in
@@ -61,7 +52,6 @@ loop-again c = let k = c .before .before .before .before .before .before .before
       tabled-whole k (tabled-more k _ _ _ _ _ _ _ _ _ t (l .inv .1) (l .inv .2 .0) (l .inv .2 .1) n (l .inv .3 (k .fields) (k .whole))),
     )
 
--- src/tables.rt:99:1
 returns : tie.Need-returns Inv-loop μ-loop
 returns c = let l = c .before .loop in (l .inv .2, tabled-all (c .before .before .before .pre .0) (omega arith) (l .inv .3))
 

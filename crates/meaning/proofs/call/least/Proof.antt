@@ -1,0 +1,40 @@
+use mathlib.Core.Path.{subst}
+use Rattle.program.specs.Reading.{Reads, answerOf}
+use Rattle.program.specs.declared.Reading.{Reading}
+use Rattle.meaning.specs.LeastCall.{bad-file}
+use borrow.Author.Needs.{needs}
+use Rattle.meaning.proofs.call.least.Statement.{statement}
+use Rattle.meaning.proofs.call.least.Tie as tie
+
+read-requires : tie.Need-read-requires
+read-requires c κs = search needs
+
+enum-known-why : tie.Need-enum-known-why
+enum-known-why c = search needs
+
+enum-known-counts : tie.Need-enum-known-counts
+enum-known-counts c = search needs
+
+judged-requires : tie.Need-judged-requires
+judged-requires c κs = subst (λ (q : Reading). Reads (c .before .before .before .before .before .before .before .before .args .file .now) (answerOf q)) (c .before .before .counts .given .1) (c .before .before .before .before .read .ensures)
+
+returns : tie.Need-returns
+returns c = bad-file (subst (λ (q : Reading). Reads (c .before .before .before .before .before .before .before .args .file .now) (answerOf q)) (c .before .why .given .1) (c .before .before .before .read .ensures))
+
+same-length : tie.Need-same-length
+same-length c = search needs
+
+returns-2 : tie.Need-returns-2
+returns-2 c = search needs
+
+pub least-spec : {M : Type 1} → statement M
+least-spec =
+    tie.close
+    (tie.spec
+    read-requires
+    enum-known-why
+    enum-known-counts
+    judged-requires
+    returns
+    same-length
+    returns-2)
