@@ -26,6 +26,7 @@ use Rattle.meaning.proofs.Tests.{cases}
 use Rattle.meaning.proofs.Theory.{Progress, progress-start, progress-raise, progress-done, progress-over}
 use Rattle.meaning.proofs.Monotone.{laws, head-founded}
 use Rattle.meaning.proofs.InRanges.{founded-declared, past-zero}
+use Rattle.meaning.proofs.Steps.{gap, gap-raised}
 
 -- unfolding this unfolds the search and what it reads of a program
 unfoldable pub computes : Unit {0}
@@ -111,11 +112,45 @@ Right P θ (found m) = Least (system P) θ (valued m)
 Right P θ none = (m : Valuation) → Model (system P) θ m → ⊥
 Right P θ unfinished = Unit {0}
 
+-- there is a least model, or there is no model
+abbrev pub Solvable : Program → Valuation → Type 0
+Solvable P θ = ((m : Valuation) × Least (system P) θ m) ⊎ ((m : Valuation) → Model (system P) θ m → ⊥)
+
 module _ {P : Program} (p : Promises P) {θ : Valuation} (w : Within (system P) θ) where
   -- the values on the way
   record OnWay (m : List ℤ) : Type 0 where
     len : length m ≡ length (P .variables)
     progress : Progress (system P) θ (valued m)
+
+  -- the starting ends
+  on-way : OnWay (lows θ 0 (P .variables))
+  on-way = record { len = lows-length θ 0 (P .variables); progress = progress-start (laws p) w (valued (lows θ 0 (P .variables))) (lows-is P w) }
+
+  -- rule j gives a, which is more than its head has
+  module _ {m : List ℤ} (o : OnWay m) (j : ℕ) (h : j < length (P .rules)) {a : ℤ} (u : Unmet P θ (valued m) (ruleIn (P .rules) j) a) where
+    abbrev x : ℕ
+    x = ruleIn (P .rules) j .head
+
+    there : x < length (P .variables)
+    there = founded-declared (P .variables) x (head-founded p j h)
+
+    low : T (not (leZ a (valued m x))) → T (leZ (valued m x) a)
+    low t = omega int
+
+    -- within its range it is raised
+    raised-way : T (leZ a (variableIn (P .variables) x .high)) → OnWay (set m x a)
+    raised-way t = record {
+      len = length-set m x a ∙ o .len;
+      progress = progress-raise (laws p) w (o .progress) j h (head-founded p j h) a a (u .value-is) (laws p .refl x a) (record { le = low (u .more) }) (record { le = t })
+          (valued (set m x a)) (stored m x a (omega (arith, there, o .len)));
+    }
+
+    raised-nearer : T (leZ a (variableIn (P .variables) x .high)) → gap (P .variables) (set m x a) < gap (P .variables) m
+    raised-nearer = gap-raised (P .variables) m x a there (omega (arith, o .len)) (u .more)
+
+    -- beyond it there is no model
+    over-way : T (not (leZ a (variableIn (P .variables) x .high))) → (m′ : Valuation) → Model (system P) θ m′ → ⊥
+    over-way n = progress-over (laws p) w (o .progress) j h a (u .value-is) (record { lt = n })
 
   act-right : (go : List ℤ → Outcome) → ((m : List ℤ) → OnWay m → Right P θ (go m)) → (m : List ℤ) → OnWay m
       → (s : Step) → firstUnmet P θ (valued m) zero (P .rules) ≡ s → Right P θ (act P go m s)
@@ -125,25 +160,8 @@ module _ {P : Program} (p : Promises P) {θ : Valuation} (w : Within (system P) 
       subst (λ k. Right P θ (act P go m (raise k a))) (omega (arith, n .1)) (at (n .0) (n .2) (n .3))
     where
       at : (j : ℕ) → j < length (P .rules) → Unmet P θ (valued m) (ruleIn (P .rules) j) a → Right P θ (act P go m (raise j a))
-      at j h u = cases (leZ a (variableIn (P .variables) x .high)) (λ c. Right P θ (raised go c (set m x a)))
-          (λ t. ih (set m x a) (record {
-            len = length-set m x a ∙ o .len;
-            progress = progress-raise (laws p) w (o .progress) j h f a a (u .value-is) (laws p .refl x a) (record { le = low (u .more) }) (record { le = t })
-                (valued (set m x a)) (stored m x a there);
-          }))
-          (λ n. progress-over (laws p) w (o .progress) j h a (u .value-is) (record { lt = n }))
-        where
-          x : ℕ
-          x = ruleIn (P .rules) j .head
-
-          f : T (founded (variableIn (P .variables) x))
-          f = head-founded p j h
-
-          there : x < length m
-          there = omega (arith, founded-declared (P .variables) x f, o .len)
-
-          low : T (not (leZ a (valued m x))) → T (leZ (valued m x) a)
-          low t = omega int
+      at j h u = cases (leZ a (variableIn (P .variables) (ruleIn (P .rules) j .head) .high)) (λ c. Right P θ (raised go c (set m (ruleIn (P .rules) j .head) a)))
+          (λ t. ih (set m (ruleIn (P .rules) j .head) a) (raised-way o j h u t)) (over-way o j h u)
 
   iterate-right : (k : ℕ) (m : List ℤ) → OnWay m → Right P θ (iterate P θ k m)
   unfolding iterate
@@ -151,7 +169,23 @@ module _ {P : Program} (p : Promises P) {θ : Valuation} (w : Within (system P) 
   iterate-right (suc k) m o = act-right (iterate P θ k) (iterate-right k) m o (firstUnmet P θ (valued m) zero (P .rules)) refl
 
   pub search-right : (k : ℕ) → Right P θ (search k P θ)
-  search-right k = iterate-right k (lows θ 0 (P .variables)) (record {
-    len = lows-length θ 0 (P .variables);
-    progress = progress-start (laws p) w (valued (lows θ 0 (P .variables))) (lows-is P w);
-  })
+  search-right k = iterate-right k (lows θ 0 (P .variables)) on-way
+
+  -- ---- every reduct has a least model or no model
+
+  step-solved : (m : List ℤ) → OnWay m → ((m⁺ : List ℤ) → OnWay m⁺ → gap (P .variables) m⁺ < gap (P .variables) m → Solvable P θ)
+      → (s : Step) → firstUnmet P θ (valued m) zero (P .rules) ≡ s → Solvable P θ
+  step-solved m o ih closed e = inl (valued m, progress-done (o .progress) (closed-met P θ (valued m) zero (P .rules) e))
+  step-solved m o ih (raise i a) e = let n = raise-unmet P θ (valued m) zero (P .rules) i a e in at (n .0) (n .2) (n .3)
+    where
+      at : (j : ℕ) → j < length (P .rules) → Unmet P θ (valued m) (ruleIn (P .rules) j) a → Solvable P θ
+      at j h u = cases (leZ a (variableIn (P .variables) (ruleIn (P .rules) j .head) .high)) (λ c. Solvable P θ)
+          (λ t. ih (set m (ruleIn (P .rules) j .head) a) (raised-way o j h u t) (raised-nearer o j h u t)) (λ n. inr (over-way o j h u n))
+
+  -- each raise brings the values nearer to their far ends
+  solved-from : (n : ℕ) (m : List ℤ) → gap (P .variables) m < n → OnWay m → Solvable P θ
+  solved-from zero m l o = let f : ⊥ = omega arith in absurd f
+  solved-from (suc n) m l o = step-solved m o (λ m⁺ o⁺ k. solved-from n m⁺ (omega arith) o⁺) (firstUnmet P θ (valued m) zero (P .rules)) refl
+
+  pub solvable : Solvable P θ
+  solvable = solved-from (suc (gap (P .variables) (lows θ 0 (P .variables)))) (lows θ 0 (P .variables)) (omega arith) on-way

@@ -1,0 +1,60 @@
+-- The call least has an answer for every file, assignment and lent buffer.
+use Prim.Native.Nat.{ℕ, _*_, _<_, _≤_}
+use mathlib.Core.Path.{_≡_}
+use mathlib.Core.Logic.{_⊎_, inl, inr}
+use mathlib.Core.Bool.{true}
+use mathlib.Core.List.{List}
+use native.Mathlib.Decide.{ℕ-discrete}
+use native.Mathlib.Omega.{arith}
+use lib.Dec.{ltb, ltb→lt, nltb→le}
+use lib.ListN.{length}
+use Rattle.program.specs.Program.{Program, variableIn}
+use Rattle.program.specs.Reading.{Reads, accepted, refused, Accepts}
+use Rattle.program.specs.Reading as reading
+use Rattle.program.proofs.Promises.{accepts-promises}
+use Rattle.program.proofs.Total.{reads-total}
+use Rattle.program.proofs.Unique.{reads-accepts}
+use Rattle.meaning.specs.Founded.{Valuation}
+use Rattle.meaning.specs.Stable.{assigned}
+use Rattle.meaning.specs.LeastCall.{inRange, FirstOutside, AllInside, Answer, LeastCall, bad-file, bad-assignment, short-buffer, outside, no-model, least-model}
+use Rattle.meaning.proofs.Tests.{cases, First, first-or-all, is-it, not-it}
+use Rattle.meaning.proofs.InRanges.{assigned-within}
+use Rattle.meaning.proofs.Search.{Solvable, solvable}
+
+-- an answer, what the buffer then holds, and that they are the call's
+abbrev pub Answers : List ℕ → List ℕ → List ℕ → Type 0
+Answers s a b = (r : Answer) × (b′ : List ℕ) × LeastCall s a b r b′
+
+-- values all lie in their ranges, or there is a first that does not
+pub ranged : (P : Program) (θ : Valuation) → ((v : ℕ) × FirstOutside P θ v) ⊎ AllInside P θ
+ranged P θ = go (first-or-all inside (λ v. is-it (inRange (variableIn (P .variables) v) θ v)) (length (P .variables)))
+  where
+    inside : ℕ → Type 0
+    inside v = inRange (variableIn (P .variables) v) θ v ≡ true
+
+    go : ((v : ℕ) × (v < length (P .variables)) × First inside v) ⊎ AllInside P θ → ((v : ℕ) × FirstOutside P θ v) ⊎ AllInside P θ
+    go (inl f) = inl (f .0, record { declared = f .1; outside = not-it (inRange (variableIn (P .variables) (f .0)) θ (f .0)) (f .2 .0); first = f .2 .1 })
+    go (inr all) = inr all
+
+module _ {s : List ℕ} (a b : List ℕ) {P : Program} (x : Accepts s P) where
+  module _ (e : length a ≡ 2 * length (P .variables)) (h : 2 * length (P .variables) ≤ length b) where
+    solved-total : AllInside P (assigned a) → Solvable P (assigned a) → Answers s a b
+    solved-total i (inl l) = (_, _, least-model x e h i (l .1))
+    solved-total i (inr n) = (_, _, no-model x e h i n)
+
+    ranged-total : ((v : ℕ) × FirstOutside P (assigned a) v) ⊎ AllInside P (assigned a) → Answers s a b
+    ranged-total (inl f) = (_, _, outside x e h (f .1))
+    ranged-total (inr i) = solved-total i (solvable (accepts-promises x) (assigned-within P a (omega arith) i))
+
+  long-total : Dec (length a ≡ 2 * length (P .variables)) → Answers s a b
+  long-total (no f) = (_, _, bad-assignment x f)
+  long-total (yes e) = cases (ltb (length b) (2 * length (P .variables))) (λ c. Answers s a b)
+      (λ t. (_, _, short-buffer x e (ltb→lt (length b) (2 * length (P .variables)) t)))
+      (λ n. ranged-total e (nltb→le (length b) (2 * length (P .variables)) n) (ranged P (assigned a)))
+
+pub least-call-total : (s a b : List ℕ) → Answers s a b
+least-call-total s a b = go (reads-total s .0) (reads-total s .1)
+  where
+    go : (r : reading.Answer) → Reads s r → Answers s a b
+    go (refused n at) q = (_, _, bad-file q)
+    go (accepted v r c) q = let k = reads-accepts q in long-total a b (k .accepts) (ℕ-discrete (length a) (2 * length (k .meant .variables)))
