@@ -22,7 +22,8 @@ use Rattle.meaning.specs.Tabled.{Tabled}
 use Rattle.meaning.specs.Values.{valued, Filled, starting, OutsideIs}
 use Rattle.meaning.specs.Running.{Running}
 use Rattle.meaning.specs.Stable.{assigned}
-use Rattle.meaning.specs.LeastCall.{LeastCall, refusal, range, none, found, bad-assignment, short-buffer, outside, no-model, least-model, AllInside, written}
+use Rattle.meaning.specs.Calls.{leastBytes, Refuses, bad-assignment, short-buffer, Called}
+use Rattle.meaning.specs.LeastCall.{LeastCall, range, none, found, outside, no-model, least-model, AllInside, written}
 use Rattle.meaning.specs.declared.values.Outside.the-variants.{At, Nowhere}
 use Rattle.meaning.proofs.Ranges.{started-whole, first-outside, all-inside}
 use Rattle.meaning.proofs.InRanges.{assigned-within, assigned-past}
@@ -76,22 +77,21 @@ module _ (s : List ℕ) (k : Counts) (r : Reads s (accepted (k .variables) (k .r
   -- ---- the answers
 
   module _ (a b : List ℕ) where
-    -- lengths by the program's variables
+    pub wrong-assignment : (bytes : ℕ) → (length a ≡ 2 * k .variables → ⊥) → Refuses bytes s a b 14 0
+    wrong-assignment bytes n = bad-assignment (accept .accepts) (λ e. n (let q = accept .variables-are in omega arith))
+
     same-length : length a ≡ 2 * k .variables → length a ≡ 2 * length (accept .meant .variables)
     same-length e = let q = accept .variables-are in omega arith
 
-    room : 2 * k .variables ≤ length b → 2 * length (accept .meant .variables) ≤ length b
-    room h = let q = accept .variables-are in omega arith
+    pub wrong-buffer : (bytes : ℕ) → length a ≡ 2 * k .variables → length b < bytes * k .variables → Refuses bytes s a b 15 0
+    wrong-buffer bytes e h = short-buffer (accept .accepts) (same-length e) (rw (accept .variables-are) h)
 
-    pub wrong-assignment : (length a ≡ 2 * k .variables → ⊥) → LeastCall s a b (refusal 14 0) b
-    wrong-assignment n = bad-assignment (accept .accepts) (λ e. n (let q = accept .variables-are in omega arith))
-
-    pub wrong-buffer : length a ≡ 2 * k .variables → length b < 2 * k .variables → LeastCall s a b (refusal 15 0) b
-    wrong-buffer e h = short-buffer (accept .accepts) (same-length e) (let q = accept .variables-are in omega arith)
+    pub called : (bytes : ℕ) → length a ≡ 2 * k .variables → bytes * k .variables ≤ length b → Called bytes s a b (accept .meant)
+    called bytes e h = record { accepts = accept .accepts; long = same-length e; room = rw (accept .variables-are) h }
 
     module _ (e : length a ≡ 2 * k .variables) (h : 2 * k .variables ≤ length b) where
       pub wrong-range : (v : ℕ) (θ : Valuation) → θ ≡ assigned a → OutsideIs (variablesAt s (k .variables)) θ (k .variables) (At v) → LeastCall s a b (range v) b
-      wrong-range v θ p o = outside (accept .accepts) (same-length e) (room h) (first-outside (accept .meant) s (k .variables) (assigned a) variables-are (rw p at o))
+      wrong-range v θ p o = outside (called leastBytes e h) (first-outside (accept .meant) s (k .variables) (assigned a) variables-are (rw p at o))
 
       pub right-range : (θ : Valuation) → θ ≡ assigned a → OutsideIs (variablesAt s (k .variables)) θ (k .variables) Nowhere
           → (P : Program) → Accepts s P → AllInside P (assigned a)
@@ -115,10 +115,10 @@ module _ (s : List ℕ) (k : Counts) (r : Reads s (accepted (k .variables) (k .r
             → LeastCall s a b found b′
         a-model m b′ x q =
             subst (LeastCall s a b found) (sym (q ∙ ap (λ (n : ℕ). written m n ++ drop (2 * n) b) (sym (accept .variables-are))))
-            (least-model (accept .accepts) (same-length e) (room h) (inside (accept .meant) (accept .accepts)) (rw p at x))
+            (least-model (called leastBytes e h) (inside (accept .meant) (accept .accepts)) (rw p at x))
 
         pub a-none : ((m : Valuation) → Model (system (accept .meant)) θ m → ⊥) → LeastCall s a b none b
-        a-none x = no-model (accept .accepts) (same-length e) (room h) (inside (accept .meant) (accept .accepts)) (rw p at x)
+        a-none x = no-model (called leastBytes e h) (inside (accept .meant) (accept .accepts)) (rw p at x)
 
 -- values that agree everywhere are one valuation
 pub one-valuation : (m m′ : Valuation) → ((v : ℕ) → m v ≡ m′ v) → m ≡ m′

@@ -12,8 +12,8 @@ use Rattle.program.proofs.Promises.{accepts-promises}
 use Rattle.program.proofs.Unique.{reads-unique, accepts-unique, accepts-reads}
 use Rattle.meaning.specs.Founded.{Valuation, Model, Least}
 use Rattle.meaning.specs.Reduct.{system}
-use Rattle.meaning.specs.LeastCall.{Answer, refusal, range, FirstOutside, AllInside, written}
-use Rattle.meaning.specs.LeastCall.{LeastCall, bad-file, bad-assignment, short-buffer, outside, no-model, least-model}
+use Rattle.meaning.specs.Calls.{Refuses, bad-file, bad-assignment, short-buffer, Called}
+use Rattle.meaning.specs.LeastCall.{Answer, refusal, range, FirstOutside, AllInside, written, LeastCall, turned-down, outside, no-model, least-model}
 use Rattle.meaning.proofs.Theory.{least-unique}
 use Rattle.meaning.proofs.Monotone.{laws}
 
@@ -26,9 +26,6 @@ written-same (suc n) h = ap₂ _++_ (written-same n h) (ap bytesOf (h n))
 -- a file is turned down or accepted
 refused-or : {s : List ℕ} {n at : ℕ} {P : Program} → Reads s (refused n at) → Accepts s P → ⊥
 refused-or r x = let e = reads-unique r (accepts-reads x) in let z : _≡_ {A = ℕ} 0 1 = cc in omega arith
-
-same-refusal : {s : List ℕ} {n at n′ at′ : ℕ} → Reads s (refused n at) → Reads s (refused n′ at′) → refusal n at ≡ refusal n′ at′
-same-refusal r t = let e = reads-unique r t in cc
 
 -- values all lie in their ranges, or there is a first that does not
 inside-or : {P : Program} {θ : Valuation} {v : ℕ} → AllInside P θ → FirstOutside P θ v → ⊥
@@ -59,41 +56,40 @@ module _ {s : List ℕ} {P Q : Program} (x : Accepts s P) (y : Accepts s Q) wher
       let e = least-unique (laws (accepts-promises x)) l (subst (λ R. Least (system R) θ m′) (sym (accepts-unique x y)) k) in
       ap₂ _++_ (written-same (length (P .variables)) e ∙ ap (written m′) count) (ap (λ n. drop (2 * n) b) count)
 
+-- ---- calls that are turned down
+
+module _ {bytes : ℕ} {s a b : List ℕ} where
+  pub same-refusal : {n at n′ at′ : ℕ} → Refuses bytes s a b n at → Refuses bytes s a b n′ at′ → (n ≡ n′) × (at ≡ at′)
+  same-refusal (bad-file p) (bad-file q) = let e = reads-unique p q in (cc, cc)
+  same-refusal (bad-file p) (bad-assignment y g) = absurd (refused-or p y)
+  same-refusal (bad-file p) (short-buffer y g j) = absurd (refused-or p y)
+  same-refusal (bad-assignment x h) (bad-file q) = absurd (refused-or q x)
+  same-refusal (bad-assignment x h) (bad-assignment y g) = (refl, refl)
+  same-refusal (bad-assignment x h) (short-buffer y g j) = absurd (h (omega (arith, count x y)))
+  same-refusal (short-buffer x h k) (bad-file q) = absurd (refused-or q x)
+  same-refusal (short-buffer x h k) (bad-assignment y g) = absurd (g (omega (arith, count x y)))
+  same-refusal (short-buffer x h k) (short-buffer y g j) = (refl, refl)
+
+  pub refused-or-called : {n at : ℕ} {P : Program} → Refuses bytes s a b n at → Called bytes s a b P → ⊥
+  refused-or-called (bad-file p) c = refused-or p (c .accepts)
+  refused-or-called (bad-assignment x h) c = h (omega (arith, c .long, count x (c .accepts)))
+  refused-or-called (short-buffer x h k) c = let e = ap (λ n. bytes * n) (count x (c .accepts)) in omega (arith, c .room)
+
 -- the first call's case against the second's
 pub least-call-unique : {s a b : List ℕ} {r r′ : Answer} {b₁ b₂ : List ℕ} → LeastCall s a b r b₁ → LeastCall s a b r′ b₂ → (r ≡ r′) × (b₁ ≡ b₂)
-least-call-unique (bad-file p) (bad-file q) = (same-refusal p q, refl)
-least-call-unique (bad-file p) (bad-assignment y g) = absurd (refused-or p y)
-least-call-unique (bad-file p) (short-buffer y g j) = absurd (refused-or p y)
-least-call-unique (bad-file p) (outside y g j u) = absurd (refused-or p y)
-least-call-unique (bad-file p) (no-model y g j w d) = absurd (refused-or p y)
-least-call-unique (bad-file p) (least-model y g j w e) = absurd (refused-or p y)
-least-call-unique (bad-assignment x h) (bad-file q) = absurd (refused-or q x)
-least-call-unique (bad-assignment x h) (bad-assignment y g) = (refl, refl)
-least-call-unique (bad-assignment x h) (short-buffer y g j) = absurd (h (omega (arith, count x y)))
-least-call-unique (bad-assignment x h) (outside y g j u) = absurd (h (omega (arith, count x y)))
-least-call-unique (bad-assignment x h) (no-model y g j w d) = absurd (h (omega (arith, count x y)))
-least-call-unique (bad-assignment x h) (least-model y g j w e) = absurd (h (omega (arith, count x y)))
-least-call-unique (short-buffer x h k) (bad-file q) = absurd (refused-or q x)
-least-call-unique (short-buffer x h k) (bad-assignment y g) = absurd (g (omega (arith, count x y)))
-least-call-unique (short-buffer x h k) (short-buffer y g j) = (refl, refl)
-least-call-unique (short-buffer x h k) (outside y g j u) = absurd (omega (arith, count x y))
-least-call-unique (short-buffer x h k) (no-model y g j w d) = absurd (omega (arith, count x y))
-least-call-unique (short-buffer x h k) (least-model y g j w e) = absurd (omega (arith, count x y))
-least-call-unique (outside x h k o) (bad-file q) = absurd (refused-or q x)
-least-call-unique (outside x h k o) (bad-assignment y g) = absurd (g (omega (arith, count x y)))
-least-call-unique (outside x h k o) (short-buffer y g j) = absurd (omega (arith, count x y))
-least-call-unique (outside x h k o) (outside y g j u) = (ap range (same-first x y o u), refl)
-least-call-unique (outside x h k o) (no-model y g j w d) = absurd (inside-or-first y x w o)
-least-call-unique (outside x h k o) (least-model y g j w e) = absurd (inside-or-first y x w o)
-least-call-unique (no-model x h k i n) (bad-file q) = absurd (refused-or q x)
-least-call-unique (no-model x h k i n) (bad-assignment y g) = absurd (g (omega (arith, count x y)))
-least-call-unique (no-model x h k i n) (short-buffer y g j) = absurd (omega (arith, count x y))
-least-call-unique (no-model x h k i n) (outside y g j u) = absurd (inside-or-first x y i u)
-least-call-unique (no-model x h k i n) (no-model y g j w d) = (refl, refl)
-least-call-unique (no-model x h k i n) (least-model y g j w e) = absurd (model-or-none x y n e)
-least-call-unique (least-model x h k i l) (bad-file q) = absurd (refused-or q x)
-least-call-unique (least-model x h k i l) (bad-assignment y g) = absurd (g (omega (arith, count x y)))
-least-call-unique (least-model x h k i l) (short-buffer y g j) = absurd (omega (arith, count x y))
-least-call-unique (least-model x h k i l) (outside y g j u) = absurd (inside-or-first x y i u)
-least-call-unique (least-model x h k i l) (no-model y g j w d) = absurd (model-or-none y x d l)
-least-call-unique {b = b} (least-model x h k i l) (least-model y g j w e) = (refl, same-bytes x y b l e)
+least-call-unique (turned-down p) (turned-down q) = let e = same-refusal p q in (cc, refl)
+least-call-unique (turned-down p) (outside y u) = absurd (refused-or-called p y)
+least-call-unique (turned-down p) (no-model y w d) = absurd (refused-or-called p y)
+least-call-unique (turned-down p) (least-model y w e) = absurd (refused-or-called p y)
+least-call-unique (outside x o) (turned-down q) = absurd (refused-or-called q x)
+least-call-unique (outside x o) (outside y u) = (ap range (same-first (x .accepts) (y .accepts) o u), refl)
+least-call-unique (outside x o) (no-model y w d) = absurd (inside-or-first (y .accepts) (x .accepts) w o)
+least-call-unique (outside x o) (least-model y w e) = absurd (inside-or-first (y .accepts) (x .accepts) w o)
+least-call-unique (no-model x i n) (turned-down q) = absurd (refused-or-called q x)
+least-call-unique (no-model x i n) (outside y u) = absurd (inside-or-first (x .accepts) (y .accepts) i u)
+least-call-unique (no-model x i n) (no-model y w d) = (refl, refl)
+least-call-unique (no-model x i n) (least-model y w e) = absurd (model-or-none (x .accepts) (y .accepts) n e)
+least-call-unique (least-model x i l) (turned-down q) = absurd (refused-or-called q x)
+least-call-unique (least-model x i l) (outside y u) = absurd (inside-or-first (x .accepts) (y .accepts) i u)
+least-call-unique (least-model x i l) (no-model y w d) = absurd (model-or-none (y .accepts) (x .accepts) d l)
+least-call-unique {b = b} (least-model x i l) (least-model y w e) = (refl, same-bytes (x .accepts) (y .accepts) b l e)

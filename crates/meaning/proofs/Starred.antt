@@ -27,7 +27,7 @@ use Rattle.program.proofs.Conditions.{never, neither, none-below}
 use Rattle.program.proofs.Promises.{accepts-promises}
 use Rattle.meaning.specs.Founded.{Valuation, Reaches, Model, Least}
 use Rattle.meaning.specs.Reduct.{gives, system}
-use Rattle.meaning.specs.Stable.{assigned, RuleMet}
+use Rattle.meaning.specs.Stable.{assigned, RuleMet, Meets}
 use Rattle.meaning.specs.LeastCall.{inRange, AllInside}
 use Rattle.meaning.specs.Search.{found, search}
 use Rattle.meaning.specs.Values.{valued}
@@ -152,26 +152,28 @@ module _ {s a : List ℕ} {P : Program} (p : Plan s a P) where
           (λ n. let h = nltb→le v (length (P .variables)) n in
           rw (past-zero P (p .ranges) v h, past-zero P (k .within) v h) tt)
 
+  all-met : unmet-in P (assigned a) (length (P .rules)) ≡ false → length (P .constraints) ≡ 0 → Meets P (assigned a)
+  all-met r c = record {
+    ranges = p .ranges;
+    rules = rules-met P (assigned a) (length (P .rules)) r;
+    constraints = λ i h. let z : ⊥ = omega arith in absurd z;
+  }
+
   stable-plan : (k : ℕ) (m : List ℤ) → search k P (assigned a) ≡ found m → above-in P (assigned a) (valued m) ≡ false
       → unmet-in P (assigned a) (length (P .rules)) ≡ false → length (P .constraints) ≡ 0 → StablePlan s a
   stable-plan k m e f r c = record {
     means = P;
     plan = p;
-    stable = record {
-      ranges = p .ranges;
-      rules = rules-met P (assigned a) (length (P .rules)) r;
-      constraints = λ i h. let z : ⊥ = omega arith in absurd z;
-      least = self-least r (search-least k m e) f;
-    };
+    stable = record { meets = all-met r c; least = self-least r (search-least k m e) f };
   }
 
   -- the least model is below the assignment at v
   unfounded-plan : (k : ℕ) (m : List ℤ) → search k P (assigned a) ≡ found m → unmet-in P (assigned a) (length (P .rules)) ≡ false
-      → (v : ℕ) → leZ (assigned a v) (valued m v) ≡ false → UnfoundedPlan s a m
-  unfounded-plan k m e r v f = record {
+      → length (P .constraints) ≡ 0 → (v : ℕ) → leZ (assigned a v) (valued m v) ≡ false → UnfoundedPlan s a m
+  unfounded-plan k m e r c v f = record {
     means = P;
     plan = p;
-    rules = rules-met P (assigned a) (length (P .rules)) r;
+    meets = all-met r c;
     least = search-least k m e;
     not-stable = λ st. never (is-true (leZ (assigned a v) (valued m v)) (st .least .floor .under (valued m) (search-least k m e .model) v .le)) f;
   }
@@ -204,7 +206,7 @@ printed-stable = stable-plan (plan-of _ printed-read refl refl) 9 (pos 1 ∷ pos
 
 printed-least : UnfoundedPlan printed (small 0 (small 1 (small 1 []))) (pos 0 ∷ pos 0 ∷ pos 0 ∷ [])
 unfolding computes
-printed-least = unfounded-plan (plan-of _ printed-read refl refl) 9 _ refl refl 1 refl
+printed-least = unfounded-plan (plan-of _ printed-read refl refl) 9 _ refl refl refl 1 refl
 
 example2-read : Accepts example2 (program example2 5)
 unfolding computes
@@ -216,7 +218,7 @@ example2-stable = stable-plan (plan-of _ example2-read refl refl) 9 (negℤ (pos
 
 example2-least : UnfoundedPlan example2 (0xFF ∷ 0xF9 ∷ 0xFF ∷ 0xF6 ∷ small 5 []) (negℤ (pos 8) ∷ negℤ (pos 10) ∷ pos 5 ∷ [])
 unfolding computes
-example2-least = unfounded-plan (plan-of _ example2-read refl refl) 9 _ refl refl 0 refl
+example2-least = unfounded-plan (plan-of _ example2-read refl refl) 9 _ refl refl refl 0 refl
 
 example1-read : Accepts example1 (program example1 8)
 unfolding computes
@@ -228,7 +230,7 @@ example1-stable = stable-plan (plan-of _ example1-read refl refl) 9 (pos 17 ∷ 
 
 example1-least : UnfoundedPlan example1 (small 17 (small 8 (small 3 (small 1 (small 0 []))))) (pos 3 ∷ pos 0 ∷ pos 3 ∷ pos 0 ∷ pos 0 ∷ [])
 unfolding computes
-example1-least = unfounded-plan (plan-of _ example1-read refl refl) 9 _ refl refl 0 refl
+example1-least = unfounded-plan (plan-of _ example1-read refl refl) 9 _ refl refl refl 0 refl
 
 example4-read : Accepts example4 (program example4 7)
 unfolding computes
@@ -240,7 +242,7 @@ example4-stable = stable-plan (plan-of _ example4-read refl refl) 9 (pos 3 ∷ p
 
 example4-least : UnfoundedPlan example4 (small 4 (small 5 (small 6 []))) (pos 3 ∷ pos 4 ∷ pos 5 ∷ [])
 unfolding computes
-example4-least = unfounded-plan (plan-of _ example4-read refl refl) 9 _ refl refl 0 refl
+example4-least = unfounded-plan (plan-of _ example4-read refl refl) 9 _ refl refl refl 0 refl
 
 contrary-read : Accepts contrary (program contrary 2)
 unfolding computes
@@ -252,7 +254,7 @@ contrary-unmet = unmet-plan (plan-of _ contrary-read refl refl) 0 (lit< tt) refl
 
 contrary-least : UnfoundedPlan contrary (small 1 []) (pos 0 ∷ [])
 unfolding computes
-contrary-least = unfounded-plan (plan-of _ contrary-read refl refl) 9 _ refl refl 0 refl
+contrary-least = unfounded-plan (plan-of _ contrary-read refl refl) 9 _ refl refl refl 0 refl
 
 -- the joint theorem
 pub starred-plans : StarredPlans

@@ -1,5 +1,5 @@
 -- The call least has an answer for every file, assignment and lent buffer.
-use Prim.Native.Nat.{ℕ, _*_, _<_, _≤_}
+use Prim.Native.Nat.{ℕ, _*_, _<_}
 use mathlib.Core.Path.{_≡_}
 use mathlib.Core.Logic.{_⊎_, inl, inr}
 use mathlib.Core.Bool.{true}
@@ -16,7 +16,8 @@ use Rattle.program.proofs.Total.{reads-total}
 use Rattle.program.proofs.Unique.{reads-accepts}
 use Rattle.meaning.specs.Founded.{Valuation}
 use Rattle.meaning.specs.Stable.{assigned}
-use Rattle.meaning.specs.LeastCall.{inRange, FirstOutside, AllInside, Answer, LeastCall, bad-file, bad-assignment, short-buffer, outside, no-model, least-model}
+use Rattle.meaning.specs.Calls.{leastBytes, Refuses, bad-file, bad-assignment, short-buffer, Called}
+use Rattle.meaning.specs.LeastCall.{inRange, FirstOutside, AllInside, Answer, LeastCall, turned-down, outside, no-model, least-model}
 use Rattle.meaning.proofs.Tests.{cases, First, first-or-all, is-it, not-it}
 use Rattle.meaning.proofs.InRanges.{assigned-within}
 use Rattle.meaning.proofs.Search.{Solvable, solvable}
@@ -36,25 +37,39 @@ ranged P θ = go (first-or-all inside (λ v. is-it (inRange (variableIn (P .vari
     go (inl f) = inl (f .0, record { declared = f .1; outside = not-it (inRange (variableIn (P .variables) (f .0)) θ (f .0)) (f .2 .0); first = f .2 .1 })
     go (inr all) = inr all
 
-module _ {s : List ℕ} (a b : List ℕ) {P : Program} (x : Accepts s P) where
-  module _ (e : length a ≡ 2 * length (P .variables)) (h : 2 * length (P .variables) ≤ length b) where
-    solved-total : AllInside P (assigned a) → Solvable P (assigned a) → Answers s a b
-    solved-total i (inl l) = (_, _, least-model x e h i (l .1))
-    solved-total i (inr n) = (_, _, no-model x e h i n)
+-- ---- a call is turned down or not
 
-    ranged-total : ((v : ℕ) × FirstOutside P (assigned a) v) ⊎ AllInside P (assigned a) → Answers s a b
-    ranged-total (inl f) = (_, _, outside x e h (f .1))
-    ranged-total (inr i) = solved-total i (solvable (accepts-promises x) (assigned-within P a (omega arith) i))
+abbrev pub Begun : ℕ → List ℕ → List ℕ → List ℕ → Type 0
+Begun bytes s a b = ((n : ℕ) × (at : ℕ) × Refuses bytes s a b n at) ⊎ ((P : Program) × Called bytes s a b P)
 
-  long-total : Dec (length a ≡ 2 * length (P .variables)) → Answers s a b
-  long-total (no f) = (_, _, bad-assignment x f)
-  long-total (yes e) = cases (ltb (length b) (2 * length (P .variables))) (λ c. Answers s a b)
-      (λ t. (_, _, short-buffer x e (ltb→lt (length b) (2 * length (P .variables)) t)))
-      (λ n. ranged-total e (nltb→le (length b) (2 * length (P .variables)) n) (ranged P (assigned a)))
+module _ (bytes : ℕ) (s a b : List ℕ) where
+  accepted-begun : {P : Program} → Accepts s P → Dec (length a ≡ 2 * length (P .variables)) → Begun bytes s a b
+  accepted-begun x (no f) = inl (_, _, bad-assignment x f)
+  accepted-begun {P} x (yes e) = cases (ltb (length b) (bytes * length (P .variables))) (λ c. Begun bytes s a b)
+      (λ t. inl (_, _, short-buffer x e (ltb→lt (length b) (bytes * length (P .variables)) t)))
+      (λ n. inr (P, record { accepts = x; long = e; room = nltb→le (length b) (bytes * length (P .variables)) n }))
+
+  pub begun : Begun bytes s a b
+  begun = go (reads-total s .0) (reads-total s .1)
+    where
+      go : (r : reading.Answer) → Reads s r → Begun bytes s a b
+      go (refused n at) q = inl (_, _, bad-file q)
+      go (accepted v r c) q = let k = reads-accepts q in accepted-begun (k .accepts) (ℕ-discrete (length a) (2 * length (k .meant .variables)))
+
+-- ---- the call least
+
+module _ {s a b : List ℕ} {P : Program} (x : Called leastBytes s a b P) where
+  solved-total : AllInside P (assigned a) → Solvable P (assigned a) → Answers s a b
+  solved-total i (inl l) = (_, _, least-model x i (l .1))
+  solved-total i (inr n) = (_, _, no-model x i n)
+
+  called-total : ((v : ℕ) × FirstOutside P (assigned a) v) ⊎ AllInside P (assigned a) → Answers s a b
+  called-total (inl f) = (_, _, outside x (f .1))
+  called-total (inr i) = solved-total i (solvable (accepts-promises (x .accepts)) (assigned-within P a (omega (arith, x .long)) i))
 
 pub least-call-total : (s a b : List ℕ) → Answers s a b
-least-call-total s a b = go (reads-total s .0) (reads-total s .1)
+least-call-total s a b = go (begun leastBytes s a b)
   where
-    go : (r : reading.Answer) → Reads s r → Answers s a b
-    go (refused n at) q = (_, _, bad-file q)
-    go (accepted v r c) q = let k = reads-accepts q in long-total a b (k .accepts) (ℕ-discrete (length a) (2 * length (k .meant .variables)))
+    go : Begun leastBytes s a b → Answers s a b
+    go (inl r) = (_, _, turned-down (r .2))
+    go (inr c) = called-total (c .1) (ranged (c .0) (assigned a))

@@ -26,7 +26,7 @@ module _ {s a : List ℕ} {m : List ℤ} (u : UnfoundedPlan s a m) (n : ℕ) (e 
   pub the-answer : LeastCall s a b found (written (valued m) n ++ drop (2 * n) b)
   the-answer =
       subst (λ (k : ℕ). LeastCall s a b found (written (valued m) k ++ drop (2 * k) b)) count
-      (least-model (u .plan .accepts) (u .plan .long) (omega (arith, count)) (within-inside (u .means) (u .plan .ranges)) (u .least))
+      (least-model (record { accepts = u .plan .accepts; long = u .plan .long; room = omega (arith, count) }) (within-inside (u .means) (u .plan .ranges)) (u .least))
 
   only-answer : {r : Answer} {b′ : List ℕ} → LeastCall s a b r b′ → (r ≡ found) × (b′ ≡ written (valued m) n ++ drop (2 * n) b)
   only-answer q = least-call-unique q the-answer

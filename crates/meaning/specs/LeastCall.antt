@@ -1,5 +1,5 @@
 -- Document 01, "Reduct and least model": what the call least answers and writes.
-use Prim.Native.Nat.{ℕ, zero, suc, _*_, _<_, _≤_}
+use Prim.Native.Nat.{ℕ, zero, suc, _*_, _<_}
 use mathlib.Core.Path.{_≡_}
 use mathlib.Core.Bool.{Bool, true, false, _&&_}
 use mathlib.Core.List.{List, [], _++_}
@@ -7,12 +7,10 @@ use lib.ListN.{length, drop}
 use lib.Signed.{leZ}
 use Rattle.format.specs.Numbers.{bytesOf}
 use Rattle.program.specs.Program.{Program, Variable, variableIn}
-use Rattle.program.specs.Reading.{Reads, refused, Accepts, numberOf}
 use Rattle.meaning.specs.Founded.{Valuation, Model, Least}
 use Rattle.meaning.specs.Reduct.{system}
 use Rattle.meaning.specs.Stable.{assigned}
-use Rattle.meaning.specs.declared.Denied.{Denied}
-use Rattle.meaning.specs.declared.Denied.the-variants as denied
+use Rattle.meaning.specs.Calls.{leastBytes, Refuses, Called, denialNumber, denialPlace}
 use Rattle.meaning.specs.declared.Solved.{Solved}
 use Rattle.meaning.specs.declared.Solved.the-variants as solved
 
@@ -22,14 +20,9 @@ pub data Answer : Type 0 where
   range : ℕ → Answer
   none found : Answer
 
--- the number and place of each case of the code's answers
-abbrev pub denialOf : Denied → Answer
-denialOf (denied.File why at) = refusal (numberOf why) at
-denialOf denied.Assignment = refusal 14 0
-denialOf denied.Buffer = refusal 15 0
-
+-- the word, number and place of each case of the code's answer
 abbrev pub answerOf : Solved → Answer
-answerOf (solved.Refused d) = denialOf d
+answerOf (solved.Refused why) = refusal (denialNumber why) (denialPlace why)
 answerOf (solved.Range v) = range v
 answerOf solved.Nothing = none
 answerOf solved.Found = found
@@ -52,16 +45,12 @@ unfoldable pub written : Valuation → ℕ → List ℕ
 written m zero = []
 written m (suc n) = written m n ++ bytesOf (m n)
 
--- what the call answers for a file, an assignment and a lent buffer, and the buffer afterwards. "Order: .. 13; then 14; then 15."
--- "Only this last case writes, and only those bytes."
+-- what the call answers for a file, an assignment and a lent buffer, and the buffer afterwards. "Only this last case writes, and only those
+-- bytes."
 pub data LeastCall (s a b : List ℕ) : Answer → List ℕ → Type 0 where
-  bad-file : {n at : ℕ} → Reads s (refused n at) → LeastCall s a b (refusal n at) b
-  bad-assignment : {P : Program} → Accepts s P → (length a ≡ 2 * length (P .variables) → ⊥) → LeastCall s a b (refusal 14 0) b
-  short-buffer : {P : Program} → Accepts s P → length a ≡ 2 * length (P .variables) → length b < 2 * length (P .variables) → LeastCall s a b (refusal 15 0) b
-  outside : {P : Program} {v : ℕ} → Accepts s P → length a ≡ 2 * length (P .variables) → 2 * length (P .variables) ≤ length b
-      → FirstOutside P (assigned a) v → LeastCall s a b (range v) b
-  no-model : {P : Program} → Accepts s P → length a ≡ 2 * length (P .variables) → 2 * length (P .variables) ≤ length b
-      → AllInside P (assigned a) → ((m : Valuation) → Model (system P) (assigned a) m → ⊥) → LeastCall s a b none b
-  least-model : {P : Program} {m : Valuation} → Accepts s P → length a ≡ 2 * length (P .variables) → 2 * length (P .variables) ≤ length b
-      → AllInside P (assigned a) → Least (system P) (assigned a) m
+  turned-down : {n at : ℕ} → Refuses leastBytes s a b n at → LeastCall s a b (refusal n at) b
+  outside : {P : Program} {v : ℕ} → Called leastBytes s a b P → FirstOutside P (assigned a) v → LeastCall s a b (range v) b
+  no-model : {P : Program} → Called leastBytes s a b P → AllInside P (assigned a) → ((m : Valuation) → Model (system P) (assigned a) m → ⊥)
+      → LeastCall s a b none b
+  least-model : {P : Program} {m : Valuation} → Called leastBytes s a b P → AllInside P (assigned a) → Least (system P) (assigned a) m
       → LeastCall s a b found (written m (length (P .variables)) ++ drop (2 * length (P .variables)) b)

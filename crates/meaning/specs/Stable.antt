@@ -21,8 +21,13 @@ RuleMet P θ i = Reaches (system P) (ruleIn (P .rules) i .head) (gives P (ruleIn
 abbrev pub ConstraintMet : Program → Valuation → ℕ → Type 0
 ConstraintMet P θ i = satisfied (constraintIn (P .constraints) i) (λ j. θ (termIn (constraintIn (P .constraints) i .terms) j .variable)) ≡ true
 
-pub record Stable (P : Program) (θ : Valuation) : Type 0 where
+-- "it lies in its ranges, meets every rule and constraint"
+pub record Meets (P : Program) (θ : Valuation) : Type 0 where
   pub ranges : Within (system P) θ
   pub rules : (i : ℕ) → i < length (P .rules) → RuleMet P θ i
   pub constraints : (i : ℕ) → i < length (P .constraints) → ConstraintMet P θ i
+
+-- "and is the least solution of its own reduct"
+pub record Stable (P : Program) (θ : Valuation) : Type 0 where
+  pub meets : Meets P θ
   pub least : Least (system P) θ θ

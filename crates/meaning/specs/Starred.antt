@@ -9,7 +9,7 @@ use Rattle.program.specs.Program.{Program}
 use Rattle.program.specs.Reading.{Accepts}
 use Rattle.meaning.specs.Founded.{Within, Least}
 use Rattle.meaning.specs.Reduct.{system}
-use Rattle.meaning.specs.Stable.{assigned, RuleMet, Stable}
+use Rattle.meaning.specs.Stable.{assigned, RuleMet, Meets, Stable}
 use Rattle.meaning.specs.Values.{valued}
 
 -- ---- what a plan says of a file s and an assignment a
@@ -25,11 +25,11 @@ pub record StablePlan (s a : List ℕ) : Type 0 where
   pub plan : Plan s a means
   pub stable : Stable means (assigned a)
 
--- every rule is met, but the least model is m and not the assignment
+-- the assignment meets every rule and constraint, but the least model is m
 pub record UnfoundedPlan (s a : List ℕ) (m : List ℤ) : Type 0 where
   pub means : Program
   pub plan : Plan s a means
-  pub rules : (i : ℕ) → i < length (means .rules) → RuleMet means (assigned a) i
+  pub meets : Meets means (assigned a)
   pub least : Least (system means) (assigned a) (valued m)
   pub not-stable : Stable means (assigned a) → ⊥
 

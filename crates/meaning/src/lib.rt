@@ -2,18 +2,26 @@
 pub mod call;
 pub mod demands;
 pub mod places;
+pub mod refusals;
 pub mod solve;
 pub mod tables;
 pub mod values;
 pub mod writing;
 
+use program::Counts;
 use program::Refusal;
 
-// Why the call least is turned down: the file, the assignment's length (14) or the lent buffer's (15).
+// Why a call is turned down: the file, the assignment's length (14) or the lent buffer's (15).
 pub enum Denied {
     File(Refusal, usize),
     Assignment,
     Buffer,
+}
+
+// How a call begins: it is turned down, or its file has these counts.
+pub enum Opening {
+    Closed(Denied),
+    Open(Counts),
 }
 
 // What the call least answers.

@@ -5,17 +5,21 @@ ghost use Prim.Native.Nat.{ℕ, _+_, _*_, _<_, _≤_};
 ghost use lib.ListN.{length};
 ghost use Rattle.format.specs.Limits.{maxVariables, maxRules};
 ghost use Rattle.sets.specs.Bit.{has};
-ghost use Rattle.program.specs.Program.{Program};
-ghost use Rattle.program.specs.Reading.{Accepts};
+ghost use Rattle.program.specs.Program.{Program, program};
+ghost use Rattle.program.specs.Reading.{Reads, accepted, Accepts, Whole};
+ghost use Rattle.meaning.specs.Founded.{Within};
+ghost use Rattle.meaning.specs.Reduct.{system};
 ghost use Rattle.meaning.specs.Values.{valued};
 ghost use Rattle.meaning.specs.Running.{Lifted, Running, EndsWith};
-ghost use Rattle.meaning.specs.Tabled.{readersWords, rowWords};
+ghost use Rattle.meaning.specs.Tabled.{readersWords, rowWords, Tabled};
 use crate::Ending;
 use crate::Step;
 use crate::demands;
 use crate::tables::Tables;
+use crate::values;
 use evaluation::variables;
 use format::Format;
+use program::Counts;
 use sets::words;
 
 // The set takes in the rules that read x at a kept place.
@@ -82,4 +86,38 @@ pub fn solve(
             return Ending::NoModel;
         }
     }
+}
+
+// From the starting ends to the least model.
+pub fn run(
+    file: &[u8],
+    counts: Counts,
+    places: &[usize; Format::MAX_RULES],
+    masks: &[u32; Format::MAX_RULES],
+    readers: &[u64; Tables::READERS],
+    assigned: &[i64; Format::MAX_VARIABLES],
+    model: &mut [i64; Format::MAX_VARIABLES],
+) -> Ending
+    requires { ⌜ Reads (now file) (accepted (counts .variables) (counts .rules) (counts .constraints)) ⌝ }
+    requires { ⌜ ((k : ℕ) → Whole (now file) k → Tabled (now file) (program (now file) k) (counts .rules) (now places) (now masks) (now readers)) ⌝ }
+    requires { ⌜ ((P : Program) → Accepts (now file) P → Within (system P) (valued (now assigned))) ⌝ }
+    requires { ⌜ ((v : ℕ) → counts .variables ≤ v → valued (now model) v ≡ valued (now assigned) v) ⌝ }
+    requires { ⌜ length (now model) ≡ maxVariables ⌝ }
+    ensures { λ _. ⌜ length (now (model .exit)) ≡ maxVariables ⌝ }
+    ensures { λ r. ⌜ ((P : Program) → Accepts (now (file .entry)) P → EndsWith P (valued (now (assigned .entry))) (valued (now (model .exit))) r) ⌝ }
+{
+    let n = counts.variables;
+    let rules = counts.rules;
+    let mut waiting = [0u64; Tables::ROW];
+    values::start_values(file, n, assigned, model);
+    words::fill_bits(&mut waiting, rules);
+    solve(
+        file,
+        places,
+        masks,
+        readers,
+        model,
+        assigned,
+        &mut waiting,
+    )
 }

@@ -1,7 +1,7 @@
 use native.Mathlib.Omega.{arith}
 use mathlib.Core.Path.{refl, subst}
 use Rattle.validity.proofs.RuleLaws.{variables-few, variables-inside}
-use Rattle.meaning.proofs.CallLaws.{counted, one-valuation, wrong-assignment, wrong-buffer, wrong-range, right-range}
+use Rattle.meaning.proofs.CallLaws.{counted, one-valuation, wrong-range, right-range}
 use Rattle.meaning.proofs.Fills.{zeros, loaded-whole}
 use Rattle.meaning.specs.Values.{valued, OutsideIs}
 use Rattle.format.specs.Limits.{maxVariables}
@@ -11,60 +11,28 @@ use borrow.Author.Needs.{needs}
 use Rattle.meaning.proofs.call.judged.Statement.{statement}
 use Rattle.meaning.proofs.call.judged.Tie as tie
 
-mul-if1 : tie.Need-mul-if1
-mul-if1 c = let b = c .before .before .before in
-    let s = b .args .file .now in
-    let k = b .args .counts in
-    let a = b .args .assignment .now in
-    let w = b .args .buffer .now in
-    let r = b .pre in
-    let c₀ = counted s k r in
-    let f = variables-few c₀ in
-    omega arith
-
-returns : tie.Need-returns
-returns c = let b = c .before .before .before .before in
-    let s = b .args .file .now in
-    let k = b .args .counts in
-    let a = b .args .assignment .now in
-    let w = b .args .buffer .now in
-    let r = b .pre in
-    let c₀ = counted s k r in
-    let f = variables-few c₀ in
-    wrong-assignment s k r a w (c .if1 .taken)
-
-mul-if2 : tie.Need-mul-if2
-mul-if2 c = search needs
-
-returns-2 : tie.Need-returns-2
-returns-2 c = let b = c .before .before .before .before .before in
-    let s = b .args .file .now in
-    let k = b .args .counts in
-    let a = b .args .assignment .now in
-    let w = b .args .buffer .now in
-    let r = b .pre in
-    let c₀ = counted s k r in
-    let f = variables-few c₀ in
-    wrong-buffer s k r a w (omega arith) (omega arith)
-
 load-requires : tie.Need-load-requires
-load-requires c κs = let b = c .before .before .before .before .before .before in
+load-requires c κs = let b = c .before .before .before .before in
     let s = b .args .file .now in
     let k = b .args .counts in
     let a = b .args .assignment .now in
     let w = b .args .buffer .now in
-    let r = b .pre in
+    let r = b .pre .0 in
+    let e = b .pre .1 .0 in
+    let h = b .pre .1 .1 in
     let c₀ = counted s k r in
     let f = variables-few c₀ in
     (omega arith, refl)
 
 first-outside-requires : tie.Need-first-outside-requires
-first-outside-requires c κs = let b = c .before .before .before .before .before .before .before .before in
+first-outside-requires c κs = let b = c .before .before .before .before .before .before in
     let s = b .args .file .now in
     let k = b .args .counts in
     let a = b .args .assignment .now in
     let w = b .args .buffer .now in
-    let r = b .pre in
+    let r = b .pre .0 in
+    let e = b .pre .1 .0 in
+    let h = b .pre .1 .1 in
     let c₀ = counted s k r in
     let f = variables-few c₀ in
     (variables-inside c₀, f)
@@ -76,31 +44,31 @@ enum-told : tie.Need-enum-told
 enum-told c = search needs
 
 solved-requires : tie.Need-solved-requires
-solved-requires c κs = let b = c .before .before .before .before .before .before .before .before .before .before .before .before .before in
+solved-requires c κs = let b = c .before .before .before .before .before .before .before .before .before .before .before in
     let s = b .args .file .now in
     let k = b .args .counts in
     let a = b .args .assignment .now in
     let w = b .args .buffer .now in
-    let r = b .pre in
+    let r = b .pre .0 in
+    let e = b .pre .1 .0 in
+    let h = b .pre .1 .1 in
     let c₀ = counted s k r in
     let f = variables-few c₀ in
-    let e = c .before .before .before .before .before .before .before .before .before .if1 .left in
-    let h = c .before .before .before .before .before .before .before .before .if2 .left in
     let l = loaded-whole a (k .variables) e (c .before .before .before .before .before .before .load .ensures .1) (zeros maxVariables) in
     let o = subst (λ (q : Outside). OutsideIs (variablesAt s (k .variables)) (valued (c .before .before .before .before .before .before .load .last .1 .0)) (k .variables) q) (c .before .before .enum-told .given .1) (c .before .before .before .before .first-outside .ensures) in
     (r, ((e, h), (l, right-range s k r a w e h _ (one-valuation _ _ l) o)))
 
-returns-3 : tie.Need-returns-3
-returns-3 c = let b = c .before .before .before .before .before .before .before .before .before .before .before .before in
+returns : tie.Need-returns
+returns c = let b = c .before .before .before .before .before .before .before .before .before .before in
     let s = b .args .file .now in
     let k = b .args .counts in
     let a = b .args .assignment .now in
     let w = b .args .buffer .now in
-    let r = b .pre in
+    let r = b .pre .0 in
+    let e = b .pre .1 .0 in
+    let h = b .pre .1 .1 in
     let c₀ = counted s k r in
     let f = variables-few c₀ in
-    let e = c .before .before .before .before .before .before .before .before .if1 .left in
-    let h = c .before .before .before .before .before .before .before .if2 .left in
     let l = loaded-whole a (k .variables) e (c .before .before .before .before .before .load .ensures .1) (zeros maxVariables) in
     let o = subst (λ (q : Outside). OutsideIs (variablesAt s (k .variables)) (valued (c .before .before .before .before .before .load .last .1 .0)) (k .variables) q) (c .before .outside .given .1) (c .before .before .before .first-outside .ensures) in
     wrong-range s k r a w e h _ _ (one-valuation _ _ l) o
@@ -108,22 +76,18 @@ returns-3 c = let b = c .before .before .before .before .before .before .before 
 same-length : tie.Need-same-length
 same-length c = search needs
 
-returns-4 : tie.Need-returns-4
-returns-4 c = search needs
+returns-2 : tie.Need-returns-2
+returns-2 c = search needs
 
 pub judged-spec : {M : Type 1} → statement M
 judged-spec =
     tie.close
     (tie.spec
-    mul-if1
-    returns
-    mul-if2
-    returns-2
     load-requires
     first-outside-requires
     enum-known-outside
     enum-told
     solved-requires
-    returns-3
+    returns
     same-length
-    returns-4)
+    returns-2)

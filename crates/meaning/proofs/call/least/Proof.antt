@@ -1,13 +1,14 @@
-use mathlib.Core.Path.{subst}
-use Rattle.program.specs.Reading.{Reads, answerOf}
-use Rattle.program.specs.declared.Reading.{Reading}
-use Rattle.meaning.specs.LeastCall.{bad-file}
+use mathlib.Core.Path.{refl, subst}
+use native.Mathlib.Omega.{arith}
+use Rattle.meaning.specs.Calls.{leastBytes, Opened}
+use Rattle.meaning.specs.LeastCall.{turned-down}
+use Rattle.meaning.specs.declared.Opening.{Opening}
 use borrow.Author.Needs.{needs}
 use Rattle.meaning.proofs.call.least.Statement.{statement}
 use Rattle.meaning.proofs.call.least.Tie as tie
 
-read-requires : tie.Need-read-requires
-read-requires c κs = search needs
+open-requires : tie.Need-open-requires
+open-requires c κs = omega arith
 
 enum-known-why : tie.Need-enum-known-why
 enum-known-why c = search needs
@@ -16,10 +17,15 @@ enum-known-counts : tie.Need-enum-known-counts
 enum-known-counts c = search needs
 
 judged-requires : tie.Need-judged-requires
-judged-requires c κs = subst (λ (q : Reading). Reads (c .before .before .before .before .before .before .before .before .args .file .now) (answerOf q)) (c .before .before .counts .given .1) (c .before .before .before .before .read .ensures)
+judged-requires c κs =
+    let b = c .before .before .before .before .before .before .before .before in
+    let o = subst (λ (q : Opening). Opened leastBytes (b .args .file .now) (b .args .assignment .now) (b .args .buffer .now) q) (c .before .before .counts .given .1) (c .before .before .before .before .open .ensures _ refl) in
+    (o .0, (o .1, o .2))
 
 returns : tie.Need-returns
-returns c = bad-file (subst (λ (q : Reading). Reads (c .before .before .before .before .before .before .before .args .file .now) (answerOf q)) (c .before .why .given .1) (c .before .before .before .read .ensures))
+returns c =
+    let b = c .before .before .before .before .before .before .before in
+    turned-down (subst (λ (q : Opening). Opened leastBytes (b .args .file .now) (b .args .assignment .now) (b .args .buffer .now) q) (c .before .why .given .1) (c .before .before .before .open .ensures _ refl))
 
 same-length : tie.Need-same-length
 same-length c = search needs
@@ -31,7 +37,7 @@ pub least-spec : {M : Type 1} → statement M
 least-spec =
     tie.close
     (tie.spec
-    read-requires
+    open-requires
     enum-known-why
     enum-known-counts
     judged-requires
