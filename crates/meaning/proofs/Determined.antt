@@ -13,7 +13,7 @@ use Rattle.program.proofs.Unique.{reads-unique, accepts-unique, accepts-reads}
 use Rattle.meaning.specs.Founded.{Valuation, Model, Least}
 use Rattle.meaning.specs.Reduct.{system}
 use Rattle.meaning.specs.Calls.{Refuses, bad-file, bad-assignment, short-buffer, Called}
-use Rattle.meaning.specs.LeastCall.{Answer, refusal, range, FirstOutside, AllInside, written, LeastCall, turned-down, outside, no-model, least-model}
+use Rattle.meaning.specs.LeastCall.{Answer, range, FirstOutside, AllInside, written, LeastCall, turned-down, outside, no-model, least-model}
 use Rattle.meaning.proofs.Theory.{least-unique}
 use Rattle.meaning.proofs.Monotone.{laws}
 

@@ -111,13 +111,5 @@ pub fn run(
     let mut waiting = [0u64; Tables::ROW];
     values::start_values(file, n, assigned, model);
     words::fill_bits(&mut waiting, rules);
-    solve(
-        file,
-        places,
-        masks,
-        readers,
-        model,
-        assigned,
-        &mut waiting,
-    )
+    solve(file, places, masks, readers, model, assigned, &mut waiting)
 }

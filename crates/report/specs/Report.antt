@@ -1,0 +1,97 @@
+-- Document 01, "Verdicts and the report": the entries of the report and their bytes.
+use Prim.Native.Nat.{ℕ, zero, suc, _+_, _*_}
+use mathlib.Core.List.{List, [], _∷_, _++_}
+use mathlib.Core.Bool.{Bool, true, false, not, cond, _&&_}
+use lib.Dec.{eqb}
+use lib.IntN.{ℤ}
+use lib.ListN.{length, drop}
+use Rattle.format.specs.Numbers.{bytesOf}
+use Rattle.program.specs.Tables.{anyBelow}
+use Rattle.program.specs.Program.{Program, Rule, ruleIn}
+use Rattle.program.specs.Directions.{direction}
+use Rattle.program.specs.declared.Direction.{Direction}
+use Rattle.program.specs.declared.Direction.the-variants.{Rising, Falling, Mixed}
+use Rattle.meaning.specs.Founded.{Valuation}
+use Rattle.meaning.specs.Reduct.{placed, kept, system}
+use Rattle.meaning.specs.Unfounded.{short}
+
+-- "Report entries have 4 bytes: variable, mark (1), number (2)."
+pub record Entry : Type 0 where
+  pub variable : ℕ
+  pub mark : ℕ
+  pub number : ℤ
+
+abbrev pub entry : ℕ → ℕ → ℤ → Entry
+entry v k z = record { variable = v; mark = k; number = z }
+
+abbrev pub entryBytes : Entry → List ℕ
+entryBytes e = e .variable ∷ e .mark ∷ bytesOf (e .number)
+
+unfoldable pub bytesIn : List Entry → List ℕ
+bytesIn [] = []
+bytesIn (e ∷ es) = entryBytes e ++ bytesIn es
+
+-- the marks: a bound, "mark 1 (at most)" and "mark 2 (at least)"
+abbrev pub bound : ℕ
+bound = 0
+
+abbrev pub atMost : ℕ
+atMost = 1
+
+abbrev pub atLeast : ℕ
+atLeast = 2
+
+-- "by ascending variable": what each of the first n variables has
+unfoldable pub ascending : (ℕ → List Entry) → ℕ → List Entry
+ascending f zero = []
+ascending f (suc n) = ascending f n ++ f n
+
+-- an entry where the test holds
+abbrev pub only : Bool → Entry → List Entry
+only b e = cond b (e ∷ []) []
+
+-- mark 0 for each variable of a set, with its value in m
+abbrev pub boundsOf : (ℕ → Bool) → Valuation → ℕ → List Entry
+boundsOf set m v = only (set v) (entry v bound (m v))
+
+-- "mark 1 (at most) before mark 2 (at least), each with the assigned value and once only"
+abbrev pub conditionsOf : (ℕ → Bool) → (ℕ → Bool) → Valuation → ℕ → List Entry
+conditionsOf most least θ v = only (most v) (entry v atMost (θ v)) ++ only (least v) (entry v atLeast (θ v))
+
+-- "at most for a rising variable, except a kept one in the set; at least for a falling one; both for a mixed one"; the second argument says
+-- whether the place is kept and its variable in the set
+abbrev pub asksMost : Direction → Bool → Bool
+asksMost Rising except = not except
+asksMost Falling except = false
+asksMost Mixed except = true
+
+abbrev pub asksLeast : Direction → Bool → Bool
+asksLeast Rising except = false
+asksLeast Falling except = true
+asksLeast Mixed except = true
+
+-- "They come from the bodies of all rules with a head in the set": some place of such a body has the variable v and asks
+module _ (P : Program) (set : ℕ → Bool) where
+  unfoldable pub askedBy : (Direction → Bool → Bool) → Rule → ℕ → Bool
+  askedBy asks r v =
+      anyBelow (length (r .terms)) (λ j. asks (direction (P .variables) r j) (kept P r j && set (placed r j)) && eqb (placed r j) v)
+
+  unfoldable pub asked : (Direction → Bool → Bool) → ℕ → Bool
+  asked asks v = anyBelow (length (P .rules)) (λ i. set (ruleIn (P .rules) i .head) && askedBy asks (ruleIn (P .rules) i) v)
+
+-- the report of an assignment θ whose reduct has the least model m
+module _ (P : Program) (θ m : Valuation) where
+  -- "each founded variable whose least value is below its assigned one"
+  abbrev pub shown : ℕ → Bool
+  shown = short (system P) θ m
+
+  -- "First, by ascending variable, mark 0: .. with that least value."
+  abbrev pub bounds : List Entry
+  bounds = ascending (boundsOf shown m) (length (P .variables))
+
+  abbrev pub conditions : List Entry
+  conditions = ascending (conditionsOf (asked P shown asksMost) (asked P shown asksLeast) θ) (length (P .variables))
+
+  -- "The conditions begin directly after the last bound entry"; "Bytes after the last entry do not change."
+  abbrev pub reported : List ℕ → List ℕ
+  reported b = bytesIn (bounds ++ conditions) ++ drop (4 * (length bounds + length conditions)) b

@@ -1,0 +1,1 @@
+// The report: the set of variables that nothing holds up, and the conditions under which no stable assignment has them.

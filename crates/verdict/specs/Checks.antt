@@ -1,0 +1,43 @@
+-- Document 01, "Verdicts and the report": what the call check answers, and the report afterwards.
+use Prim.Native.Nat.{ℕ, _<_}
+use mathlib.Core.List.{List}
+use lib.Dec.{T}
+use lib.ListN.{length}
+use Rattle.program.specs.Program.{Program}
+use Rattle.meaning.specs.Founded.{Valuation, Within, Least}
+use Rattle.meaning.specs.Reduct.{system}
+use Rattle.meaning.specs.Stable.{assigned, RuleMet, ConstraintMet, Meets, Stable}
+use Rattle.meaning.specs.Calls.{checkBytes, Refuses, Called}
+use Rattle.meaning.specs.LeastCall.{FirstOutside}
+use Rattle.report.specs.Report.{shown, bounds, conditions, reported}
+
+-- an answer of the call check, with document 01's words: "a refusal, or a verdict with what belongs to it"
+pub data Answer : Type 0 where
+  refusal : ℕ → ℕ → Answer
+  range : ℕ → Answer
+  rule : ℕ → Answer
+  constraint : ℕ → Answer
+  unfounded : ℕ → ℕ → Answer
+  stable : Answer
+
+-- i is the first of n that is not met
+pub record FirstUnmet (Met : ℕ → Type 0) (n i : ℕ) : Type 0 where
+  pub among : i < n
+  pub unmet : Met i → ⊥
+  pub first : (j : ℕ) → j < i → Met j
+
+-- the verdict on an assignment θ, and the report b afterwards. "The first that applies: `range` and first variable; `rule` and first unmet
+-- rule; `constraint` and first unmet constraint; `unfounded` and two counts; `stable`. Only `unfounded` writes."
+pub data Judged (P : Program) (θ : Valuation) (b : List ℕ) : Answer → List ℕ → Type 0 where
+  outside : {v : ℕ} → FirstOutside P θ v → Judged P θ b (range v) b
+  rule-unmet : {i : ℕ} → Within (system P) θ → FirstUnmet (RuleMet P θ) (length (P .rules)) i → Judged P θ b (rule i) b
+  constraint-unmet : {i : ℕ} → Within (system P) θ → ((j : ℕ) → j < length (P .rules) → RuleMet P θ j)
+      → FirstUnmet (ConstraintMet P θ) (length (P .constraints)) i → Judged P θ b (constraint i) b
+  not-founded : {m : Valuation} → Meets P θ → Least (system P) θ m → (v : ℕ) × T (shown P θ m v)
+      → Judged P θ b (unfounded (length (bounds P θ m)) (length (conditions P θ m))) (reported P θ m b)
+  founded : Stable P θ → Judged P θ b stable b
+
+-- what the call answers for a file, an assignment and a lent report, and the report afterwards
+pub data Checks (s a b : List ℕ) : Answer → List ℕ → Type 0 where
+  turned-down : {n at : ℕ} → Refuses checkBytes s a b n at → Checks s a b (refusal n at) b
+  judged : {P : Program} {r : Answer} {b′ : List ℕ} → Called checkBytes s a b P → Judged P (assigned a) b r b′ → Checks s a b r b′
