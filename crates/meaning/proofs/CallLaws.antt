@@ -20,7 +20,7 @@ use Rattle.meaning.specs.Founded.{Valuation, Within, Model, Least}
 use Rattle.meaning.specs.Reduct.{system}
 use Rattle.meaning.specs.Tabled.{Tabled}
 use Rattle.meaning.specs.Values.{valued, Filled, starting, OutsideIs}
-use Rattle.meaning.specs.Running.{Running}
+use Rattle.meaning.specs.Running.{Running, Laid}
 use Rattle.meaning.specs.Stable.{assigned}
 use Rattle.meaning.specs.Calls.{leastBytes, Refuses, bad-assignment, short-buffer, Called}
 use Rattle.meaning.specs.LeastCall.{LeastCall, range, none, found, outside, no-model, least-model, AllInside, written}
@@ -50,6 +50,27 @@ module _ (s : List ℕ) (k : Counts) (r : Reads s (accepted (k .variables) (k .r
     };
   }
 
+  -- the tables of the file
+  whole-tabled : {ps ms rs : List ℕ} → ((j : ℕ) → Whole s j → Tabled s (program s j) (k .rules) ps ms rs)
+      → Tabled s (accept .meant) (length (accept .meant .rules)) ps ms rs
+  whole-tabled {ps} {ms} {rs} t =
+      subst (λ (Q : Program). Tabled s Q (length (accept .meant .rules)) ps ms rs) (accept .accepts .means)
+      (subst (λ (n : ℕ). Tabled s (program s (accept .accepts .fields)) n ps ms rs) (sym (accept .rules-are)) (t (accept .accepts .fields) (accept .accepts .whole)))
+
+  pub laid : {ps ms rs : List ℕ} → ((j : ℕ) → Whole s j → Tabled s (program s j) (k .rules) ps ms rs) → Laid s k ps ms
+  laid {ps} {ms} {rs} t = record {
+    program = accept .meant;
+    placed = record {
+      accepts = accept .accepts;
+      stands = λ i h. record { accepts = accept .accepts; among = h; placed = tabled .place-is i h; masked = tabled .mask-is i h };
+    };
+    variables-are = accept .variables-are;
+    rules-are = accept .rules-are;
+  }
+    where
+      tabled : Tabled s (accept .meant) (length (accept .meant .rules)) ps ms rs
+      tabled = whole-tabled t
+
   -- the run begins
   pub begun : (θ m₀ m : List ℤ) (ps ms rs ws₀ ws : List ℕ)
       → ((Q : Program) → Accepts s Q → Within (system Q) (valued θ))
@@ -61,10 +82,7 @@ module _ (s : List ℕ) (k : Counts) (r : Reads s (accepted (k .variables) (k .r
       → Running s ps ms rs θ m ws
   unfolding starting
   begun θ m₀ m ps ms rs ws₀ ws w t z f e g =
-      run-start (accept .accepts)
-      (subst (λ (Q : Program). Tabled s Q (length (accept .meant .rules)) ps ms rs) (accept .accepts .means)
-      (subst (λ (n : ℕ). Tabled s (program s (accept .accepts .fields)) n ps ms rs) (sym (accept .rules-are)) (t (accept .accepts .fields) (accept .accepts .whole))))
-      θ m (w (accept .meant) (accept .accepts))
+      run-start (accept .accepts) (whole-tabled t) θ m (w (accept .meant) (accept .accepts))
       (λ v. started-whole s (k .variables) (valued θ) f z v
       ∙ ap (λ (vs : List Variable). cond (founded (variableIn vs v)) (variableIn vs v .low) (valued θ v)) (sym variables-are))
       ws

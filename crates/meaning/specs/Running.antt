@@ -14,6 +14,7 @@ use Rattle.sets.specs.declared.Found.the-variants.{At}
 use Rattle.sets.specs.declared.Found.the-variants as found
 use Rattle.program.specs.Program.{Program, ruleIn, variableIn, variableOf, founded}
 use Rattle.program.specs.Reading.{Accepts}
+use Rattle.program.specs.declared.Counts.{Counts}
 use Rattle.program.specs.declared.Given.{Given}
 use Rattle.program.specs.declared.Given.the-variants.{Nothing, Value}
 use Rattle.reader.specs.Parts.{rulePlace}
@@ -75,6 +76,13 @@ Demanded P θ m i Enough = Met P θ m i
 pub record Placed (s : List ℕ) (P : Program) (places masks : List ℕ) : Type 0 where
   pub accepts : Accepts s P
   pub stands : (i : ℕ) → i < length (P .rules) → RuleAt s P i (getD places i 0) (getD masks i 0)
+
+-- the tables are those of a file with these counts
+pub record Laid (s : List ℕ) (k : Counts) (places masks : List ℕ) : Type 0 where
+  pub program : Program
+  pub placed : Placed s program places masks
+  pub variables-are : length (program .variables) ≡ k .variables
+  pub rules-are : length (program .rules) ≡ k .rules
 
 -- the set has rules alone
 abbrev pub Among : Program → (ℕ → Bool) → Type 0

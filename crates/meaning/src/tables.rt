@@ -8,6 +8,7 @@ ghost use Rattle.format.specs.Limits.{maxRules, maxTerms};
 ghost use Rattle.program.specs.Tables.{anyBelow};
 ghost use Rattle.evaluation.specs.Readings.{bit};
 ghost use Rattle.sets.specs.Bit.{has};
+ghost use Rattle.program.specs.Fields.{place};
 ghost use Rattle.program.specs.Program.{program};
 ghost use Rattle.program.specs.Reading.{Whole};
 ghost use Rattle.fields.specs.Scanning.{Counted};
@@ -95,19 +96,20 @@ fn enter(
     e.next
 }
 
-// Enters every rule of a file whose fields passed, with its counts.
+// Enters every rule of a file whose fields passed, with its counts, and answers where the field after the last rule stands.
 pub fn fill_tables(
     file: &[u8],
     counts: Counts,
     places: &mut [usize; Format::MAX_RULES],
     masks: &mut [u32; Format::MAX_RULES],
     readers: &mut [u64; Tables::READERS],
-)
+) -> usize
     requires { ⌜ Counted (now file) counts ⌝ }
     requires { ⌜ (length (now places) ≡ maxRules) × (length (now masks) ≡ maxRules) × (length (now readers) ≡ readersWords) ⌝ }
     requires { ⌜ ((n : ℕ) → has (now readers) n ≡ false) ⌝ }
     ensures { λ _. ⌜ (length (now (places .exit)) ≡ maxRules) × (length (now (masks .exit)) ≡ maxRules) × (length (now (readers .exit)) ≡ readersWords) ⌝ }
     ensures { λ _. ⌜ ((k : ℕ) → Whole (now (file .entry)) k → Tabled (now (file .entry)) (program (now (file .entry)) k) (counts .rules) (now (places .exit)) (now (masks .exit)) (now (readers .exit))) ⌝ }
+    ensures { λ r. ⌜ r ≡ place (now (file .entry)) (counts .variables + counts .rules) ⌝ }
 {
     let n = counts.variables;
     let rules = counts.rules;
@@ -118,4 +120,5 @@ pub fn fill_tables(
         at = next;
         i += 1;
     }
+    at
 }

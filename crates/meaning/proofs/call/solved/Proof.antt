@@ -27,7 +27,7 @@ run-requires c κs = let b = c .before .before .before .before .before .before .
     let p = one-valuation _ _ (b .pre .1 .1 .0) in
     let i = b .pre .1 .1 .1 in
     let θ = valued (b .args .values .now) in
-    (r, (c .before .before .before .before .fill-tables .ensures .1, (in-ranges s k r a w e h i θ p, (zero-past s k r a w e h i θ p _ (zeros maxVariables), refl))))
+    (r, (c .before .before .before .before .fill-tables .ensures .1 .0, (in-ranges s k r a w e h i θ p, (zero-past s k r a w e h i θ p _ (zeros maxVariables), refl))))
 
 enum-told : tie.Need-enum-told
 enum-told c = search needs

@@ -1,6 +1,6 @@
 use native.Mathlib.Omega.{arith}
 use borrow.Author.Needs.{needs}
-use mathlib.Core.Path.{_≡_}
+use mathlib.Core.Path.{_≡_, ap, _∙_}
 use Prim.Native.Nat.{ℕ, _≤_, _-_, _+_}
 use lib.ListN.{length}
 use Rattle.format.specs.Limits.{maxRules}
@@ -12,6 +12,9 @@ use Rattle.meaning.specs.Tabled.{readersWords, Tabled}
 use Rattle.meaning.proofs.TableLaws.{rules-few, here, tabled-none, tabled-more, tabled-whole, tabled-all, next-place}
 use Rattle.meaning.proofs.tables.fill_tables.Statement.{statement}
 use Rattle.meaning.proofs.tables.fill_tables.Tie as tie
+
+last : {i n : ℕ} → i ≤ n → n ≤ i → i ≡ n
+last h k = omega arith
 
 abbrev Inv-loop : tie.InvT-loop
 Inv-loop file places₀ masks₀ readers₀ n rules at₀ i₀ places masks readers at i =
@@ -53,7 +56,10 @@ loop-again c = let k = c .before .before .before .before .before .before .before
     )
 
 returns : tie.Need-returns Inv-loop μ-loop
-returns c = let l = c .before .loop in (l .inv .2, tabled-all (c .before .before .before .pre .0) (omega arith) (l .inv .3))
+returns c = let l = c .before .loop in
+    let b = c .before .before .before .args in
+    let e = last (l .inv .0) (c .loop-test .left) in
+    (l .inv .2, (tabled-all (c .before .before .before .pre .0) (omega arith) (l .inv .3), l .inv .1 ∙ ap (λ (j : ℕ). place (b .file .now) (b .counts .variables + j)) e))
 
 pub fill-tables-spec : {M : Type 1} → statement M
 fill-tables-spec =
