@@ -73,10 +73,13 @@ between : (n : ℕ) (l z h : ℤ) → l ≤ℤ z → z ≤ℤ h → natAbs l ≤
 between n l (pos z) h p q a b = omega (int, abs-is h)
 between n l (negsuc z) h p q a b = omega (int, abs-is l)
 
-pub within-small : {P : Program} → Promises P → (m : List ℤ) → Within (system P) (valued m) → Small m
-within-small {P} p m w v =
+pub value-small : {P : Program} → Promises P → {m : Valuation} → Within (system P) m → (v : ℕ) → natAbs (m v) ≤ maxNumber
+value-small {P} p {m} w v =
     let r = ranged (P .variables) v (p .variables) in
-    between maxNumber (variableIn (P .variables) v .low) (valued m v) (variableIn (P .variables) v .high) (leZ-yes (w .low v .le)) (leZ-yes (w .high v .le)) (r .0) (r .1)
+    between maxNumber (variableIn (P .variables) v .low) (m v) (variableIn (P .variables) v .high) (leZ-yes (w .low v .le)) (leZ-yes (w .high v .le)) (r .0) (r .1)
+
+pub within-small : {P : Program} → Promises P → (m : List ℤ) → Within (system P) (valued m) → Small m
+within-small p m = value-small p
 
 -- ---- one value is stored
 
