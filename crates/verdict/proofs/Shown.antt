@@ -3,7 +3,7 @@ use Prim.Native.Nat.{ℕ, zero, suc, _+_, _-_, _*_, _<_, _≤_}
 use mathlib.Core.Path.{_≡_, refl, sym, ap, _∙_, subst}
 use mathlib.Core.Logic.{_⊎_, inl, inr}
 use mathlib.Core.Bool.{Bool, true, false, not, cond, _&&_, _||_}
-use mathlib.Core.List.{List, _++_}
+use mathlib.Core.List.{List, [], _∷_, _++_}
 use native.Mathlib.Omega.{arith}
 use borrow.Author.Tests.{eqb-true, eq-eqb}
 use lib.Dec.{T, eqb}
@@ -11,7 +11,7 @@ use lib.IntN.{natAbs}
 use lib.ListN.{length, length-append}
 use lib.Signed.{leZ}
 use Rattle.format.proofs.Int.{int}
-use Rattle.program.specs.Tables.{anyBelow}
+use Rattle.program.specs.Tables.{_⇒_, select, anyBelow}
 use Rattle.program.specs.Program.{Program, ruleIn}
 use Rattle.program.specs.Directions.{direction}
 use Rattle.program.specs.declared.Direction.{Direction}
@@ -40,8 +40,16 @@ same-test true b f g = sym (is-true b (f refl))
 same-test false true f g = g tt
 same-test false false f g = refl
 
+and-true : (a c : Bool) → a ≡ true → c ≡ true → (a && c) ≡ true
+and-true a c p q = rw (p, q)
+
+not-kept : (c d : Bool) → T (not d) → not (c && d) ≡ true
+not-kept true true t = absurd t
+not-kept true false t = refl
+not-kept false d t = refl
+
 -- an unfounded set by other names
-module _ {P : Program} {θ : Valuation} {dom dom′ : ℕ → Bool} {bound bound′ : Valuation} where
+module _ (P : Program) (θ : Valuation) (dom dom′ : ℕ → Bool) (bound bound′ : Valuation) where
   same-over : ((v : ℕ) → dom v ≡ dom′ v) → ((v : ℕ) → T (dom v) → bound v ≡ bound′ v) → over dom bound θ ≡ over dom′ bound′ θ
   same-over d e = λ i v. at v i
     where
@@ -146,7 +154,7 @@ module _ {P : Program} (promised : Promises P) {θ m : Valuation} (meets : Meets
 
       outof : T (shown P θ m v) → isShown b n v ≡ true
       outof t =
-          let l = bounds-listed (shown P θ m) m (length (P .variables)) v (founded-declared (P .variables) v (and-left _ _ t)) t in
+          let l = bounds-listed (shown P θ m) m (length (P .variables)) v (founded-declared (P .variables) v (and-left (system P .founded v) (not (leZ (θ v) (m v))) t)) t in
           below-some n (λ i. eqb (variableAt b i) v) (l .at) (l .inside) (eq-eqb (variableAt b (l .at)) v (bound-at (l .at) (l .inside) .variable ∙ ap (λ (x : Entry). x .variable) (l .is)))
 
   bound-is : (v : ℕ) → T (isShown b n v) → shownBound b n v ≡ m v
@@ -190,7 +198,7 @@ module _ {P : Program} (promised : Promises P) {θ m : Valuation} (meets : Meets
       equal : T (leZ (θ x) (θ x))
       equal = omega int
 
-      go : (markAt b i ≡ 1) ⊎ (markAt b i ≡ 2) → _
+      go : (markAt b i ≡ 1) ⊎ (markAt b i ≡ 2) → T (select (markAt b i) ((1 ⇒ leZ (θ x) (numberAt b i)) ∷ (2 ⇒ leZ (numberAt b i) (θ x)) ∷ []) false)
       go (inl q) = rw (q, condition-at i l h .number) equal
       go (inr q) = rw (q, condition-at i l h .number) equal
 
@@ -218,16 +226,15 @@ module _ {P : Program} (promised : Promises P) {θ m : Valuation} (meets : Meets
         → asked P (shown P θ m) asks (placed (ruleIn (P .rules) i) j) ≡ true
     unfolding asked askedBy
     asked-at asks i j h l t q =
-        below-some (length (P .rules)) _ i h
-        (and-true (is-true _ t) (below-some (length (ruleIn (P .rules) i .terms)) _ j l (and-true q (eq-eqb (placed (ruleIn (P .rules) i) j) (placed (ruleIn (P .rules) i) j) refl))))
+        below-some (length (P .rules)) (λ i. shown P θ m (ruleIn (P .rules) i .head) && askedBy P (shown P θ m) asks (ruleIn (P .rules) i) x) i h
+        (and-true (shown P θ m (ruleIn (P .rules) i .head)) (askedBy P (shown P θ m) asks (ruleIn (P .rules) i) x) (is-true (shown P θ m (ruleIn (P .rules) i .head)) t)
+        (below-some (length (ruleIn (P .rules) i .terms)) (λ j. at j && eqb (placed (ruleIn (P .rules) i) j) x) j l (and-true (at j) (eqb x x) q (eq-eqb x x refl))))
       where
-        and-true : {a c : Bool} → a ≡ true → c ≡ true → (a && c) ≡ true
-        and-true p q = rw (p, q)
+        x : ℕ
+        x = placed (ruleIn (P .rules) i) j
 
-    not-kept : (c d : Bool) → T (not d) → not (c && d) ≡ true
-    not-kept true true t = absurd t
-    not-kept true false t = refl
-    not-kept false d t = refl
+        at : ℕ → Bool
+        at j = asks (direction (P .variables) (ruleIn (P .rules) i) j) (kept P (ruleIn (P .rules) i) j && shown P θ m (placed (ruleIn (P .rules) i) j))
 
     conditions-meet : Conditions (system P) θ (shown P θ m) θ′
     conditions-meet i h t x d (j, l, e, q) = subst (λ y. Condition (system P) θ (shown P θ m) θ′ y d) e (go d q)
@@ -261,7 +268,7 @@ module _ {P : Program} (promised : Promises P) {θ m : Valuation} (meets : Meets
     conditions-once = λ i j l h l′ h′ e q. again i j l l′ (once-by-key (conditions P θ m)
         (conditions-sorted (asked P (shown P θ m) asksMost) (asked P (shown P θ m) asksLeast) θ (length (P .variables))) (i - n) (j - n) (omega arith) (omega arith)
         (sym (condition-at i l h .variable) ∙ e ∙ condition-at j l′ h′ .variable) (sym (condition-at i l h .mark) ∙ q ∙ condition-at j l′ h′ .mark));
-    is-unfounded = same-unfounded {P = P} (λ v. sym (shown-is v)) (λ v t. sym (bound-is v (rw (shown-is v) t))) (short-unfounded (laws promised) self least (s .0) (s .1));
+    is-unfounded = same-unfounded P θ (shown P θ m) (isShown b n) m (shownBound b n) (λ v. sym (shown-is v)) (λ v t. sym (bound-is v (rw (shown-is v) t))) (short-unfounded (laws promised) self least (s .0) (s .1));
     largest = λ dom bounds′ u v t. let w = inside-short (laws promised) self least u v t in
         let i : T (isShown b n v) = rw (shown-is v) (w .0) in (i, rw (bound-is v i) (w .1));
     conditions-true = met-self;
