@@ -31,7 +31,7 @@ refused-or r x = let e = reads-unique r (accepts-reads x) in let z : _≡_ {A = 
 inside-or : {P : Program} {θ : Valuation} {v : ℕ} → AllInside P θ → FirstOutside P θ v → ⊥
 inside-or {P} {θ} {v} i o = never (i v (o .declared)) (o .outside)
 
-same-outside : {P : Program} {θ : Valuation} {v w : ℕ} → FirstOutside P θ v → FirstOutside P θ w → v ≡ w
+pub same-outside : {P : Program} {θ : Valuation} {v w : ℕ} → FirstOutside P θ v → FirstOutside P θ w → v ≡ w
 same-outside {P} {θ} {v} {w} o q = by (λ h. never (q .first v h) (o .outside)) (λ h. never (o .first w h) (q .outside))
   where
     by : (v < w → ⊥) → (w < v → ⊥) → v ≡ w

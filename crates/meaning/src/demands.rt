@@ -63,7 +63,7 @@ fn exceeds(given: Given, value: i64) -> Demand
 }
 
 // Whether rule i demands more than its head has.
-fn look(
+pub fn look(
     file: &[u8],
     places: &[usize; Format::MAX_RULES],
     masks: &[u32; Format::MAX_RULES],

@@ -61,12 +61,12 @@ module _ {r r′ : Answer} (e : r ≡ r′) where
 -- ---- a verdict
 
 -- no variable of an assignment that meets everything is outside its range
-never-outside : {P : Program} {θ : Valuation} {v : ℕ} → Within (system P) θ → FirstOutside P θ v → ⊥
+pub never-outside : {P : Program} {θ : Valuation} {v : ℕ} → Within (system P) θ → FirstOutside P θ v → ⊥
 never-outside {P} w o = never (within-inside P w _ (o .declared)) (o .outside)
 
 module _ {P : Program} (promised : Promises P) {θ : Valuation} where
   -- a stable assignment leaves nothing short, and has no unfounded set
-  none-short : {m : Valuation} → Stable P θ → Least (system P) θ m → (v : ℕ) → T (shown P θ m v) → ⊥
+  pub none-short : {m : Valuation} → Stable P θ → Least (system P) θ m → (v : ℕ) → T (shown P θ m v) → ⊥
   none-short {m} st l v t =
       T-not (shown P θ m v) (self-least-iff (laws promised) (self-model (st .meets .ranges) (st .meets .rules)) l .0 (st .least) v) t
 

@@ -1,3 +1,5 @@
 pub mod Listed
 pub mod Shown
 pub mod Demanded
+pub mod Determined
+pub mod Total
