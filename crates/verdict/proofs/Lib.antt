@@ -3,3 +3,4 @@ pub mod Shown
 pub mod Demanded
 pub mod Determined
 pub mod Total
+pub mod MetLaws

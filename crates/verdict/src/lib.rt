@@ -1,1 +1,14 @@
 // The check of an assignment.
+pub mod rules;
+
+use meaning::Denied;
+
+// What the call check answers.
+pub enum Verdict {
+    Refused(Denied),
+    Range(usize),
+    Rule(usize),
+    Constraint(usize),
+    Unfounded(usize, usize),
+    Stable,
+}
