@@ -80,7 +80,7 @@ unfolding wrongCount repeatedTerm variableTwice negativeTerm negativeProduct
 bodies-compute = tt
 
 -- and this also the tests and the search
-computes : Unit {0}
+unfoldable pub computes : Unit {0}
 unfolding fields-compute items-compute bodies-compute searching.computes unfit mixed-in outside-in unmet-in above-in
 computes = tt
 
@@ -196,7 +196,7 @@ empty-stable : StablePlan [] []
 unfolding computes
 empty-stable = stable-plan (plan-of [] (read [] 0 (lit≤ tt) refl (lit≤ tt) refl) refl refl) 1 [] refl refl refl refl
 
-printed-read : Accepts printed (program printed 6)
+pub printed-read : Accepts printed (program printed 6)
 unfolding computes
 printed-read = read printed 6 (lit≤ tt) refl (lit≤ tt) refl
 
@@ -208,7 +208,7 @@ printed-least : UnfoundedPlan printed (small 0 (small 1 (small 1 []))) (pos 0 �
 unfolding computes
 printed-least = unfounded-plan (plan-of _ printed-read refl refl) 9 _ refl refl refl 1 refl
 
-example2-read : Accepts example2 (program example2 5)
+pub example2-read : Accepts example2 (program example2 5)
 unfolding computes
 example2-read = read example2 5 (lit≤ tt) refl (lit≤ tt) refl
 
@@ -220,7 +220,7 @@ example2-least : UnfoundedPlan example2 (0xFF ∷ 0xF9 ∷ 0xFF ∷ 0xF6 ∷ sma
 unfolding computes
 example2-least = unfounded-plan (plan-of _ example2-read refl refl) 9 _ refl refl refl 0 refl
 
-example1-read : Accepts example1 (program example1 8)
+pub example1-read : Accepts example1 (program example1 8)
 unfolding computes
 example1-read = read example1 8 (lit≤ tt) refl (lit≤ tt) refl
 
@@ -232,7 +232,7 @@ example1-least : UnfoundedPlan example1 (small 17 (small 8 (small 3 (small 1 (sm
 unfolding computes
 example1-least = unfounded-plan (plan-of _ example1-read refl refl) 9 _ refl refl refl 0 refl
 
-example4-read : Accepts example4 (program example4 7)
+pub example4-read : Accepts example4 (program example4 7)
 unfolding computes
 example4-read = read example4 7 (lit≤ tt) refl (lit≤ tt) refl
 
@@ -244,7 +244,7 @@ example4-least : UnfoundedPlan example4 (small 4 (small 5 (small 6 []))) (pos 3 
 unfolding computes
 example4-least = unfounded-plan (plan-of _ example4-read refl refl) 9 _ refl refl refl 0 refl
 
-contrary-read : Accepts contrary (program contrary 2)
+pub contrary-read : Accepts contrary (program contrary 2)
 unfolding computes
 contrary-read = read contrary 2 (lit≤ tt) refl (lit≤ tt) refl
 

@@ -3,4 +3,5 @@ pub mod Shown
 pub mod Demanded
 pub mod Determined
 pub mod Total
+pub mod Starred
 pub mod MetLaws

@@ -1,3 +1,4 @@
 pub mod Checks
 pub mod Demands
+pub mod Starred
 pub mod Met
