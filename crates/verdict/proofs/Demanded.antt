@@ -29,7 +29,7 @@ use Rattle.verdict.proofs.Shown.{report-shows}
 -- ---- answers
 
 -- which case an answer is
-abbrev word : Answer → ℕ
+abbrev pub word : Answer → ℕ
 word (refusal n at) = 0
 word (range v) = 1
 word (rule i) = 2
@@ -38,7 +38,7 @@ word (unfounded n k) = 4
 word stable = 5
 
 -- its numbers
-abbrev first : Answer → ℕ
+abbrev pub first : Answer → ℕ
 first (refusal n at) = n
 first (range v) = v
 first (rule i) = i
@@ -46,7 +46,7 @@ first (constraint i) = i
 first (unfounded n k) = n
 first stable = 0
 
-abbrev second : Answer → ℕ
+abbrev pub second : Answer → ℕ
 second (refusal n at) = at
 second (range v) = 0
 second (rule i) = 0

@@ -4,4 +4,5 @@ pub mod Demanded
 pub mod Determined
 pub mod Total
 pub mod Starred
+pub mod Wrong
 pub mod MetLaws
