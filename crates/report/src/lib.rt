@@ -1,1 +1,2 @@
 // The report: the set of variables that nothing holds up, and the conditions under which no stable assignment has them.
+pub mod writing;
