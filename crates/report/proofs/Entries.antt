@@ -13,6 +13,7 @@ use Rattle.sets.specs.Bit.{one-if, countFrom}
 use Rattle.sets.proofs.Counts.{count-split}
 use Rattle.meaning.specs.Founded.{Valuation}
 use Rattle.report.specs.Report.{Entry, entry, entryBytes, bytesIn, atMost, atLeast, ascending, only, boundsOf, conditionsOf}
+use Rattle.report.specs.Written.{markedOf}
 
 -- variables with no entry
 pub ascending-skip : (f : ℕ → List Entry) (n k : ℕ) → ((v : ℕ) → n ≤ v → v < k → f v ≡ []) → n ≤ k → ascending f k ≡ ascending f n
@@ -49,23 +50,26 @@ bounds-count p m (suc n) =
     ∙ ap₂ _+_ (bounds-count p m n) (only-length (p n) (entry n 0 (m n)))
     ∙ sym (count-more p n)
 
--- and for each of two
-pub conditions-count : (p q : ℕ → Bool) (θ : Valuation) (n : ℕ) → length (ascending (conditionsOf p q θ) n) ≡ countFrom p 0 n + countFrom q 0 n
+-- and for each of two, whatever the marks
+pub marked-count : (p q : ℕ → Bool) (a b : ℕ) (m : Valuation) (n : ℕ) → length (ascending (markedOf p a q b m) n) ≡ countFrom p 0 n + countFrom q 0 n
 unfolding ascending countFrom
-conditions-count p q θ zero = refl
-conditions-count p q θ (suc n) =
-    let most = only (p n) (entry n atMost (θ n)) in
-    let least = only (q n) (entry n atLeast (θ n)) in
-    let r = conditions-count p q θ n in
+marked-count p q a b m zero = refl
+marked-count p q a b m (suc n) =
+    let one = only (p n) (entry n a (m n)) in
+    let other = only (q n) (entry n b (m n)) in
+    let r = marked-count p q a b m n in
     omega (
       arith,
-      length-append (ascending (conditionsOf p q θ) n) (most ++ least),
-      length-append most least,
-      only-length (p n) (entry n atMost (θ n)),
-      only-length (q n) (entry n atLeast (θ n)),
+      length-append (ascending (markedOf p a q b m) n) (one ++ other),
+      length-append one other,
+      only-length (p n) (entry n a (m n)),
+      only-length (q n) (entry n b (m n)),
       count-more p n,
       count-more q n,
     )
+
+pub conditions-count : (p q : ℕ → Bool) (θ : Valuation) (n : ℕ) → length (ascending (conditionsOf p q θ) n) ≡ countFrom p 0 n + countFrom q 0 n
+conditions-count p q θ n = marked-count p q atMost atLeast θ n
 
 pub bytes-append : (es fs : List Entry) → bytesIn (es ++ fs) ≡ bytesIn es ++ bytesIn fs
 unfolding bytesIn

@@ -10,12 +10,13 @@ use lib.ListN.{length, set, take, drop, length-append, take-append-drop}
 use lib.Seq.{sets-eq, length-take-le, take-at, drop-at, drop-drop}
 use mir.Syntax.{w16}
 use mir.Val.{ofZ}
+use Rattle.format.specs.Limits.{maxVariables}
 use Rattle.format.specs.Numbers.{bytesOf}
-use Rattle.sets.specs.Bit.{NoneIn}
+use Rattle.sets.specs.Bit.{NoneIn, countFrom}
 use Rattle.meaning.specs.Founded.{Valuation}
-use Rattle.report.specs.Report.{Entry, entry, bytesIn, bound, ascending, only, boundsOf}
-use Rattle.report.specs.Written.{markedOf, Wrote, Begins}
-use Rattle.report.proofs.Entries.{ascending-skip, bytes-append, bytes-length}
+use Rattle.report.specs.Report.{Entry, entry, bytesIn, bound, atMost, atLeast, ascending, only, boundsOf, conditionsOf}
+use Rattle.report.specs.Written.{markedOf, marked, Wrote, Begins}
+use Rattle.report.proofs.Entries.{ascending-skip, bounds-count, conditions-count, bytes-append, bytes-length}
 
 -- ---- one entry
 
@@ -31,8 +32,8 @@ wrote-one b i v mark z {high} {low} h p q =
     record {
       next = refl;
       bytes = stores b (4 * i) v mark high low (omega arith) (omega arith) (omega arith) (omega arith)
-      ∙ ap₂ (λ (x y : ℕ). take (4 * i) b ++ (v ∷ mark ∷ x ∷ y ∷ []) ++ drop (4 * i + 4) b) p q
-      ∙ ap (λ (k : ℕ). take (4 * i) b ++ (v ∷ mark ∷ ofZ w16 z / 256 ∷ ofZ w16 z % 256 ∷ []) ++ drop k b) e;
+          ∙ ap₂ (λ (x y : ℕ). take (4 * i) b ++ (v ∷ mark ∷ x ∷ y ∷ []) ++ drop (4 * i + 4) b) p q
+          ∙ ap (λ (k : ℕ). take (4 * i) b ++ (v ∷ mark ∷ ofZ w16 z / 256 ∷ ofZ w16 z % 256 ∷ []) ++ drop k b) e;
     }
 
 -- ---- none, and one part after another
@@ -57,8 +58,8 @@ wrote-both {es} {fs} {i} {j} {k} {b} {c} {d} h u w =
     record {
       next = omega (arith, u .next, w .next, length-append es fs);
       bytes = w .bytes
-      ∙ ap₂ (λ (x y : List ℕ). x ++ bytesIn fs ++ y) kept rest
-      ∙ ap (λ (r : List ℕ). r ++ drop (4 * k) b) (append-assoc (take (4 * i) b) (bytesIn es) (bytesIn fs) ∙ ap (λ (r : List ℕ). take (4 * i) b ++ r) (sym (bytes-append es fs)));
+          ∙ ap₂ (λ (x y : List ℕ). x ++ bytesIn fs ++ y) kept rest
+          ∙ ap (λ (r : List ℕ). r ++ drop (4 * k) b) (append-assoc (take (4 * i) b) (bytesIn es) (bytesIn fs) ∙ ap (λ (r : List ℕ). take (4 * i) b ++ r) (sym (bytes-append es fs)));
     }
 
 -- ---- an entry where a test holds
@@ -172,6 +173,14 @@ marked-bounds p q m n h =
     same (markedOf p bound q bound m) (boundsOf p m) n
     (λ v. ap (λ (t : Bool). boundsOf p m v ++ only t (entry v bound (m v))) (h v) ∙ append-nil (boundsOf p m v))
 
-pub begun : {es fs : List Entry} {n : ℕ} {b b′ : List ℕ} → es ≡ fs → length fs ≡ n → Begins es b b′ → b′ ≡ bytesIn fs ++ drop (4 * n) b
+begun : {es fs : List Entry} {n : ℕ} {b b′ : List ℕ} → es ≡ fs → length fs ≡ n → Begins es b b′ → b′ ≡ bytesIn fs ++ drop (4 * n) b
 begun {es} {fs} {n} {b} e l w =
     w .bytes ∙ ap (λ (r : List Entry). bytesIn r ++ drop (4 * length r) b) e ∙ ap (λ (k : ℕ). bytesIn fs ++ drop (4 * k) b) l
+
+pub bounds-begun : (p q : ℕ → Bool) (m : Valuation) {b b′ : List ℕ} → ((v : ℕ) → q v ≡ false) → Begins (marked p bound q bound m) b b′
+    → b′ ≡ bytesIn (ascending (boundsOf p m) maxVariables) ++ drop (4 * countFrom p 0 maxVariables) b
+bounds-begun p q m h w = begun (marked-bounds p q m maxVariables h) (bounds-count p m maxVariables) w
+
+pub conditions-begun : (p q : ℕ → Bool) (θ : Valuation) {b b′ : List ℕ} → Begins (marked p atMost q atLeast θ) b b′
+    → b′ ≡ bytesIn (ascending (conditionsOf p q θ) maxVariables) ++ drop (4 * (countFrom p 0 maxVariables + countFrom q 0 maxVariables)) b
+conditions-begun p q θ w = begun refl (conditions-count p q θ maxVariables) w

@@ -1,26 +1,32 @@
+use mathlib.Core.Path.{ap}
+use native.Mathlib.Omega.{arith}
+use lib.ListN.{length}
+use Rattle.format.specs.Limits.{maxVariables}
+use Rattle.sets.specs.Bit.{has}
+use Rattle.meaning.specs.Values.{valued}
+use Rattle.report.proofs.Entries.{bounds-count}
+use Rattle.report.proofs.WritingLaws.{marked-bounds, bounds-begun}
 use borrow.Author.Needs.{needs}
 use Rattle.report.proofs.writing.write_bounds.Statement.{statement}
 use Rattle.report.proofs.writing.write_bounds.Tie as tie
-use Rattle.report.proofs.writing.write_bounds.Reads as reads
-use Rattle.report.proofs.writing.write_bounds.Lts as lts
-use Rattle.report.proofs.writing.write_marked.Reads as write-marked-reads
-use Rattle.sets.proofs.Set.empty.Reads as empty-reads
 
--- src/writing.rt:113:9
 empty-requires : tie.Need-empty-requires
 empty-requires c κs = search needs
 
--- src/writing.rt:114:5
 write-marked-requires : tie.Need-write-marked-requires
-write-marked-requires c κs = ?
+write-marked-requires c κs =
+    let s = c .before .before .before in
+    let e = marked-bounds (has (s .args .set .words)) (has (c .before .empty .result .words)) (valued (s .args .values .now)) maxVariables (c .before .empty .ensures) in
+    (omega (arith, ap length e, bounds-count (has (s .args .set .words)) (valued (s .args .values .now)) maxVariables, s .pre .0), s .pre .1)
 
--- src/writing.rt:108:1
 same-length : tie.Need-same-length
 same-length c = search needs
 
--- src/writing.rt:108:1
 returns : tie.Need-returns
-returns c = ?
+returns c =
+    let k = c .before .before .before .before in
+    let s = k .before .before in
+    bounds-begun (has (s .args .set .words)) (has (k .empty .result .words)) (valued (s .args .values .now)) (k .empty .ensures) (c .before .before .write-marked .ensures)
 
 pub write-bounds-spec : {M : Type 1} → statement M
 write-bounds-spec = tie.close (tie.spec empty-requires write-marked-requires same-length returns)

@@ -1,21 +1,21 @@
+use Rattle.sets.specs.Bit.{has}
+use Rattle.meaning.specs.Values.{valued}
+use Rattle.report.proofs.Entries.{marked-count}
+use Rattle.report.proofs.WritingLaws.{conditions-begun}
 use borrow.Author.Needs.{needs}
 use Rattle.report.proofs.writing.write_conditions.Statement.{statement}
 use Rattle.report.proofs.writing.write_conditions.Tie as tie
-use Rattle.report.proofs.writing.write_conditions.Reads as reads
-use Rattle.report.proofs.writing.write_conditions.Lts as lts
-use Rattle.report.proofs.writing.write_marked.Reads as write-marked-reads
 
--- src/writing.rt:128:5
 write-marked-requires : tie.Need-write-marked-requires
-write-marked-requires c κs = ?
+write-marked-requires c κs = let s = c .before .before in (rw marked-count (s .pre .0), s .pre .1)
 
--- src/writing.rt:118:1
 same-length : tie.Need-same-length
 same-length c = search needs
 
--- src/writing.rt:118:1
 returns : tie.Need-returns
-returns c = ?
+returns c =
+    let s = c .before .before .before .before .before in
+    conditions-begun (has (s .args .most .words)) (has (s .args .least .words)) (valued (s .args .values .now)) (c .before .before .write-marked .ensures)
 
 pub write-conditions-spec : {M : Type 1} → statement M
 write-conditions-spec = tie.close (tie.spec write-marked-requires same-length returns)

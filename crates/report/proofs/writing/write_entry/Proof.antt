@@ -10,10 +10,6 @@ use Rattle.report.proofs.WritingLaws.{wrote-one}
 use borrow.Author.Needs.{needs}
 use Rattle.report.proofs.writing.write_entry.Statement.{statement}
 use Rattle.report.proofs.writing.write_entry.Tie as tie
-use Rattle.report.proofs.writing.write_entry.Reads as reads
-use Rattle.report.proofs.writing.write_entry.Lts as lts
-use Rattle.format.proofs.high_byte.Reads as high-byte-reads
-use Rattle.format.proofs.low_byte.Reads as low-byte-reads
 
 high-byte-requires : tie.Need-high-byte-requires
 high-byte-requires c κs = omega (arith, ap natAbs (toZ-ofZ (c .before .fits .number)), c .before .pre .1)
@@ -58,7 +54,7 @@ same-length : tie.Need-same-length
 same-length c = search needs
 
 returns : tie.Need-returns
-returns c = 
+returns c =
     let s = c .before .before .before in
     let e = toZ-ofZ (s .fits .number) in
     wrote-one (s .args .report .now) (s .args .i) (s .args .v) (s .args .mark) (s .args .number) (s .pre .0)

@@ -13,11 +13,6 @@ use Rattle.report.specs.Written.{markedOf, Wrote}
 use Rattle.report.proofs.WritingLaws.{wrote-start, wrote-room, wrote-next, wrote-end, neither}
 use Rattle.report.proofs.writing.write_marked.Statement.{statement}
 use Rattle.report.proofs.writing.write_marked.Tie as tie
-use Rattle.report.proofs.writing.write_marked.Reads as reads
-use Rattle.report.proofs.writing.write_marked.Lts as lts
-use Rattle.report.proofs.writing.write_variable.Reads as write-variable-reads
-use Rattle.sets.proofs.Set.next.Reads as next-reads
-use Rattle.sets.proofs.Set.union.Reads as union-reads
 
 abbrev Inv-loop : tie.InvT-loop
 Inv-loop report₀ first mark second other values either from₀ i₀ report from i =
@@ -59,7 +54,7 @@ same-length : tie.Need-same-length Inv-loop μ-loop
 same-length c = search needs
 
 returns : tie.Need-returns Inv-loop μ-loop
-returns c = 
+returns c =
     let l = c .before .before .before in
     let e = has (l .before .union .result .words) in
     let n = next-none e (l .loop .from) maxVariables (c .before .before .next .ensures) (c .enum-told .given .1) in
@@ -69,7 +64,7 @@ cast-write-variable : tie.Need-cast-write-variable Inv-loop μ-loop
 cast-write-variable c = omega (arith, found (c .before .before) .below)
 
 write-variable-requires : tie.Need-write-variable-requires Inv-loop μ-loop
-write-variable-requires c κs = 
+write-variable-requires c κs =
     let k = c .before .before in
     let l = k .before .before .before in
     let s = l .before .before .before in
@@ -83,7 +78,7 @@ loop-less : tie.Need-loop-less Inv-loop μ-loop
 loop-less c = let f = found (c .before .before .before .before .before) in omega (arith, f .above, f .below)
 
 loop-again : tie.Need-loop-again Inv-loop μ-loop
-loop-again c = 
+loop-again c =
     let k = c .before .before .before .before .before in
     let l = k .before .before .before in
     let s = l .before .before .before in

@@ -7,20 +7,17 @@ use Rattle.report.proofs.WritingLaws.{room-here, wrote-here, wrote-abse
 use borrow.Author.Needs.{needs}
 use Rattle.report.proofs.writing.write_member.Statement.{statement}
 use Rattle.report.proofs.writing.write_member.Tie as tie
-use Rattle.report.proofs.writing.write_member.Reads as reads
-use Rattle.report.proofs.writing.write_member.Lts as lts
-use Rattle.report.proofs.writing.write_entry.Reads as write-entry-reads
-use Rattle.sets.proofs.Set.contains.Reads as contains-reads
 
 contains-requires : tie.Need-contains-requires
 contains-requires c κs = search needs
 
 write-entry-requires : tie.Need-write-entry-requires
-write-entry-requires c κs = 
+write-entry-requires c κs =
     let s = c .before .before .before .before in
-    let e = toZ-ofZ (s .fits .number) in
-    (room-here (entry (s .args .v) (s .args .mark) (s .args .number)) (s .args .i) (sym (c .before .before .contains .ensures) ∙ c .before .if1 .taken) (s .pre .0),
-    omega (arith, ap natAbs e, s .pre .1))
+    let e = toZ-ofZ (s .fits .number) in (
+      room-here (entry (s .args .v) (s .args .mark) (s .args .number)) (s .args .i) (sym (c .before .before .contains .ensures) ∙ c .before .if1 .taken) (s .pre .0),
+      omega (arith, ap natAbs e, s .pre .1),
+    )
 
 add-result : tie.Need-add-result
 add-result c = search needs
@@ -29,12 +26,12 @@ same-length : tie.Need-same-length
 same-length c = search needs
 
 returns : tie.Need-returns
-returns c = 
+returns c =
     let k = c .before .before .before .before in
     wrote-here (sym (k .before .contains .ensures) ∙ k .if1 .taken) (toZ-ofZ (k .before .before .before .fits .number)) (c .before .before .write-entry .ensures)
 
 returns-2 : tie.Need-returns-2
-returns-2 c = 
+returns-2 c =
     wrote-absent _ _ _ (sym (c .before .contains .ensures) ∙ c .if1 .left)
 
 pub write-member-spec : {M : Type 1} → statement M

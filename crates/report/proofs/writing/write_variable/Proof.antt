@@ -10,15 +10,11 @@ use Rattle.report.proofs.WritingLaws.{first-room, second-room, wrote-va
 use borrow.Author.Needs.{needs}
 use Rattle.report.proofs.writing.write_variable.Statement.{statement}
 use Rattle.report.proofs.writing.write_variable.Tie as tie
-use Rattle.report.proofs.writing.write_variable.Reads as reads
-use Rattle.report.proofs.writing.write_variable.Lts as lts
-use Rattle.format.proofs.wide.Reads as wide-reads
-use Rattle.report.proofs.writing.write_member.Reads as write-member-reads
 
 -- the value that is read
 value-is : (c : tie.After-value)
     → toZ w64 (ofZ w64 (getD (c .before .before .before .args .values .now) (c .before .wide .result) (pos 0)))
-      ≡ valued (c .before .before .before .args .values .now) (c .before .before .before .args .v)
+    ≡ valued (c .before .before .before .args .values .now) (c .before .before .before .args .v)
 value-is c =
     let vs = c .before .before .before .args .values .now in
     let r = c .before .wide .result in
@@ -35,28 +31,32 @@ element-copy-out-value : tie.Need-element-copy-out-value
 element-copy-out-value c = search needs
 
 write-member-requires : tie.Need-write-member-requires
-write-member-requires c κs = 
+write-member-requires c κs =
     let s = c .before .before .before .before in
-    let e = value-is (c .before) in
-    (first-room (has (s .args .first .words)) (has (s .args .second .words)) (s .args .mark) (s .args .other) (valued (s .args .values .now)) (s .args .v) e (s .args .i) (s .pre .0),
-    omega (arith, ap natAbs e, s .pre .1 (s .args .v)))
+    let e = value-is (c .before) in (
+      first-room (has (s .args .first .words)) (has (s .args .second .words)) (s .args .mark) (s .args .other) (valued (s .args .values .now)) (s .args .v) e (s .args .i) (s .pre .0),
+      omega (arith, ap natAbs e, s .pre .1 (s .args .v)),
+    )
 
 write-member-requires-2 : tie.Need-write-member-requires-2
-write-member-requires-2 c κs = 
+write-member-requires-2 c κs =
     let w = c .before .before .before in
     let k = w .before .before in
     let s = k .before .before .before in
-    let e = value-is k in
-    (omega (arith,
-      second-room (has (s .args .first .words)) (has (s .args .second .words)) (s .args .mark) (s .args .other) (valued (s .args .values .now)) (s .args .v) e (s .args .i) (s .pre .0) (w .write-member .ensures),
-      w .write-member .kept .0),
-    omega (arith, ap natAbs e, s .pre .1 (s .args .v)))
+    let e = value-is k in (
+      omega (
+        arith,
+        second-room (has (s .args .first .words)) (has (s .args .second .words)) (s .args .mark) (s .args .other) (valued (s .args .values .now)) (s .args .v) e (s .args .i) (s .pre .0) (w .write-member .ensures),
+        w .write-member .kept .0,
+      ),
+      omega (arith, ap natAbs e, s .pre .1 (s .args .v)),
+    )
 
 same-length : tie.Need-same-length
 same-length c = search needs
 
 returns : tie.Need-returns
-returns c = 
+returns c =
     let w₂ = c .before .before in
     let w = w₂ .before .before .before .before in
     let k = w .before .before in
