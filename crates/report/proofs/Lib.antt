@@ -1,2 +1,4 @@
 pub mod Entries
 pub mod WritingLaws
+pub mod MemberLaws
+pub mod ShortLaws

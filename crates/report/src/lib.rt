@@ -1,2 +1,4 @@
 // The report: the set of variables that nothing holds up, and the conditions under which no stable assignment has them.
 pub mod writing;
+pub mod members;
+pub mod short;
