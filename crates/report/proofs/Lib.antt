@@ -1,4 +1,5 @@
 pub mod Entries
 pub mod WritingLaws
+pub mod AskLaws
 pub mod MemberLaws
 pub mod ShortLaws

@@ -1,3 +1,4 @@
+pub mod Asking
 pub mod Report
 pub mod Written
 pub mod Shortfall
