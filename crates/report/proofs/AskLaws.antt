@@ -1,5 +1,5 @@
 -- What is asked by one place more, and by one rule more.
-use Prim.Native.Nat.{ℕ, _+_, _*_, _<_}
+use Prim.Native.Nat.{ℕ, _+_, _*_}
 use mathlib.Core.Path.{_≡_, refl, sym, ap, ap₂, _∙_}
 use mathlib.Core.Bool.{Bool, true, false, _||_, _&&_, or-false, or-assoc}
 use mathlib.Core.List.{List}

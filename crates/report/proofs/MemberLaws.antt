@@ -1,7 +1,7 @@
 -- Sets that take in a variable where a test holds.
 use Prim.Native.Nat.{ℕ, _+_, _<_}
 use mathlib.Core.Path.{_≡_, refl, sym, ap, ap₂, _∙_}
-use mathlib.Core.Bool.{Bool, true, false, _||_, _&&_, or-false, or-comm, or-assoc}
+use mathlib.Core.Bool.{Bool, true, false, _||_, _&&_, or-false, or-comm}
 use native.Mathlib.Decide.{ℕ-discrete, decLt}
 use native.Mathlib.Omega.{arith}
 use lib.Dec.{eqb, ltb}

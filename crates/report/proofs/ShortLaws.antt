@@ -1,6 +1,6 @@
 -- The founded variables whose value in the model is below their assigned one.
 use Prim.Native.Nat.{ℕ, _+_, _*_, _<_, _≤_}
-use mathlib.Core.Path.{_≡_, refl, sym, ap, ap₂, _∙_}
+use mathlib.Core.Path.{_≡_, refl, sym, ap, _∙_}
 use mathlib.Core.Bool.{Bool, true, false, not, _&&_}
 use mathlib.Core.List.{List}
 use native.Mathlib.Omega.{arith}
@@ -8,9 +8,9 @@ use lib.Dec.{T, eqb, ltb}
 use lib.IntN.{ℤ}
 use lib.ListN.{drop, List·getD-eq-default}
 use lib.Signed.{leZ, ltZ}
-use borrow.Author.Tests.{ltb-true, ltb-false}
+use borrow.Author.Tests.{ltb-false}
 use Rattle.format.proofs.Int.{int}
-use Rattle.program.specs.Program.{Variable, noVariable, variableOf, variableIn, variablesAt, founded}
+use Rattle.program.specs.Program.{noVariable, variableOf, variablesAt, founded}
 use Rattle.program.proofs.Places.{variable-at, variables-length}
 use Rattle.meaning.specs.Founded.{Valuation}
 use Rattle.meaning.proofs.Tests.{cases, is-true}
