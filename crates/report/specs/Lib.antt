@@ -1,4 +1,4 @@
-pub mod Asking
 pub mod Report
 pub mod Written
 pub mod Shortfall
+pub mod Asking
