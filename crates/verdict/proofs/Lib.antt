@@ -6,3 +6,4 @@ pub mod Total
 pub mod Starred
 pub mod Wrong
 pub mod MetLaws
+pub mod ReportLaws

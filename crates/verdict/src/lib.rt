@@ -1,4 +1,5 @@
 // The check of an assignment.
+pub mod reporting;
 pub mod rules;
 
 use meaning::Denied;

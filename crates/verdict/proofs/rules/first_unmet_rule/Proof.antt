@@ -49,9 +49,11 @@ loop-again : tie.Need-loop-again Inv-loop μ-loop
 loop-again c =
     let b = c .before .before .before .before .before .before in
     let l = c .before .before .before .before .loop in
-    let h = c .before .before .before .loop-test .taken in
-    (omega arith, λ P p. rule-met-at (b .pre .0) (valued (b .args .assigned .now)) (l .i) P (l .inv .1 P p)
-    (demands-enough P _ _ _ (c .before .before .look .ensures P (p .stands (l .i) (let e = laid-rules (b .pre .0) p in omega arith))) (c .enum-told .given .1)))
+    let h = c .before .before .before .loop-test .taken in (
+      omega arith,
+      λ P p. rule-met-at (b .pre .0) (valued (b .args .assigned .now)) (l .i) P (l .inv .1 P p)
+          (demands-enough P _ _ _ (c .before .before .look .ensures P (p .stands (l .i) (let e = laid-rules (b .pre .0) p in omega arith))) (c .enum-told .given .1)),
+    )
 
 returns-2 : tie.Need-returns-2 Inv-loop μ-loop
 returns-2 c =
