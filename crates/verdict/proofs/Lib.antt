@@ -7,3 +7,4 @@ pub mod Starred
 pub mod Wrong
 pub mod MetLaws
 pub mod ReportLaws
+pub mod FoundedLaws

@@ -7,9 +7,11 @@ use Rattle.program.specs.Program.{Program}
 use Rattle.meaning.specs.Founded.{Valuation, Within, Least}
 use Rattle.meaning.specs.Reduct.{system}
 use Rattle.meaning.specs.Stable.{assigned, RuleMet, ConstraintMet, Meets, Stable}
-use Rattle.meaning.specs.Calls.{checkBytes, Refuses, Called}
+use Rattle.meaning.specs.Calls.{checkBytes, Refuses, Called, denialNumber, denialPlace}
 use Rattle.meaning.specs.LeastCall.{FirstOutside}
 use Rattle.report.specs.Report.{shown, bounds, conditions, reported}
+use Rattle.verdict.specs.declared.Verdict.{Verdict}
+use Rattle.verdict.specs.declared.Verdict.the-variants as verdict
 
 -- an answer of the call check, with document 01's words: "a refusal, or a verdict with what belongs to it"
 pub data Answer : Type 0 where
@@ -19,6 +21,15 @@ pub data Answer : Type 0 where
   constraint : ℕ → Answer
   unfounded : ℕ → ℕ → Answer
   stable : Answer
+
+-- the word, number and place of each case of the code's answer
+abbrev pub answerOf : Verdict → Answer
+answerOf (verdict.Refused why) = refusal (denialNumber why) (denialPlace why)
+answerOf (verdict.Range v) = range v
+answerOf (verdict.Rule i) = rule i
+answerOf (verdict.Constraint i) = constraint i
+answerOf (verdict.Unfounded n k) = unfounded n k
+answerOf verdict.Stable = stable
 
 -- i is the first of n that is not met
 pub record FirstUnmet (Met : ℕ → Type 0) (n i : ℕ) : Type 0 where

@@ -1,4 +1,5 @@
 // The check of an assignment.
+pub mod founded;
 pub mod reporting;
 pub mod rules;
 
