@@ -3,3 +3,4 @@ pub mod Pushes
 pub mod Sizes
 pub mod Loops
 pub mod Gives
+pub mod Asks

@@ -1,4 +1,4 @@
--- A body that is read in two valuations, and the rules whose evaluation fits the machine.
+-- A body that is read in two valuations, and the rules and constraints whose evaluation fits the machine.
 use Prim.Native.Nat.{ℕ, _/_, _%_, _^_, _<_, _≤_}
 use mathlib.Core.Path.{_≡_}
 use mathlib.Core.List.{List, [], _∷_}
@@ -8,7 +8,7 @@ use lib.IntN.{ℤ, pos, natAbs, _*ℤ_}
 use lib.ListN.{length, getD}
 use Rattle.format.specs.Limits.{maxTerms, maxNumber, maxCoefficient}
 use Rattle.program.specs.Tables.{_⇒_, select}
-use Rattle.program.specs.Program.{Term, Rule, termIn}
+use Rattle.program.specs.Program.{Term, Rule, Constraint, termIn}
 use Rattle.program.specs.Evaluate.{holds}
 
 -- bit i of a word
@@ -55,3 +55,11 @@ pub record Evaluable (r : Rule) : Type 0 where
   pub weights : r .form ≡ 1 → Coefficients (r .terms)
   pub few : length (r .terms) ≤ maxTerms
   pub enough : fewest (r .form) ≤ length (r .terms)
+
+-- a constraint of a known form, within the format's limits as far as its evaluation goes
+pub record Satisfiable (k : Constraint) : Type 0 where
+  pub from : 1 ≤ k .form
+  pub to : k .form ≤ 2
+  pub near : natAbs (k .c) ≤ maxNumber
+  pub weights : k .form ≡ 1 → Coefficients (k .terms)
+  pub few : length (k .terms) ≤ maxTerms

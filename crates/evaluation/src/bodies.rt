@@ -4,6 +4,7 @@ ghost use Prim.Native.Nat.{_+_, _-_, _*_, _<_, _≤_};
 ghost use lib.ListN.{length};
 ghost use lib.IntN.{natAbs, _+ℤ_, _*ℤ_};
 ghost use Rattle.format.specs.Limits.{maxTerms, maxNumber, maxCoefficient};
+ghost use Rattle.program.specs.Tables.{anyBelow};
 ghost use Rattle.program.specs.Program.{termsOf, termIn};
 ghost use Rattle.program.specs.Evaluate.{sumBelow, largestTo, smallestTo, holds, allHold};
 ghost use Rattle.evaluation.specs.Readings.{readAt, readingOf, weighted, Small, Coefficients};
@@ -171,4 +172,22 @@ pub fn all_hold(
         all = all & is_met(body, place, kept, first, second);
     }
     all
+}
+
+// Whether some literal of a body holds.
+pub fn any_holds(
+    body: &[u8],
+    kept: u32,
+    first: &[i64; Format::MAX_VARIABLES],
+    second: &[i64; Format::MAX_VARIABLES],
+) -> bool
+    requires { ⌜ length (now body) ≤ 4 * maxTerms ⌝ }
+    ensures { λ r. ⌜ r ≡ anyBelow (length (termsOf (now (body .entry)))) (λ i. holds (termIn (termsOf (now (body .entry))) i) (readingOf kept (now (first .entry)) (now (second .entry)) (termsOf (now (body .entry))) i)) ⌝ }
+{
+    let n = body.len() / 4;
+    let mut any = false;
+    for place in 0..n {
+        any = any | is_met(body, place, kept, first, second);
+    }
+    any
 }

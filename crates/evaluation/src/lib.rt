@@ -1,5 +1,6 @@
-// What a rule's places push and what a rule gives, from the bytes of the file.
+// What a rule's places push, what a rule gives and what a constraint asks, from the bytes of the file.
 pub mod bodies;
+pub mod constraints;
 pub mod directions;
 mod numbers;
 pub mod rules;

@@ -7,11 +7,12 @@ use native.Mathlib.Nat.{add-zero}
 use native.Mathlib.Omega.{arith}
 use lib.ListN.{length, drop}
 use Rattle.program.specs.Fields.{place, nextAt}
-use Rattle.program.specs.Program.{Variable, Rule, Program, program, variableOf, variableIn, variablesAt}
+use Rattle.program.specs.Program.{Variable, Rule, Constraint, Program, program, variableOf, variableIn, variablesAt}
+use Rattle.program.specs.Refusals.{bodyForm}
 use Rattle.program.specs.Reading.{Accepts, Whole}
 use Rattle.program.proofs.Places.{place-next, passed-fine, variables-stand, variable-stands, rule-at, constraint-at, rule-length, constraint-length}
-use Rattle.program.proofs.Promises.{RulePromise, CountPromise, rule-promised}
-use Rattle.evaluation.specs.Readings.{Evaluable, fewest}
+use Rattle.program.proofs.Promises.{RulePromise, CountPromise, ConstraintPromise, rule-promised, constraint-promised}
+use Rattle.evaluation.specs.Readings.{Evaluable, Satisfiable, fewest}
 use Rattle.evaluation.proofs.Gives.{seven}
 use Rattle.reader.specs.Parts.{rulePlace, constraintPlace, RuleLies, ConstraintLies}
 
@@ -35,6 +36,16 @@ promised-evaluable {vs} {r} p = record {
         (λ e. omega (arith, count .product-two e)) (λ e. omega (arith, count .size-one e)) (λ e. omega arith) (λ e. omega (arith, count .carry-least e))
         (r .form) (p .form-least) (p .form-most) refl
 
+-- and a constraint too
+pub promised-satisfiable : {vs : List Variable} {k : Constraint} → ConstraintPromise vs k → Satisfiable k
+promised-satisfiable {vs} {k} p = record {
+  from = p .form-least;
+  to = p .form-most;
+  near = p .c-small;
+  weights = λ e i h. p .body .terms i h .coefficient-small (ap bodyForm e);
+  few = p .body .count .most;
+}
+
 module _ {s : List ℕ} {k : ℕ} (w : Whole s k) where
   -- field k of a whole file, in a program P
   rule-lies-at : (i : ℕ) → i < length (program s k .rules) → RuleLies s (program s k) i (rulePlace s (program s k) i)
@@ -54,7 +65,12 @@ module _ {s : List ℕ} {k : ℕ} (w : Whole s k) where
       let r = constraint-at (w .passed) h in
       let f = passed-fine (w .passed) _ (r .before) in
       let l = constraint-length f (r .field .tagged) in
-      record { inside = f .whole; is = r .is; sized = f .length-is ∙ l .are }
+      record {
+        inside = f .whole;
+        is = r .is;
+        sized = f .length-is ∙ l .are;
+        satisfiable = rw (r .is) at (promised-satisfiable (constraint-promised _ _ (r .fine)));
+      }
 
 module _ {s : List ℕ} {P : Program} (a : Accepts s P) where
   pub variables-are : P .variables ≡ variablesAt s (length (P .variables))

@@ -5,7 +5,7 @@ use mathlib.Core.List.{List}
 use lib.ListN.{length}
 use Rattle.program.specs.Fields.{place, valueAt, nextAt}
 use Rattle.program.specs.Program.{Program, ruleOf, constraintOf, ruleIn, constraintIn}
-use Rattle.evaluation.specs.Readings.{Evaluable}
+use Rattle.evaluation.specs.Readings.{Evaluable, Satisfiable}
 
 -- the variables' fields stand first, then the rules', then the constraints'
 abbrev pub rulePlace : List ℕ → Program → ℕ → ℕ
@@ -26,3 +26,4 @@ pub record ConstraintLies (s : List ℕ) (P : Program) (i at : ℕ) : Type 0 whe
   pub inside : nextAt s at ≤ length s
   pub is : constraintIn (P .constraints) i ≡ constraintOf (valueAt s at)
   pub sized : length (valueAt s at) ≡ 3 + 4 * length (constraintOf (valueAt s at) .terms)
+  pub satisfiable : Satisfiable (constraintOf (valueAt s at))
