@@ -13,7 +13,7 @@ use mir.Syntax.{w16, w64}
 use mir.Val.{SFits, toZ, ofZ, sel}
 use mir.Facts.{toZ-ofZ, ofZ-toZ, toZ-pos, fits-ofZ}
 use Rattle.format.specs.Numbers.{big, signed, bytesOf, beyond}
-use Rattle.format.proofs.Int.{int, neg-is}
+use Rattle.format.proofs.Int.{up, dn, int, neg-is, sum-is}
 
 abs-neg : (z : ℤ) → natAbs (negℤ z) ≡ natAbs z
 abs-neg (pos zero) = refl
@@ -60,12 +60,20 @@ back z m h k = toZ-ofZ (sfits-abs z m h k)
 pub low16 : (n : ℕ) → n < 32768 → toZ w64 n ≡ toZ w16 n
 low16 n h = toZ-pos w64 (omega arith) ∙ sym (toZ-pos w16 h)
 
-pub high16 : (n : ℕ) → 32768 ≤ n → n < 65536 → toZ w64 n -ℤ pos 65536 ≡ negsuc (65536 - suc n)
-high16 n h k =
-    ap (λ (z : ℤ). z -ℤ pos 65536) (toZ-pos w64 {n = n} (omega arith)) ∙ ap (λ (t : Bool). cond t (negsuc (65536 - suc n)) (pos (n - 65536))) (lt-ltb n 65536 k)
+pub high16 : (n : ℕ) → 32768 ≤ n → toZ w16 n ≡ negsuc (65536 - suc n)
+high16 n h = ap (λ (t : Bool). sel t (pos n) (negsuc (65536 - suc n))) (le-ltb n 32768 h)
 
-pub high16-is : (n : ℕ) → 32768 ≤ n → toZ w16 n ≡ negsuc (65536 - suc n)
-high16-is n h = ap (λ (t : Bool). sel t (pos n) (negsuc (65536 - suc n))) (le-ltb n 32768 h)
+-- a number of two bytes and a small number: an i64, and z, where it is z in ℤ
+pub plus-small : (n : ℕ) (d : ℤ) → n < 65536 → natAbs d ≤ 65536 → SFits w64 (toZ w64 n +ℤ d)
+plus-small n d h l =
+    let e : toZ w64 n ≡ pos n = toZ-pos w64 (omega arith) in
+    rw e (sfits-abs (pos n +ℤ d) (n + natAbs d) (abs-add (pos n) d) (omega arith))
+
+pub plus-is : (n : ℕ) (d z : ℤ) → n < 65536 → natAbs d ≤ 65536 → n + up d + dn z ≡ up z + dn d → toZ w64 (ofZ w64 (toZ w64 n +ℤ d)) ≡ z
+plus-is n d z h l q =
+    let e : toZ w64 n ≡ pos n = toZ-pos w64 (omega arith) in
+    let s : pos n +ℤ d ≡ z = omega (int, q, sum-is (pos n) d) in
+    toZ-ofZ (plus-small n d h l) ∙ rw e s
 
 -- two bytes are a small number
 pub signed-small : (high low : ℕ) → high < 256 → low < 256 → natAbs (signed high low) ≤ 32768

@@ -1,7 +1,7 @@
-use Prim.Native.Nat.{suc, _+_, _*_, _-_}
+use Prim.Native.Nat.{_+_, _*_}
 use native.Mathlib.Omega.{arith}
-use lib.IntN.{negsuc}
-use Rattle.format.proofs.Ints.{low16, high16, high16-is, sfits-abs, back}
+use Rattle.format.proofs.Int.{≡-out}
+use Rattle.format.proofs.Ints.{low16, high16, plus-small, plus-is}
 use borrow.Author.Needs.{needs}
 use Rattle.format.proofs.number.Statement.{statement}
 use Rattle.format.proofs.number.Tie as tie
@@ -19,9 +19,7 @@ cast-result-2 : tie.Need-cast-result-2
 cast-result-2 c = search needs
 
 sub-result : tie.Need-sub-result
-sub-result c =
-    let n = c .before .args .high * 256 + c .before .args .low in
-    rw (high16 n (omega arith) (omega arith)) (sfits-abs (negsuc (65536 - suc n)) 65536 (omega arith) (omega arith))
+sub-result c = plus-small (c .before .args .high * 256 + c .before .args .low) _ (omega arith) (omega arith)
 
 returns : tie.Need-returns
 returns c = low16 (c .before .args .high * 256 + c .before .args .low) (omega arith)
@@ -29,7 +27,7 @@ returns c = low16 (c .before .args .high * 256 + c .before .args .low) (omega ar
 returns-2 : tie.Need-returns-2
 returns-2 c =
     let n = c .before .args .high * 256 + c .before .args .low in
-    rw (high16 n (omega arith) (omega arith), high16-is n (omega arith)) (back (negsuc (65536 - suc n)) 65536 (omega arith) (omega arith))
+    plus-is n _ _ (omega arith) (omega arith) (omega (arith, ≡-out (high16 n (omega arith))))
 
 pub number-spec : {M : Type 1} → statement M
 number-spec =
