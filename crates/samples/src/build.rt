@@ -21,6 +21,14 @@ pub fn byte(file: &mut [u8], n: usize, x: u8) -> usize {
     n
 }
 
+pub fn bytes(file: &mut [u8], n: usize, more: &[u8]) -> usize {
+    let mut m = n;
+    for i in 0..more.len() {
+        m = byte(file, m, more[i]);
+    }
+    m
+}
+
 // The two bytes of a number within -32,767..32,767; any other is left out.
 pub fn number(file: &mut [u8], n: usize, v: i64) -> usize {
     if v < -32767 {

@@ -1,4 +1,6 @@
-// Prints a case's name and what reading its file answers.
+// Prints a case's name and what reading its file answers, or the call least.
+use meaning::Denied;
+use meaning::Solved;
 use program::Reading;
 use program::Refusal;
 
@@ -30,6 +32,24 @@ fn number(n: usize) {
     io::print_decimal(1, n as u64);
 }
 
+// A space and the number of two bytes in two's complement.
+pub fn value(high: u8, low: u8) {
+    let n = format::joined(high, low);
+    if n < 32768 {
+        number(n);
+    } else {
+        text(b" -");
+        io::print_decimal(1, (65536 - n) as u64);
+    }
+}
+
+// A refusal's number and place.
+fn refused(n: u64, at: usize) {
+    text(b"refused ");
+    io::print_decimal(1, n);
+    number(at);
+}
+
 fn answer(reading: Reading) {
     match reading {
         Reading::Accepted(counts) => {
@@ -39,9 +59,7 @@ fn answer(reading: Reading) {
             number(counts.constraints);
         }
         Reading::Refused(why, at) => {
-            text(b"refused ");
-            io::print_decimal(1, number_of(why));
-            number(at);
+            refused(number_of(why), at);
         }
     }
 }
@@ -58,5 +76,38 @@ pub fn bytes(name: &[u8], file: &[u8]) {
 pub fn built(name: &[u8], file: &[u8], n: usize) {
     if n <= file.len() {
         bytes(name, &file[0..n]);
+    }
+}
+
+fn denied(why: Denied) {
+    match why {
+        Denied::File(why, at) => refused(number_of(why), at),
+        Denied::Assignment => refused(14, 0),
+        Denied::Buffer => refused(15, 0),
+    }
+}
+
+// What the call least answers.
+pub fn solved(name: &[u8], solved: Solved) {
+    text(b"least of ");
+    text(name);
+    text(b": ");
+    match solved {
+        Solved::Refused(why) => denied(why),
+        Solved::Range(v) => {
+            text(b"range");
+            number(v);
+        }
+        Solved::Nothing => text(b"none"),
+        Solved::Found => text(b"found"),
+    }
+}
+
+// Whether the bytes that a call is not to write are as they were.
+pub fn guard(kept: bool) {
+    if kept {
+        text(b", guard kept\n");
+    } else {
+        text(b", guard lost\n");
     }
 }
