@@ -177,10 +177,10 @@ begun : {es fs : List Entry} {n : ℕ} {b b′ : List ℕ} → es ≡ fs → len
 begun {es} {fs} {n} {b} e l w =
     w .bytes ∙ ap (λ (r : List Entry). bytesIn r ++ drop (4 * length r) b) e ∙ ap (λ (k : ℕ). bytesIn fs ++ drop (4 * k) b) l
 
-pub bounds-begun : (p q : ℕ → Bool) (m : Valuation) {b b′ : List ℕ} → ((v : ℕ) → q v ≡ false) → Begins (marked p bound q bound m) b b′
+pub bounds-begun : (p q : ℕ → Bool) (m : Valuation) (b b′ : List ℕ) → ((v : ℕ) → q v ≡ false) → Begins (marked p bound q bound m) b b′
     → b′ ≡ bytesIn (ascending (boundsOf p m) maxVariables) ++ drop (4 * countFrom p 0 maxVariables) b
-bounds-begun p q m h w = begun (marked-bounds p q m maxVariables h) (bounds-count p m maxVariables) w
+bounds-begun p q m b b′ h w = begun (marked-bounds p q m maxVariables h) (bounds-count p m maxVariables) w
 
-pub conditions-begun : (p q : ℕ → Bool) (θ : Valuation) {b b′ : List ℕ} → Begins (marked p atMost q atLeast θ) b b′
+pub conditions-begun : (p q : ℕ → Bool) (θ : Valuation) (b b′ : List ℕ) → Begins (marked p atMost q atLeast θ) b b′
     → b′ ≡ bytesIn (ascending (conditionsOf p q θ) maxVariables) ++ drop (4 * (countFrom p 0 maxVariables + countFrom q 0 maxVariables)) b
-conditions-begun p q θ w = begun refl (conditions-count p q θ maxVariables) w
+conditions-begun p q θ b b′ w = begun refl (conditions-count p q θ maxVariables) w

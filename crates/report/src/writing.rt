@@ -1,4 +1,4 @@
-// The report's entries, written in number order.
+// The report's entries, written by ascending variable from a buffer's first byte on.
 ghost use mathlib.Core.Path.{_≡_};
 ghost use mathlib.Core.List.{[], _∷_, _++_};
 ghost use Prim.Native.Nat.{_+_, _*_, _≤_};

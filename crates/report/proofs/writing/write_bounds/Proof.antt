@@ -26,7 +26,8 @@ returns : tie.Need-returns
 returns c =
     let k = c .before .before .before .before in
     let s = k .before .before in
-    bounds-begun (has (s .args .set .words)) (has (k .empty .result .words)) (valued (s .args .values .now)) (k .empty .ensures) (c .before .before .write-marked .ensures)
+    let w = c .before .before .write-marked in
+    bounds-begun (has (s .args .set .words)) (has (k .empty .result .words)) (valued (s .args .values .now)) (s .args .report .now) (w .last .0) (k .empty .ensures) (w .ensures)
 
 pub write-bounds-spec : {M : Type 1} → statement M
 write-bounds-spec = tie.close (tie.spec empty-requires write-marked-requires same-length returns)

@@ -1,3 +1,4 @@
+use native.Mathlib.Omega.{arith}
 use Rattle.sets.specs.Bit.{has}
 use Rattle.meaning.specs.Values.{valued}
 use Rattle.report.proofs.Entries.{marked-count}
@@ -7,7 +8,7 @@ use Rattle.report.proofs.writing.write_conditions.Statement.{statement}
 use Rattle.report.proofs.writing.write_conditions.Tie as tie
 
 write-marked-requires : tie.Need-write-marked-requires
-write-marked-requires c κs = let s = c .before .before in (rw marked-count (s .pre .0), s .pre .1)
+write-marked-requires c κs = let s = c .before .before in (rw marked-count (omega (arith, s .pre .0)), s .pre .1)
 
 same-length : tie.Need-same-length
 same-length c = search needs
@@ -15,7 +16,8 @@ same-length c = search needs
 returns : tie.Need-returns
 returns c =
     let s = c .before .before .before .before .before in
-    conditions-begun (has (s .args .most .words)) (has (s .args .least .words)) (valued (s .args .values .now)) (c .before .before .write-marked .ensures)
+    let w = c .before .before .write-marked in
+    conditions-begun (has (s .args .most .words)) (has (s .args .least .words)) (valued (s .args .values .now)) (s .args .report .now) (w .last .0) (w .ensures)
 
 pub write-conditions-spec : {M : Type 1} → statement M
 write-conditions-spec = tie.close (tie.spec write-marked-requires same-length returns)
