@@ -43,6 +43,7 @@ use Rattle.report.proofs.Entries.{ascending-past, bounds-count, conditions-coun
 use Rattle.verdict.specs.Checks.{Answer, unfounded, stable, answerOf, Judged, not-founded, founded}
 use Rattle.verdict.specs.Met.{ShowsSets}
 use Rattle.verdict.specs.declared.Verdict.{Verdict}
+use Rattle.verdict.proofs.MetLaws.{placed-in}
 
 -- ---- counts
 
@@ -196,11 +197,6 @@ module _ (s : List ℕ) (k : Counts) (r : Reads s (accepted (k .variables) (k .r
 
   pub assigned-small : Small θ
   assigned-small = within-small (accepts-promises (accept s k r .accepts)) θ (meets (accept s k r .meant) (accept s k r .accepts) .ranges)
-
-  -- the tables, of any program that the file means
-  module _ {ps ms : List ℕ} (l : Laid s k ps ms) where
-    pub placed-in : (P : Program) → Accepts s P → Placed s P ps ms
-    placed-in P x = subst (λ (Q : Program). Placed s Q ps ms) (accepts-unique (l .placed .accepts) x) (l .placed)
 
   -- the run has ended in m
   module _ (m : List ℤ) (e : Ending) (ends : (P : Program) → Accepts s P → EndsWith P (valued θ) (valued m) e) (b : List ℕ) where

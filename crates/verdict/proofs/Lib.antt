@@ -8,3 +8,4 @@ pub mod Wrong
 pub mod MetLaws
 pub mod ReportLaws
 pub mod FoundedLaws
+pub mod CheckLaws

@@ -1,4 +1,6 @@
 // The check of an assignment.
+pub mod call;
+pub mod constraints;
 pub mod founded;
 pub mod reporting;
 pub mod rules;

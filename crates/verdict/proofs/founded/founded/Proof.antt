@@ -57,9 +57,10 @@ shown-requires c κs =
     let e = b .pre .1 .1 .0 in
     let m = c .before .before .before .before .before .before .before .run in
     let z = c .before .before .before .before .before .short-set in
-    let q = c .before .before .asked in
-    (shown-room s k r θ e (m .last .1 .1 .1 .1 .1 .1 .0) (m .result) (m .ensures .1) w (has (z .result .words)) (z .ensures) (laid s k r t) _ _ (q .ensures .0) (q .ensures .1) (b .pre .1 .1 .1),
-    shown-small s k r θ e (m .last .1 .1 .1 .1 .1 .1 .0) (m .result) (m .ensures .1) w (has (z .result .words)) (z .ensures) (laid s k r t) (has (q .result .most .words)) (has (q .result .least .words)) (q .ensures .0) (q .ensures .1))
+    let q = c .before .before .asked in (
+      shown-room s k r θ e (m .last .1 .1 .1 .1 .1 .1 .0) (m .result) (m .ensures .1) w (has (z .result .words)) (z .ensures) (laid s k r t) _ _ (q .ensures .0) (q .ensures .1) (b .pre .1 .1 .1),
+      shown-small s k r θ e (m .last .1 .1 .1 .1 .1 .1 .0) (m .result) (m .ensures .1) w (has (z .result .words)) (z .ensures) (laid s k r t) (has (q .result .most .words)) (has (q .result .least .words)) (q .ensures .0) (q .ensures .1),
+    )
 
 same-length : tie.Need-same-length
 same-length c = search needs
