@@ -132,6 +132,10 @@ module _ {s a b : List ℕ} where
   untouched-is (turned-down p) n at e = refl
   untouched-is (judged c j) n at e = absurd (not-refusal (accepts-promises (c .accepts)) j n at e)
 
+  meaning-of : {r : Answer} {b′ : List ℕ} → Checks s a b r b′ → NotRefused r → (P : Program) × Accepts s P
+  meaning-of (turned-down p) f = absurd (f _ _ refl)
+  meaning-of (judged {P} c j) f = (P, c .accepts)
+
   -- a call that is not refused is judged, by the program that the file means
   verdict-of : {r : Answer} {b′ : List ℕ} → Checks s a b r b′ → NotRefused r → (P : Program) → Accepts s P → Judged P (assigned a) b r b′
   verdict-of (turned-down p) f P x = absurd (f _ _ refl)
@@ -141,6 +145,7 @@ module _ {s a b : List ℕ} where
   checks-demands c = record {
     turned-down = λ n at. (turned-down-is c n at, is-turned-down c n at);
     untouched = untouched-is c;
+    means = meaning-of c;
     called-stable = λ f P x. let j = verdict-of c f P x in let p = accepts-promises x in (judged-stable p j, stable-judged p j);
     called-unfounded = λ f P x. let j = verdict-of c f P x in let p = accepts-promises x in (judged-unfounded p j, unfounded-judged p j);
     shows = λ P x n k e. judged-shows (accepts-promises x) (verdict-of c (λ n′ at q. apart (sym e ∙ q) (λ w. omega arith)) P x) n k e;

@@ -86,6 +86,8 @@ pub record Demands (s a b : List ℕ) (r : Answer) (b′ : List ℕ) : Type 0 wh
   pub turned-down : (n at : ℕ) → (r ≡ refusal n at) ↔ Refuses checkBytes s a b n at
   -- "a refusal leaves every buffer untouched"
   pub untouched : (n at : ℕ) → r ≡ refusal n at → b′ ≡ b
+  -- a file that is not turned down means a program; what follows stands for that program
+  pub means : NotRefused r → (P : Program) × Accepts s P
   -- 2: "In a call not refused, an assignment is called stable exactly when it lies in its ranges, meets every rule and constraint, and is the
   -- least solution of its own reduct"
   pub called-stable : NotRefused r → (P : Program) → Accepts s P → (r ≡ stable) ↔ Stable P (assigned a)
