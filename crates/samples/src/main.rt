@@ -1,19 +1,23 @@
-// Tries the reader of rule files and the call least on document 01's examples, and prints their answers.
+// Tries the reader of rule files and the calls least and check on document 01's examples, and prints their answers.
 mod bodies;
 mod build;
 mod by_form;
+mod calls;
 mod chains;
 mod circles;
 mod forms;
-mod least;
 mod limits;
 mod models;
 mod numbers;
 mod order;
 mod reduct;
+mod rings;
 mod rows;
 mod shape;
 mod show;
+mod verdicts;
+
+use crate::calls::Call;
 
 fn main() {
     rows::all();
@@ -23,7 +27,11 @@ fn main() {
     bodies::all();
     circles::all();
     order::all();
-    models::all();
-    reduct::all();
+    models::all(Call::Least);
+    reduct::all(Call::Least);
     chains::all();
+    models::all(Call::Check);
+    reduct::all(Call::Check);
+    verdicts::all();
+    rings::all();
 }

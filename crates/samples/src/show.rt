@@ -1,8 +1,9 @@
-// Prints a case's name and what reading its file answers, or the call least.
+// Prints a case's name and what reading its file answers, or the call least or check.
 use meaning::Denied;
 use meaning::Solved;
 use program::Reading;
 use program::Refusal;
+use verdict::Verdict;
 
 fn number_of(why: Refusal) -> u64 {
     match why {
@@ -87,6 +88,12 @@ fn denied(why: Denied) {
     }
 }
 
+// A word and a number.
+fn counted(word: &[u8], n: usize) {
+    text(word);
+    number(n);
+}
+
 // What the call least answers.
 pub fn solved(name: &[u8], solved: Solved) {
     text(b"least of ");
@@ -94,13 +101,46 @@ pub fn solved(name: &[u8], solved: Solved) {
     text(b": ");
     match solved {
         Solved::Refused(why) => denied(why),
-        Solved::Range(v) => {
-            text(b"range");
-            number(v);
-        }
+        Solved::Range(v) => counted(b"range", v),
         Solved::Nothing => text(b"none"),
         Solved::Found => text(b"found"),
     }
+}
+
+// What the call check answers.
+pub fn verdict(name: &[u8], verdict: Verdict) {
+    text(b"check of ");
+    text(name);
+    text(b": ");
+    match verdict {
+        Verdict::Refused(why) => denied(why),
+        Verdict::Range(v) => counted(b"range", v),
+        Verdict::Rule(i) => counted(b"rule", i),
+        Verdict::Constraint(i) => counted(b"constraint", i),
+        Verdict::Unfounded(n, k) => {
+            counted(b"unfounded", n);
+            number(k);
+        }
+        Verdict::Stable => text(b"stable"),
+    }
+}
+
+// A report's entry: its four bytes.
+pub fn entry(v: u8, mark: u8, high: u8, low: u8) {
+    let x = format::wide(v);
+    match mark {
+        0 => counted(b", most", x),
+        1 => {
+            counted(b", when", x);
+            text(b" <=");
+        }
+        2 => {
+            counted(b", when", x);
+            text(b" >=");
+        }
+        _ => counted(b", no such mark", x),
+    }
+    value(high, low);
 }
 
 // Whether the bytes that a call is not to write are as they were.

@@ -6,10 +6,10 @@ use Rattle.samples.proofs.chains.links.Statement.{statement}
 use Rattle.samples.proofs.chains.links.Tie as tie
 
 abbrev Inv-loop : tie.InvT-loop
-Inv-loop file₀ n last-first m₀ k₀ file m k = length file ≡ length file₀
+Inv-loop file₀ n last-first link m₀ k₀ file m k = length file ≡ length file₀
 
 abbrev μ-loop : tie.MeasureT-loop
-μ-loop file₀ n last-first m₀ k₀ file m k = 255 - k
+μ-loop file₀ n last-first link m₀ k₀ file m k = 255 - k
 
 loop-holds : tie.Need-loop-holds Inv-loop μ-loop
 loop-holds c = search needs
@@ -20,11 +20,8 @@ read-requires c κs = search needs
 wrapping-add-u8-requires : tie.Need-wrapping-add-u8-requires Inv-loop μ-loop
 wrapping-add-u8-requires c κs = search needs
 
-times-requires : tie.Need-times-requires Inv-loop μ-loop
-times-requires c κs = search needs
-
-rule-of-one-requires : tie.Need-rule-of-one-requires Inv-loop μ-loop
-rule-of-one-requires c κs = search needs
+rule-requires : tie.Need-rule-requires Inv-loop μ-loop
+rule-requires c κs = search needs
 
 add-k : tie.Need-add-k Inv-loop μ-loop
 add-k c = search needs
@@ -50,8 +47,7 @@ links-spec =
     loop-holds
     read-requires
     wrapping-add-u8-requires
-    times-requires
-    rule-of-one-requires
+    rule-requires
     add-k
     loop-less
     loop-again

@@ -2,8 +2,8 @@ use mathlib.Core.Path.{_≡_}
 use Prim.Native.Nat.{_-_, _/_}
 use lib.ListN.{length}
 use borrow.Author.Needs.{needs}
-use Rattle.samples.proofs.least.values.Statement.{statement}
-use Rattle.samples.proofs.least.values.Tie as tie
+use Rattle.samples.proofs.calls.values.Statement.{statement}
+use Rattle.samples.proofs.calls.values.Tie as tie
 
 abbrev Inv-loop : tie.InvT-loop
 Inv-loop bytes v₀ v-end v = v-end ≡ length bytes / 2

@@ -2,26 +2,23 @@ use mathlib.Core.Path.{_≡_}
 use Prim.Native.Nat.{_-_}
 use lib.ListN.{length}
 use borrow.Author.Needs.{needs}
-use Rattle.samples.proofs.least.is_kept.Statement.{statement}
-use Rattle.samples.proofs.least.is_kept.Tie as tie
+use Rattle.samples.proofs.calls.fill.Statement.{statement}
+use Rattle.samples.proofs.calls.fill.Tie as tie
 
 abbrev Inv-loop : tie.InvT-loop
-Inv-loop room start end i₀ i-end i = i-end ≡ length room
+Inv-loop room₀ i₀ i-end room i = (length room ≡ length room₀) × (i-end ≡ length room₀)
 
 abbrev μ-loop : tie.MeasureT-loop
-μ-loop room start end i₀ i-end i = i-end - i
+μ-loop room₀ i₀ i-end room i = i-end - i
 
 loop-holds : tie.Need-loop-holds Inv-loop μ-loop
 loop-holds c = search needs
 
-shared-slice-read-if3 : tie.Need-shared-slice-read-if3 Inv-loop μ-loop
-shared-slice-read-if3 c = search needs
-
 mark-requires : tie.Need-mark-requires Inv-loop μ-loop
 mark-requires c κs = search needs
 
-returns : tie.Need-returns Inv-loop μ-loop
-returns c = search needs
+slice-write-room : tie.Need-slice-write-room Inv-loop μ-loop
+slice-write-room c = search needs
 
 add-i : tie.Need-add-i Inv-loop μ-loop
 add-i c = search needs
@@ -32,20 +29,23 @@ loop-less c = search needs
 loop-again : tie.Need-loop-again Inv-loop μ-loop
 loop-again c = search needs
 
-returns-2 : tie.Need-returns-2 Inv-loop μ-loop
-returns-2 c = search needs
+same-length : tie.Need-same-length Inv-loop μ-loop
+same-length c = search needs
 
-pub is-kept-spec : {M : Type 1} → statement M
-is-kept-spec =
+returns : tie.Need-returns Inv-loop μ-loop
+returns c = search needs
+
+pub fill-spec : {M : Type 1} → statement M
+fill-spec =
     tie.close
     (tie.spec
     Inv-loop
     μ-loop
     loop-holds
-    shared-slice-read-if3
     mark-requires
-    returns
+    slice-write-room
     add-i
     loop-less
     loop-again
-    returns-2)
+    same-length
+    returns)
