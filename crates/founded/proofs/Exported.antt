@@ -1,0 +1,31 @@
+-- From a call's answer x, its parts p and the number r that they are packed in, to what the exported call says.
+use Prim.Native.Nat.{ℕ}
+use mathlib.Core.Path.{_≡_, ap, _∙_}
+use mathlib.Core.List.{List}
+use Rattle.program.specs.Reading.{Reads}
+use Rattle.program.specs.Reading as read
+use Rattle.meaning.specs.LeastCall.{LeastCall}
+use Rattle.meaning.specs.LeastCall as least
+use Rattle.verdict.specs.Checks.{Checks}
+use Rattle.verdict.specs.Checks as check
+use Rattle.verdict.specs.Demands.{Demands}
+use Rattle.founded.specs.declared.answers.Parts.{Parts}
+use Rattle.founded.specs.Packing.{packed, unpacked, readParts, leastParts, checkParts}
+use Rattle.founded.specs.Exports.{ExportedRead, ExportedLeast, ExportedCheck}
+use Rattle.founded.proofs.Unpacked.{read-unpacks, least-unpacks, check-unpacks}
+
+module _ {p : Parts} {r : ℕ} (e : r ≡ packed p) where
+  pub exported-read : {s : List ℕ} {x : read.Answer} → Reads s x → p ≡ readParts x → ExportedRead s r
+  exported-read {s} {x} h q =
+      let d : r ≡ packed (readParts x) = e ∙ ap packed q in
+      record { answer = x; reads = h; is-packed = d; unpacks = ap unpacked d ∙ read-unpacks h }
+
+  pub exported-least : {s a b b′ : List ℕ} {x : least.Answer} → LeastCall s a b x b′ → p ≡ leastParts x → ExportedLeast s a b r b′
+  exported-least {x = x} h q =
+      let d : r ≡ packed (leastParts x) = e ∙ ap packed q in
+      record { answer = x; answers = h; is-packed = d; unpacks = ap unpacked d ∙ least-unpacks h }
+
+  pub exported-check : {s a b b′ : List ℕ} {x : check.Answer} → Checks s a b x b′ → Demands s a b x b′ → p ≡ checkParts x → ExportedCheck s a b r b′
+  exported-check {x = x} h t q =
+      let d : r ≡ packed (checkParts x) = e ∙ ap packed q in
+      record { answer = x; checks = h; demands = t; is-packed = d; unpacks = ap unpacked d ∙ check-unpacks h }

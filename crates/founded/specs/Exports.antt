@@ -1,0 +1,31 @@
+-- What each exported call answers: a number r that is some answer of the call, packed, and that gives this answer's word and numbers back.
+use Prim.Native.Nat.{ℕ}
+use mathlib.Core.Path.{_≡_}
+use mathlib.Core.List.{List}
+use Rattle.program.specs.Reading.{Reads}
+use Rattle.program.specs.Reading as read
+use Rattle.meaning.specs.LeastCall.{LeastCall}
+use Rattle.meaning.specs.LeastCall as least
+use Rattle.verdict.specs.Checks.{Checks}
+use Rattle.verdict.specs.Checks as check
+use Rattle.verdict.specs.Demands.{Demands}
+use Rattle.founded.specs.Packing.{packed, unpacked, readParts, leastParts, checkParts}
+
+pub record ExportedRead (s : List ℕ) (r : ℕ) : Type 0 where
+  pub answer : read.Answer
+  pub reads : Reads s answer
+  pub is-packed : r ≡ packed (readParts answer)
+  pub unpacks : unpacked r ≡ readParts answer
+
+pub record ExportedLeast (s a b : List ℕ) (r : ℕ) (b′ : List ℕ) : Type 0 where
+  pub answer : least.Answer
+  pub answers : LeastCall s a b answer b′
+  pub is-packed : r ≡ packed (leastParts answer)
+  pub unpacks : unpacked r ≡ leastParts answer
+
+pub record ExportedCheck (s a b : List ℕ) (r : ℕ) (b′ : List ℕ) : Type 0 where
+  pub answer : check.Answer
+  pub checks : Checks s a b answer b′
+  pub demands : Demands s a b answer b′
+  pub is-packed : r ≡ packed (checkParts answer)
+  pub unpacks : unpacked r ≡ checkParts answer
