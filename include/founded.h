@@ -1,0 +1,123 @@
+/*
+ * Founded cover for C: reads a rule file, finds the least model for an assignment, checks an assignment. Link with libfounded.a (x86-64
+ * Linux); it needs memset of the C library and nothing else. The calls are proved: each returns, for every input that is passed as said
+ * here, and answers and writes what document 01 defines (crates/founded).
+ *
+ * What a caller passes:
+ * - Each buffer is a pointer and its length in bytes. So many bytes can be read there, and written where the pointer is not const.
+ * - No pointer is null. A buffer without bytes has length 0 and any other pointer; nothing is read or written there.
+ * - The report or the buffer that is written overlaps neither the file nor the assignment. These two may overlap.
+ * - No other thread writes the buffers, or reads the one that is written, while a call runs.
+ * - The calling thread has the stack that is named below left.
+ *
+ * A call keeps nothing after it returns: it has no state, no heap, no locks, and threads may call at the same time. A call writes only
+ * where its comment says so, from the buffer's first byte on; every other byte keeps its value.
+ */
+#ifndef FOUNDED_H
+#define FOUNDED_H
+
+#include <stddef.h>
+#include <stdint.h>
+
+#ifdef __cplusplus
+extern "C" {
+#endif
+
+/* ---- limits of a file */
+
+#define FOUNDED_MAX_FILE 60000u
+#define FOUNDED_MAX_VARIABLES 256u
+#define FOUNDED_MAX_RULES 2048u
+#define FOUNDED_MAX_CONSTRAINTS 512u
+#define FOUNDED_MAX_TERMS 16u
+#define FOUNDED_MAX_NUMBER 30000
+#define FOUNDED_MAX_COEFFICIENT 1000
+
+/* ---- bytes for each variable of the file */
+
+#define FOUNDED_ASSIGNMENT_BYTES 2u /* exactly */
+#define FOUNDED_LEAST_BYTES 2u      /* at least, of the buffer that founded_least writes */
+#define FOUNDED_CHECK_BYTES 12u     /* at least, of the report that founded_check writes */
+
+/* ---- stack of a thread that makes the call and little else: what was measured, and a margin */
+
+#define FOUNDED_READ_STACK 32768u
+#define FOUNDED_LEAST_STACK 131072u
+#define FOUNDED_CHECK_STACK 131072u
+
+/* ---- the calls */
+
+/* ACCEPTED with the counts of variables, rules and constraints, or REFUSED. */
+uint64_t founded_read(const uint8_t *file, size_t file_len);
+
+/*
+ * REFUSED; RANGE with the first variable that is assigned outside its range; NONE where the reduct has no model; or FOUND. Only FOUND
+ * writes: the least model, a value of 2 bytes for each variable.
+ */
+uint64_t founded_least(const uint8_t *file, size_t file_len, const uint8_t *assignment, size_t assignment_len, uint8_t *buffer, size_t buffer_len);
+
+/*
+ * REFUSED; RANGE with the first variable outside its range; RULE or CONSTRAINT with the first that is not met; UNFOUNDED with the counts of
+ * bounds and conditions; or STABLE. Only UNFOUNDED writes: an entry for each bound, then an entry for each condition.
+ */
+uint64_t founded_check(const uint8_t *file, size_t file_len, const uint8_t *assignment, size_t assignment_len, uint8_t *report, size_t report_len);
+
+/* ---- answers: a word and up to three numbers, 0 where there is none. No answer is 0. */
+
+enum {
+    FOUNDED_STABLE = 1,
+    FOUNDED_UNFOUNDED = 2,  /* bounds, conditions */
+    FOUNDED_CONSTRAINT = 3, /* constraint */
+    FOUNDED_RULE = 4,       /* rule */
+    FOUNDED_RANGE = 5,      /* variable */
+    FOUNDED_REFUSED = 6,    /* refusal's number 1 to 15, place in the file */
+    FOUNDED_ACCEPTED = 7,   /* variables, rules, constraints */
+    FOUNDED_FOUND = 8,
+    FOUNDED_NONE = 9
+};
+
+static inline unsigned founded_word(uint64_t answer) { return (unsigned)(answer & 0xff); }
+
+static inline unsigned founded_first(uint64_t answer) { return (unsigned)(answer >> 8 & 0xffff); }
+
+static inline unsigned founded_second(uint64_t answer) { return (unsigned)(answer >> 24 & 0xffff); }
+
+static inline unsigned founded_third(uint64_t answer) { return (unsigned)(answer >> 40 & 0xffff); }
+
+/* ---- numbers of two bytes, big-endian, two's complement: the value of variable v in an assignment or a least model */
+
+static inline int founded_number(const uint8_t *bytes)
+{
+    int n = bytes[0] * 256 + bytes[1];
+    return n < 32768 ? n : n - 65536;
+}
+
+static inline int founded_value(const uint8_t *values, size_t v) { return founded_number(values + 2 * v); }
+
+/* value lies in -32768..32767 */
+static inline void founded_assign(uint8_t *values, size_t v, int value)
+{
+    unsigned n = (unsigned)value & 0xffff;
+    values[2 * v] = (uint8_t)(n >> 8);
+    values[2 * v + 1] = (uint8_t)(n & 0xff);
+}
+
+/* ---- entries of the report, 4 bytes each: variable, mark, number. Entry i of an UNFOUNDED answer, i below bounds + conditions. */
+
+enum {
+    FOUNDED_BOUND = 0,   /* the variable's least value is number, below its assigned one */
+    FOUNDED_AT_MOST = 1, /* a condition: the variable is assigned at most number */
+    FOUNDED_AT_LEAST = 2 /* a condition: the variable is assigned at least number */
+};
+
+static inline unsigned founded_entry_variable(const uint8_t *report, size_t i) { return report[4 * i]; }
+
+static inline unsigned founded_entry_mark(const uint8_t *report, size_t i) { return report[4 * i + 1]; }
+
+static inline int founded_entry_number(const uint8_t *report, size_t i) { return founded_number(report + 4 * i + 2); }
+
+#ifdef __cplusplus
+}
+#endif
+
+#endif
