@@ -14,15 +14,13 @@ static const uint8_t FILE_BYTES[] = {
     2, 0, 8, 6, 2, 0, 1, 1, 1, 0, 1, /* 2 is at least 1 if 1 is at least 1 */
 };
 
-static void say_unfounded(const uint8_t *report, unsigned bounds, unsigned conditions)
+static void say_entries(const uint8_t *report, unsigned bounds, unsigned conditions)
 {
-    printf("unfounded: %u of the values are not held up\n", bounds);
     for (unsigned i = 0; i < bounds; i++)
         printf("  variable %u is held up to %d only\n", founded_entry_variable(report, i), founded_entry_number(report, i));
-    printf("and stay so under %u of the conditions\n", conditions);
     for (unsigned i = bounds; i < bounds + conditions; i++)
-        printf("  variable %u is %s %d\n", founded_entry_variable(report, i), founded_entry_mark(report, i) == FOUNDED_AT_MOST ? "at most" : "at least",
-               founded_entry_number(report, i));
+        printf("  as long as variable %u is %s %d\n", founded_entry_variable(report, i),
+               founded_entry_mark(report, i) == FOUNDED_AT_MOST ? "at most" : "at least", founded_entry_number(report, i));
 }
 
 static void check(int a, int b, int c)
@@ -35,7 +33,10 @@ static void check(int a, int b, int c)
     printf("%d, %d, %d is ", a, b, c);
     switch (founded_word(answer)) {
     case FOUNDED_STABLE: printf("stable\n"); break;
-    case FOUNDED_UNFOUNDED: say_unfounded(report, founded_first(answer), founded_second(answer)); break;
+    case FOUNDED_UNFOUNDED:
+        printf("unfounded\n");
+        say_entries(report, founded_first(answer), founded_second(answer));
+        break;
     case FOUNDED_CONSTRAINT: printf("against constraint %u\n", founded_first(answer)); break;
     case FOUNDED_RULE: printf("against rule %u\n", founded_first(answer)); break;
     case FOUNDED_RANGE: printf("outside the range of variable %u\n", founded_first(answer)); break;

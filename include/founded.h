@@ -39,7 +39,10 @@ extern "C" {
 #define FOUNDED_LEAST_BYTES 2u      /* at least, of the buffer that founded_least writes */
 #define FOUNDED_CHECK_BYTES 12u     /* at least, of the report that founded_check writes */
 
-/* ---- stack of a thread that makes the call and little else: what was measured, and a margin */
+/*
+ * ---- stack of a thread that makes the call and little else. The calls were seen to touch 9, 103 and 104 thousand bytes, whatever the
+ * input; the rest is for the thread's own start and a margin.
+ */
 
 #define FOUNDED_READ_STACK 32768u
 #define FOUNDED_LEAST_STACK 131072u

@@ -1,0 +1,524 @@
+/*
+ * The three calls from C, one line an answer. Every buffer lies between two pages that may not be touched, in a first call directly behind
+ * one and in a second directly before the other; the file and the assignment may not be written either. Each call runs on a thread with just
+ * the stack that founded.h names, below it a page that may not be touched.
+ */
+#define _DEFAULT_SOURCE
+#include <pthread.h>
+#include <stdio.h>
+#include <stdlib.h>
+#include <string.h>
+#include <sys/mman.h>
+
+#include "founded.h"
+
+#define PAGE ((size_t)4096)
+#define ROOM (16 * PAGE)
+
+enum { PAINT = 0xA5, MARK = 0xEE };
+
+enum which { READ, LEAST, CHECK };
+
+static const char *const CALLS[] = {"read", "least", "check"};
+static const size_t STACKS[] = {FOUNDED_READ_STACK, FOUNDED_LEAST_STACK, FOUNDED_CHECK_STACK};
+
+struct call {
+    enum which which;
+    const uint8_t *file, *assignment;
+    uint8_t *lent;
+    size_t file_len, assignment_len, lent_len;
+    uint64_t answer;
+    uintptr_t top;
+};
+
+static void fail(const char *name, const char *why)
+{
+    printf("%s: FAILED, %s\n", name, why);
+    exit(1);
+}
+
+/* ---- memory between two pages that may not be touched */
+
+static uint8_t *fenced(size_t size)
+{
+    uint8_t *p = mmap(NULL, size + 2 * PAGE, PROT_NONE, MAP_PRIVATE | MAP_ANONYMOUS, -1, 0);
+    if (p == MAP_FAILED || mprotect(p + PAGE, size, PROT_READ | PROT_WRITE) != 0)
+        fail("memory", "no room");
+    return p + PAGE;
+}
+
+static void protect(uint8_t *room, int how)
+{
+    if (mprotect(room, ROOM, how) != 0)
+        fail("memory", "no protection");
+}
+
+/* the bytes stand at the room's end or at its start */
+static uint8_t *placed(uint8_t *room, const uint8_t *bytes, size_t n, int at_end)
+{
+    uint8_t *p = at_end ? room + ROOM - n : room;
+    if (n > 0)
+        memcpy(p, bytes, n);
+    return p;
+}
+
+/* ---- a call on a thread of its own */
+
+enum { MARGIN = 16384 };
+
+static uint8_t *stacks[3];
+static size_t deepest[3];
+
+static void answer(struct call *c)
+{
+    switch (c->which) {
+    case READ: c->answer = founded_read(c->file, c->file_len); break;
+    case LEAST: c->answer = founded_least(c->file, c->file_len, c->assignment, c->assignment_len, c->lent, c->lent_len); break;
+    case CHECK: c->answer = founded_check(c->file, c->file_len, c->assignment, c->assignment_len, c->lent, c->lent_len); break;
+    }
+}
+
+static void *threaded(void *p)
+{
+    struct call *c = p;
+    char here = 0;
+    c->top = (uintptr_t)&here;
+    answer(c);
+    return NULL;
+}
+
+static void on_thread(struct call *c)
+{
+    pthread_t thread;
+    pthread_attr_t attr;
+    uint8_t *stack = stacks[c->which];
+    size_t size = STACKS[c->which], low = 0;
+    memset(stack, PAINT, size);
+    if (pthread_attr_init(&attr) != 0 || pthread_attr_setstack(&attr, stack, size) != 0 || pthread_create(&thread, &attr, threaded, c) != 0 ||
+        pthread_join(thread, NULL) != 0)
+        fail(CALLS[c->which], "no thread");
+    pthread_attr_destroy(&attr);
+    while (stack[low] == PAINT)
+        low++;
+    size_t depth = (size_t)(c->top - (uintptr_t)(stack + low));
+    if (depth > deepest[c->which])
+        deepest[c->which] = depth;
+}
+
+/* ---- a case */
+
+static uint8_t *file_room, *assignment_room, *lent_room;
+
+static void say(uint64_t a)
+{
+    static const char *const WORDS[] = {"nothing", "stable", "unfounded", "constraint", "rule", "range", "refused", "accepted", "found", "none"};
+    static const int NUMBERS[] = {0, 0, 2, 1, 1, 1, 2, 3, 0, 0};
+    unsigned word = founded_word(a), numbers[] = {founded_first(a), founded_second(a), founded_third(a)};
+    if (word < 1 || word > 9 || a >> 56 != 0)
+        fail("answer", "no word");
+    printf("%s", WORDS[word]);
+    for (int i = 0; i < 3; i++) {
+        if (i < NUMBERS[word])
+            printf(" %u", numbers[i]);
+        else if (numbers[i] != 0)
+            fail("answer", "a number that is not 0");
+    }
+}
+
+static void say_entry(const uint8_t *report, size_t i)
+{
+    static const char *const MARKS[] = {"most", "<=", ">="};
+    unsigned mark = founded_entry_mark(report, i);
+    printf("; %u %s %d", founded_entry_variable(report, i), mark < 3 ? MARKS[mark] : "?", founded_entry_number(report, i));
+}
+
+/* a few values or entries, or the first and the last of many */
+static size_t say_written(uint64_t a, const uint8_t *bytes, size_t values)
+{
+    size_t entries = founded_first(a) + founded_second(a);
+    if (founded_word(a) == FOUNDED_FOUND) {
+        for (size_t v = 0; v < values; v++)
+            if (v < 4 || v + 1 == values)
+                printf(" %d", founded_value(bytes, v));
+        return 2 * values;
+    }
+    if (founded_word(a) != FOUNDED_UNFOUNDED)
+        return 0;
+    for (size_t i = 0; i < entries; i++)
+        if (i < 4 || i + 1 == entries)
+            say_entry(bytes, i);
+    return 4 * entries;
+}
+
+static void try(const char *name, enum which which, const uint8_t *file, size_t n, const uint8_t *assignment, size_t m, size_t lent)
+{
+    static uint8_t after[2][ROOM];
+    uint64_t answers[2];
+    for (int at_end = 0; at_end < 2; at_end++) {
+        struct call c = {which, NULL, NULL, NULL, n, m, lent, 0, 0};
+        c.file = placed(file_room, file, n, at_end);
+        c.assignment = placed(assignment_room, assignment, m, at_end);
+        memset(lent_room, MARK, ROOM);
+        c.lent = at_end ? lent_room + ROOM - lent : lent_room;
+        protect(file_room, PROT_READ);
+        protect(assignment_room, PROT_READ);
+        on_thread(&c);
+        protect(file_room, PROT_READ | PROT_WRITE);
+        protect(assignment_room, PROT_READ | PROT_WRITE);
+        for (uint8_t *p = lent_room; p < lent_room + ROOM; p++)
+            if ((p < c.lent || p >= c.lent + lent) && *p != MARK)
+                fail(name, "a byte beside the lent ones is written");
+        memcpy(after[at_end], c.lent, lent);
+        answers[at_end] = c.answer;
+    }
+    if (answers[0] != answers[1] || memcmp(after[0], after[1], lent) != 0)
+        fail(name, "two answers");
+    printf("%s %s: ", CALLS[which], name);
+    say(answers[0]);
+    for (size_t i = say_written(answers[0], after[0], m / 2); i < lent; i++)
+        if (after[0][i] != MARK)
+            fail(name, "a byte after the last is written");
+    printf("\n");
+}
+
+/* ---- files */
+
+struct file {
+    size_t len, field;
+    uint8_t bytes[ROOM];
+};
+
+static struct file built;
+
+static void put(unsigned byte) { built.bytes[built.len++] = (uint8_t)byte; }
+
+static void put_number(int n)
+{
+    founded_assign(built.bytes + built.len, 0, n);
+    built.len += 2;
+}
+
+static void begin(unsigned tag, int length)
+{
+    built.field = built.len;
+    put(tag);
+    put_number(length);
+}
+
+static void variable(unsigned kind, int low, int high)
+{
+    begin(1, 5);
+    put(kind);
+    put_number(low);
+    put_number(high);
+}
+
+static void rule(unsigned form, unsigned head, int c)
+{
+    begin(2, 4);
+    put(form);
+    put(head);
+    put_number(c);
+}
+
+static void constraint(unsigned form, int c)
+{
+    begin(3, 3);
+    put(form);
+    put_number(c);
+}
+
+/* one term more in the last field */
+static void term(unsigned v, unsigned op, int n)
+{
+    uint8_t *length = built.bytes + built.field + 1;
+    founded_assign(length, 0, founded_number(length) + 4);
+    put(v);
+    put(op);
+    put_number(n);
+}
+
+enum { STANDARD, FOUNDED, SUM = 1, MAX, MIN, PRODUCT, SIZE, IF, CARRY };
+enum { PLAIN, OVER, UNDER };
+
+static void variables(size_t n, unsigned kind, int low, int high)
+{
+    for (size_t i = 0; i < n; i++)
+        variable(kind, low, high);
+}
+
+static void fresh(void) { built.len = 0; }
+
+static void try_read(const char *name) { try(name, READ, built.bytes, built.len, NULL, 0, 0); }
+
+/* values of the built file, and so many lent bytes */
+static void try_on(const char *name, enum which which, const int *values, size_t n, size_t lent)
+{
+    static uint8_t assignment[ROOM];
+    for (size_t v = 0; v < n; v++)
+        founded_assign(assignment, v, values[v]);
+    try(name, which, built.bytes, built.len, assignment, 2 * n, lent);
+}
+
+#define VALUES(...) (const int[]){__VA_ARGS__}, sizeof((const int[]){__VA_ARGS__}) / sizeof(int)
+
+static void row(const char *name, const uint8_t *bytes, size_t n) { try(name, READ, bytes, n, NULL, 0, 0); }
+
+#define BYTES(...) (const uint8_t[]){__VA_ARGS__}, sizeof((const uint8_t[]){__VA_ARGS__})
+
+static void printing_example(void)
+{
+    fresh();
+    variable(STANDARD, 0, 1);
+    variables(2, FOUNDED, 0, 1);
+    rule(IF, 1, 1);
+    term(0, OVER, 1);
+    rule(IF, 1, 1);
+    term(2, OVER, 1);
+    rule(IF, 2, 1);
+    term(1, OVER, 1);
+}
+
+/* a in 0..10, b in low..10, a >= |b|, b >= 2a - 6 */
+static void size_circle(int low)
+{
+    fresh();
+    variable(FOUNDED, 0, 10);
+    variable(FOUNDED, low, 10);
+    rule(SIZE, 0, 0);
+    term(1, PLAIN, 0);
+    rule(SUM, 1, -6);
+    term(0, PLAIN, 2);
+}
+
+/* ---- the refusal table's rows 1 to 13 */
+
+static void rows(void)
+{
+    static const uint8_t zeros[FOUNDED_MAX_FILE + 1];
+    row("row 1", zeros, sizeof zeros);
+    row("row 2", BYTES(1, 0, 5, 1));
+    row("row 3", BYTES(9, 0, 0));
+    row("row 4", BYTES(3, 0, 3, 1, 0, 0, 1, 0, 5, 0, 0, 0, 0, 1));
+    fresh();
+    variables(FOUNDED_MAX_VARIABLES + 1, FOUNDED, 0, 10);
+    try_read("row 5");
+    row("row 6", BYTES(1, 0, 4, 0, 0, 0, 0));
+    row("row 7", BYTES(1, 0, 5, 2, 0, 0, 0, 1));
+    row("row 8", BYTES(1, 0, 5, 0, 0, 1, 0, 0));
+    row("row 9", BYTES(2, 0, 4, 1, 0, 0, 0));
+    row("row 10", BYTES(3, 0, 3, 2, 0, 0));
+    fresh();
+    variables(2, FOUNDED, 0, 10);
+    rule(SUM, 0, 0);
+    term(1, PLAIN, 2);
+    term(1, PLAIN, -1);
+    try_read("row 11");
+    fresh();
+    variables(3, FOUNDED, -1, 10);
+    rule(PRODUCT, 0, 0);
+    term(1, PLAIN, 0);
+    term(2, PLAIN, 0);
+    try_read("row 12");
+    size_circle(-10);
+    try_read("row 13");
+}
+
+/* ---- the limits of founded.h */
+
+static void some_rules(size_t n, const char *name)
+{
+    fresh();
+    variable(FOUNDED, 0, 10);
+    for (size_t i = 0; i < n; i++)
+        rule(SUM, 0, 0);
+    try_read(name);
+}
+
+static void some_constraints(size_t n, const char *name)
+{
+    fresh();
+    for (size_t i = 0; i < n; i++)
+        constraint(1, 0);
+    try_read(name);
+}
+
+static void some_terms(unsigned n, const char *name)
+{
+    fresh();
+    variables(20, FOUNDED, 0, 10);
+    rule(SUM, 0, 0);
+    for (unsigned i = 0; i < n; i++)
+        term(i, PLAIN, FOUNDED_MAX_COEFFICIENT);
+    try_read(name);
+}
+
+static void a_number(int number, int coefficient, const char *name)
+{
+    fresh();
+    variable(FOUNDED, -number, number);
+    rule(SUM, 0, 0);
+    term(0, PLAIN, coefficient);
+    try_read(name);
+}
+
+/*
+ * All variables and rules, and 60,000 bytes. The first half is founded, the second standard; rule i is for variable i / 16 and reads 5 or 6 of
+ * the second half, each added or subtracted, but rule 0 reads the size of one. No rule gives as much as 0.
+ */
+static void longest(void)
+{
+    const unsigned half = FOUNDED_MAX_VARIABLES / 2;
+    fresh();
+    variables(half, FOUNDED, -10, 10);
+    variables(half, STANDARD, -10, 10);
+    rule(SIZE, 0, -100);
+    term(FOUNDED_MAX_VARIABLES - 1, PLAIN, 0);
+    for (unsigned i = 1; i < FOUNDED_MAX_RULES; i++) {
+        rule(SUM, i / 16, -100);
+        for (unsigned t = 0; t < (i <= 668 ? 6u : 5u); t++)
+            term(half + (i * 5 + t) % half, PLAIN, i % 2 ? 1 : -1);
+    }
+}
+
+static void limits(void)
+{
+    some_rules(FOUNDED_MAX_RULES, "most rules");
+    some_rules(FOUNDED_MAX_RULES + 1, "a rule too many");
+    some_constraints(FOUNDED_MAX_CONSTRAINTS, "most constraints");
+    some_constraints(FOUNDED_MAX_CONSTRAINTS + 1, "a constraint too many");
+    some_terms(FOUNDED_MAX_TERMS, "most terms");
+    some_terms(FOUNDED_MAX_TERMS + 1, "a term too many");
+    a_number(FOUNDED_MAX_NUMBER, 1, "largest number");
+    a_number(FOUNDED_MAX_NUMBER + 1, 1, "a number too large");
+    a_number(FOUNDED_MAX_NUMBER, -FOUNDED_MAX_COEFFICIENT, "largest coefficient");
+    a_number(FOUNDED_MAX_NUMBER, -FOUNDED_MAX_COEFFICIENT - 1, "a coefficient too large");
+    longest();
+    if (built.len != FOUNDED_MAX_FILE)
+        fail("longest file", "another length");
+    try_read("longest file");
+}
+
+/* ---- the calls least and check */
+
+static void both(const char *name, const int *values, size_t n, size_t least, size_t check)
+{
+    try_on(name, LEAST, values, n, least);
+    try_on(name, CHECK, values, n, check);
+}
+
+static void plans(void)
+{
+    static int tens[FOUNDED_MAX_VARIABLES + 1];
+    for (size_t v = 0; v <= FOUNDED_MAX_VARIABLES; v++)
+        tens[v] = 10;
+    fresh();
+    try_read("empty");
+    both("empty", NULL, 0, 0, 0);
+    both("empty, more lent", NULL, 0, 5, 5);
+    printing_example();
+    try_read("printing example");
+    both("printing example 1 1 1", VALUES(1, 1, 1), 6, 36);
+    both("printing example 0 1 1", VALUES(0, 1, 1), 6, 36);
+    both("printing example 0 1 1, more lent", VALUES(0, 1, 1), 9, 40);
+    both("printing example 0 2 -1", VALUES(0, 2, -1), 6, 36);
+    both("printing example, row 14", VALUES(0, 1), 6, 36);
+    both("printing example, row 15", VALUES(0, 1, 1), 5, 35);
+    fresh();
+    variable(FOUNDED, 0, 1);
+    both("one variable, row 15", VALUES(0), 1, 11);
+    fresh();
+    variables(3, FOUNDED, -10, 10);
+    rule(SUM, 0, 7);
+    term(1, PLAIN, 1);
+    term(2, PLAIN, -1);
+    rule(SUM, 2, 5);
+    both("a >= b - c + 7, c >= 5: -8 -10 5", VALUES(-8, -10, 5), 6, 36);
+    both("a >= b - c + 7, c >= 5: -7 -10 5", VALUES(-7, -10, 5), 6, 36);
+    constraint(1, 11);
+    term(0, PLAIN, 1);
+    constraint(2, 0);
+    term(1, OVER, 0);
+    both("the same with a <= -11", VALUES(-8, -10, 5), 6, 36);
+    fresh();
+    variables(2, FOUNDED, 0, 5);
+    rule(SUM, 0, 1);
+    term(1, PLAIN, 1);
+    rule(SUM, 1, 0);
+    term(0, PLAIN, 1);
+    both("a >= b + 1, b >= a: 5 5", VALUES(5, 5), 4, 24);
+    size_circle(-10);
+    both("row 13", VALUES(0, 0), 4, 24);
+    size_circle(0);
+    both("row 13 with b from 0", VALUES(0, 0), 4, 24);
+    longest();
+    both("longest file, all 10", tens, FOUNDED_MAX_VARIABLES, 512, 3072);
+    both("longest file, a value too many", tens, FOUNDED_MAX_VARIABLES + 1, 512, 3072);
+    both("longest file, row 15", tens, FOUNDED_MAX_VARIABLES, 511, 3071);
+    put(0);
+    both("a byte more than the longest file", tens, FOUNDED_MAX_VARIABLES, 512, 3072);
+}
+
+/* ---- threads at the same time, over one file and one assignment */
+
+struct worker {
+    pthread_t thread;
+    const uint8_t *assignment;
+    int right;
+};
+
+static void *works(void *p)
+{
+    struct worker *w = p;
+    uint8_t report[36], model[6];
+    w->right = 1;
+    for (int i = 0; i < 2000; i++) {
+        uint64_t read = founded_read(built.bytes, built.len);
+        uint64_t least = founded_least(built.bytes, built.len, w->assignment, 6, model, sizeof model);
+        uint64_t check = founded_check(built.bytes, built.len, w->assignment, 6, report, sizeof report);
+        w->right &= founded_word(read) == FOUNDED_ACCEPTED && founded_first(read) == 3 && founded_second(read) == 3;
+        w->right &= founded_word(least) == FOUNDED_FOUND && founded_value(model, 1) == 0;
+        w->right &= founded_word(check) == FOUNDED_UNFOUNDED && founded_first(check) == 2 && founded_second(check) == 1;
+        w->right &= founded_entry_variable(report, 1) == 2 && founded_entry_mark(report, 2) == FOUNDED_AT_MOST;
+    }
+    return NULL;
+}
+
+static void at_once(void)
+{
+    static const uint8_t assignment[] = {0, 0, 0, 1, 0, 1};
+    struct worker workers[4];
+    printing_example();
+    for (int i = 0; i < 4; i++) {
+        workers[i].assignment = assignment;
+        if (pthread_create(&workers[i].thread, NULL, works, &workers[i]) != 0)
+            fail("threads", "no thread");
+    }
+    for (int i = 0; i < 4; i++)
+        if (pthread_join(workers[i].thread, NULL) != 0 || !workers[i].right)
+            fail("threads", "another answer");
+    printf("four threads at once: the same answers\n");
+}
+
+/* with an argument: also how much of the stack each call touched */
+int main(int argc, char **argv)
+{
+    (void)argv;
+    file_room = fenced(ROOM);
+    assignment_room = fenced(ROOM);
+    lent_room = fenced(ROOM);
+    for (int i = 0; i < 3; i++)
+        stacks[i] = fenced(STACKS[i]);
+    rows();
+    limits();
+    plans();
+    at_once();
+    for (int i = 0; i < 3; i++)
+        if (deepest[i] + MARGIN > STACKS[i])
+            fail(CALLS[i], "too much of its stack is touched");
+    printf("stack: %d bytes and more are left\n", MARGIN);
+    if (argc > 1)
+        for (int i = 0; i < 3; i++)
+            printf("%s: %zu bytes of stack touched, of %zu\n", CALLS[i], deepest[i], STACKS[i]);
+    return 0;
+}
