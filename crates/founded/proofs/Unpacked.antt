@@ -14,27 +14,26 @@ use Rattle.founded.specs.declared.answers.Parts.{Parts}
 use Rattle.founded.specs.Packing.{parts, Fits, packed, unpacked, readParts, leastParts, checkParts}
 use Rattle.founded.proofs.Bounds.{read-fits, least-fits, check-fits}
 
-module _ (w a b c : ℕ) (f : Fits (parts w a b c)) where
-  same-word : packed (parts w a b c) % 256 ≡ w
+module _ (p : Parts) (f : Fits p) where
+  same-word : packed p % 256 ≡ p .word
   unfolding packed
   same-word = omega arith
 
-  same-first : packed (parts w a b c) / 256 % 65536 ≡ a
+  same-first : packed p / 256 % 65536 ≡ p .first
   unfolding packed
   same-first = omega arith
 
-  same-second : packed (parts w a b c) / 16777216 % 65536 ≡ b
+  same-second : packed p / 16777216 % 65536 ≡ p .second
   unfolding packed
   same-second = omega arith
 
-  same-third : packed (parts w a b c) / 1099511627776 % 65536 ≡ c
+  same-third : packed p / 1099511627776 % 65536 ≡ p .third
   unfolding packed
   same-third = omega arith
 
-pub unpack : (p : Parts) → Fits p → unpacked (packed p) ≡ p
-unfolding unpacked
-unpack p f =
-    rw (same-word (p .word) (p .first) (p .second) (p .third) f, same-first (p .word) (p .first) (p .second) (p .third) f, same-second (p .word) (p .first) (p .second) (p .third) f, same-third (p .word) (p .first) (p .second) (p .third) f)
+  pub unpack : unpacked (packed p) ≡ p
+  unfolding unpacked
+  unpack = rw (same-word, same-first, same-second, same-third)
 
 pub read-unpacks : {s : List ℕ} {x : read.Answer} → Reads s x → unpacked (packed (readParts x)) ≡ readParts x
 read-unpacks r = unpack _ (read-fits r)
@@ -45,7 +44,7 @@ least-unpacks r = unpack _ (least-fits r)
 pub check-unpacks : {s a b b′ : List ℕ} {x : check.Answer} → Checks s a b x b′ → unpacked (packed (checkParts x)) ≡ checkParts x
 check-unpacks r = unpack _ (check-fits r)
 
--- ---- the answer of a word and numbers; the last one stands where no answer has the word
+-- ---- the answer of a word and numbers; the last of each definition stands for every other word
 
 abbrev readOf : Parts → read.Answer
 readOf p = select (p .word) ((7 ⇒ read.accepted (p .first) (p .second) (p .third)) ∷ []) (read.refused (p .first) (p .second))
@@ -98,3 +97,26 @@ pub check-injective : {s a b b′ t c d d′ : List ℕ} {x y : check.Answer} �
     → packed (checkParts x) ≡ packed (checkParts y) → x ≡ y
 check-injective {x = x} {y} r q e =
     sym (check-back x) ∙ ap checkOf (sym (check-unpacks r) ∙ ap unpacked e ∙ check-unpacks q) ∙ check-back y
+
+-- ---- no answer is 0
+
+pub read-some : (x : read.Answer) → 0 < packed (readParts x)
+unfolding packed
+read-some (read.accepted v r c) = omega arith
+read-some (read.refused n at) = omega arith
+
+pub least-some : (x : least.Answer) → 0 < packed (leastParts x)
+unfolding packed
+least-some (least.refusal n at) = omega arith
+least-some (least.range v) = omega arith
+least-some least.none = omega arith
+least-some least.found = omega arith
+
+pub check-some : (x : check.Answer) → 0 < packed (checkParts x)
+unfolding packed
+check-some (check.refusal n at) = omega arith
+check-some (check.range v) = omega arith
+check-some (check.rule i) = omega arith
+check-some (check.constraint i) = omega arith
+check-some (check.unfounded n k) = omega arith
+check-some check.stable = omega arith
