@@ -40,8 +40,8 @@ extern "C" {
 #define FOUNDED_CHECK_BYTES 12u     /* at least, of the report that founded_check writes */
 
 /*
- * ---- stack of a thread that makes the call and little else. The calls were seen to touch 9, 103 and 104 thousand bytes, whatever the
- * input; the rest is for the thread's own start and a margin.
+ * ---- stack of a thread that makes the call and little else. In the tests the calls touched at most 8,600, 102,900 and 103,100 bytes; the
+ * rest is for the thread's own start and a margin.
  */
 
 #define FOUNDED_READ_STACK 32768u
@@ -57,13 +57,15 @@ uint64_t founded_read(const uint8_t *file, size_t file_len);
  * REFUSED; RANGE with the first variable that is assigned outside its range; NONE where the reduct has no model; or FOUND. Only FOUND
  * writes: the least model, a value of 2 bytes for each variable.
  */
-uint64_t founded_least(const uint8_t *file, size_t file_len, const uint8_t *assignment, size_t assignment_len, uint8_t *buffer, size_t buffer_len);
+uint64_t founded_least(const uint8_t *file, size_t file_len, const uint8_t *assignment, size_t assignment_len, uint8_t *buffer,
+                       size_t buffer_len);
 
 /*
  * REFUSED; RANGE with the first variable outside its range; RULE or CONSTRAINT with the first that is not met; UNFOUNDED with the counts of
  * bounds and conditions; or STABLE. Only UNFOUNDED writes: an entry for each bound, then an entry for each condition.
  */
-uint64_t founded_check(const uint8_t *file, size_t file_len, const uint8_t *assignment, size_t assignment_len, uint8_t *report, size_t report_len);
+uint64_t founded_check(const uint8_t *file, size_t file_len, const uint8_t *assignment, size_t assignment_len, uint8_t *report,
+                       size_t report_len);
 
 /* ---- answers: a word and up to three numbers, 0 where there is none. No answer is 0. */
 

@@ -17,18 +17,15 @@ rt staticlib founded || fail "no archive"
 archive=target/staticlib/libfounded.a
 out=target/c
 mkdir -p "$out"
-strict="-Wall -Wextra -pedantic -Wconversion -Werror -Iinclude"
+strict=(-O1 -Wall -Wextra -pedantic -Wconversion -Werror -Iinclude)
 
 # No call keeps anything: the archive has no data that can be written. It needs memset and nothing else.
 ! nm "$archive" | grep -E ' [bBcCdDsS] ' || fail "the archive has data that can be written"
 [ "$(nm -u "$archive" | awk '$1 == "U" { print $2 }')" = memset ] || fail "the archive needs more than memset"
 
-# shellcheck disable=SC2086
-gcc -std=c99 -O1 $strict tests/c/calls.c "$archive" -pthread -o "$out/calls" || fail "calls.c does not compile"
-# shellcheck disable=SC2086
-gcc -std=c99 -O1 $strict examples/check_plan.c "$archive" -o "$out/check_plan" || fail "check_plan.c does not compile"
-# shellcheck disable=SC2086
-g++ -std=c++11 -O1 $strict tests/c/header.cc "$archive" -o "$out/header" || fail "header.cc does not compile"
+gcc -std=c99 "${strict[@]}" tests/c/calls.c "$archive" -pthread -o "$out/calls" || fail "calls.c does not compile"
+gcc -std=c99 "${strict[@]}" examples/check_plan.c "$archive" -o "$out/check_plan" || fail "check_plan.c does not compile"
+g++ -std=c++11 "${strict[@]}" tests/c/header.cc "$archive" -o "$out/header" || fail "header.cc does not compile"
 
 for name in calls check_plan header; do
     "$out/$name" >"$out/$name.out" || fail "$name ended with status $?"
