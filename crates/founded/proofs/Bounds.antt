@@ -1,13 +1,11 @@
--- Every answer's word and numbers fit their bits: a refusal's number is at most 15 and its place within the longest file, a variable, rule or
+-- Every answer's word and numbers fit their bits, since a refusal's number is at most 15 and its place within the longest file, a variable, rule or
 -- constraint is below the format's limit for its kind, and the counts are at most these limits, the conditions' twice that of the variables.
-use Prim.Native.Nat.{ℕ, zero, suc, _+_, _*_, _<_, _≤_}
-use mathlib.Core.Path.{_≡_}
-use mathlib.Core.Bool.{Bool, true, false}
+use Prim.Native.Nat.{ℕ, _<_, _≤_}
+use mathlib.Core.Bool.{true, false}
 use mathlib.Core.List.{List, _∷_, []}
 use native.Mathlib.Omega.{arith}
 use lib.ListN.{length}
 use Rattle.format.specs.Limits.{maxVariables, maxRules, maxConstraints}
-use Rattle.sets.specs.Bit.{countFrom}
 use Rattle.sets.proofs.Counts.{count-most}
 use Rattle.program.specs.Tables.{Condition, _when_, firstOf}
 use Rattle.program.specs.Fields.{tagAt, valueAt, place, tagBefore}

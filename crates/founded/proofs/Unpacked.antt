@@ -1,5 +1,5 @@
 -- Unpacking a packed answer gives its word and numbers back, so two answers of a call that are packed in the same number are the same.
-use Prim.Native.Nat.{ℕ, _+_, _*_, _/_, _%_, _<_}
+use Prim.Native.Nat.{ℕ, _/_, _%_, _<_}
 use mathlib.Core.Path.{_≡_, refl, sym, ap, _∙_}
 use mathlib.Core.List.{List, [], _∷_}
 use native.Mathlib.Omega.{arith}
@@ -11,7 +11,7 @@ use Rattle.meaning.specs.LeastCall as least
 use Rattle.verdict.specs.Checks.{Checks}
 use Rattle.verdict.specs.Checks as check
 use Rattle.founded.specs.declared.answers.Parts.{Parts}
-use Rattle.founded.specs.Packing.{parts, Fits, packed, unpacked, readParts, leastParts, checkParts}
+use Rattle.founded.specs.Packing.{Fits, packed, unpacked, readParts, leastParts, checkParts}
 use Rattle.founded.proofs.Bounds.{read-fits, least-fits, check-fits}
 
 module _ (p : Parts) (f : Fits p) where
