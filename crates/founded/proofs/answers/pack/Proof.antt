@@ -1,4 +1,4 @@
-use mathlib.Core.Path.{refl}
+use native.Mathlib.Omega.{arith}
 use Rattle.founded.specs.Packing.{packed}
 use borrow.Author.Needs.{needs}
 use Rattle.founded.proofs.answers.pack.Statement.{statement}
@@ -24,7 +24,7 @@ add-result-3 c = search needs
 
 returns : tie.Need-returns
 unfolding packed
-returns c = refl
+returns c = omega arith
 
 pub pack-spec : {M : Type 1} → statement M
 pack-spec =
