@@ -5,33 +5,27 @@ use crate::forms::AT_LEAST;
 use crate::forms::AT_MOST;
 use crate::forms::CARRY;
 use crate::forms::EITHER;
-use crate::forms::FOUNDED;
 use crate::forms::IF;
 use crate::forms::MAX;
 use crate::forms::PLAIN;
-use crate::forms::PRODUCT;
 use crate::forms::SIZE;
-use crate::forms::STANDARD;
 use crate::forms::SUM;
 use crate::forms::Term;
-use crate::shape;
-use crate::shape::A;
-use crate::shape::B;
-use crate::shape::D;
-use crate::shape::OTHER;
 use crate::show;
+use crate::table;
 use format::Format;
 
 fn lengths() {
-    show::bytes(
-        b"variable of 6 bytes",
-        b"\x01\x00\x06\x01\x00\x00\x00\x01\x00",
+    table::read(
+        b"",
+        b"variable of 6 bytes: 01 00 06 01 00 00 00 01 00
+variable of 0 bytes: 01 00 00
+rule of 3 bytes: 02 00 03 01 00 00
+rule of 6 bytes: 02 00 06 01 00 00 00 00 00
+constraint of 2 bytes: 03 00 02 01 00
+constraint of 4 bytes: 03 00 04 01 00 00 00
+",
     );
-    show::bytes(b"variable of 0 bytes", b"\x01\x00\x00");
-    show::bytes(b"rule of 3 bytes", b"\x02\x00\x03\x01\x00\x00");
-    show::bytes(b"rule of 6 bytes", b"\x02\x00\x06\x01\x00\x00\x00\x00\x00");
-    show::bytes(b"constraint of 2 bytes", b"\x03\x00\x02\x01\x00");
-    show::bytes(b"constraint of 4 bytes", b"\x03\x00\x04\x01\x00\x00\x00");
 }
 
 // 17 variables, which take 136 bytes, and a rule with so many terms of one op and number.
@@ -93,70 +87,32 @@ fn too_long() {
     constraint(b"constraint 2 of 17", EITHER, MOST_TERMS + 1, AT_LEAST, 1);
 }
 
-// A founded a, a standard s, and a rule with this head and s in its body.
-fn standard_file(file: &mut [u8], head: u8) -> usize {
-    let n = build::variable(file, 0, FOUNDED, 0, 10);
-    let n = build::variable(file, n, STANDARD, 0, 10);
-    build::rule_of_one(file, n, SUM, head, 0, Term::times(1, 1))
-}
-
-fn standard(name: &[u8], head: u8) {
-    let mut file = [0u8; build::ROOM];
-    let n = standard_file(&mut file, head);
-    show::built(name, &file, n);
-}
-
-fn undeclared() {
-    standard(b"standard head", 1);
-    standard(b"standard variable in a body", 0);
-    standard(b"undeclared head", 2);
-    shape::one(b"undeclared variable in a sum", SUM, Term::times(1, OTHER));
-    shape::one(
-        b"undeclared variable in a literal",
-        IF,
-        Term::at_least(OTHER, 1),
-    );
-    shape::one_term(
-        b"undeclared variable in a constraint",
-        AT_MOST,
-        0,
-        Term::times(1, OTHER),
+// A founded a, a standard s in 0..10, and a rule.
+fn standard() {
+    table::read(
+        b"",
+        b"standard head: 01 00 05 01 00 00 00 0a 01 00 05 00 00 00 00 0a 02 00 08 01 01 00 00 01 00 00 01
+standard variable in a body: 01 00 05 01 00 00 00 0a 01 00 05 00 00 00 00 0a 02 00 08 01 00 00 00 01 00 00 01
+undeclared head: 01 00 05 01 00 00 00 0a 01 00 05 00 00 00 00 0a 02 00 08 01 02 00 00 01 00 00 01
+",
     );
 }
 
-fn twice() {
-    shape::one(b"head in its own body", SUM, Term::times(1, A));
-    shape::two(
-        b"carried variable as a literal",
-        CARRY,
-        Term::plain(B),
-        Term::at_least(B, 1),
-    );
-    shape::two(b"a times a", PRODUCT, Term::plain(A), Term::plain(A));
-    shape::two(
-        b"if b >= 1 and b < 5",
-        IF,
-        Term::at_least(B, 1),
-        Term::below(B, 5),
-    );
-    shape::three(
-        b"max of b, d and b",
-        MAX,
-        Term::plain(B),
-        Term::plain(D),
-        Term::plain(B),
-    );
-    shape::two_terms(
-        b"b twice in constraint 1",
-        AT_MOST,
-        Term::times(1, B),
-        Term::times(2, B),
-    );
-    shape::two_terms(
-        b"b twice in constraint 2",
-        EITHER,
-        Term::at_least(B, 5),
-        Term::below(B, 1),
+// After a, b and d in 0..10, which take 24 bytes.
+fn variables() {
+    table::read(
+        b" 01 00 05 01 00 00 00 0a 01 00 05 01 00 00 00 0a 01 00 05 01 00 00 00 0a",
+        b"undeclared variable in a sum: 02 00 08 01 00 00 00 03 00 00 01
+undeclared variable in a literal: 02 00 08 06 00 00 00 03 01 00 01
+undeclared variable in a constraint: 03 00 07 01 00 00 03 00 00 01
+head in its own body: 02 00 08 01 00 00 00 00 00 00 01
+carried variable as a literal: 02 00 0c 07 00 00 00 01 00 00 00 01 01 00 01
+a times a: 02 00 0c 04 00 00 00 00 00 00 00 00 00 00 00
+if b >= 1 and b < 5: 02 00 0c 06 00 00 00 01 01 00 01 01 02 00 05
+max of b, d and b: 02 00 10 02 00 00 00 01 00 00 00 02 00 00 00 01 00 00 00
+b twice in constraint 1: 03 00 0b 01 00 00 01 00 00 01 01 00 00 02
+b twice in constraint 2: 03 00 0b 02 00 00 01 01 00 05 01 02 00 01
+",
     );
 }
 
@@ -164,6 +120,6 @@ pub fn all() {
     lengths();
     full();
     too_long();
-    undeclared();
-    twice();
+    standard();
+    variables();
 }

@@ -21,14 +21,6 @@ pub fn byte(file: &mut [u8], n: usize, x: u8) -> usize {
     n
 }
 
-pub fn bytes(file: &mut [u8], n: usize, more: &[u8]) -> usize {
-    let mut m = n;
-    for i in 0..more.len() {
-        m = byte(file, m, more[i]);
-    }
-    m
-}
-
 // The two bytes of a number within -32,767..32,767; any other is left out.
 pub fn number(file: &mut [u8], n: usize, v: i64) -> usize {
     if v < -32767 {
@@ -81,12 +73,6 @@ pub fn term(file: &mut [u8], n: usize, t: Term) -> usize {
 pub fn rule_of_one(file: &mut [u8], n: usize, form: u8, head: u8, c: i64, t: Term) -> usize {
     let m = rule(file, n, form, head, c, 1);
     term(file, m, t)
-}
-
-pub fn rule_of_two(file: &mut [u8], n: usize, form: u8, head: u8, t: Term, u: Term) -> usize {
-    let m = rule(file, n, form, head, 0, 2);
-    let m = term(file, m, t);
-    term(file, m, u)
 }
 
 // A term for each variable from `from` on and below `to`.

@@ -1,123 +1,61 @@
 // What may stand in a body, by its form: refusals 7 and 10.
-use crate::forms::AT_MOST;
-use crate::forms::CARRY;
-use crate::forms::EITHER;
-use crate::forms::IF;
-use crate::forms::MAX;
-use crate::forms::MIN;
-use crate::forms::PRODUCT;
-use crate::forms::SIZE;
-use crate::forms::SUM;
-use crate::forms::Term;
-use crate::shape;
-use crate::shape::A;
-use crate::shape::B;
-use crate::shape::D;
-use format::Format;
+use crate::table;
 
-fn unknown() {
-    shape::none(b"rule form 0", 0, 0);
-    shape::none(b"rule form 8", 8, 0);
-    shape::no_term(b"constraint form 0", 0, 0);
-    shape::no_term(b"constraint form 3", 3, 0);
+// After a, b and d in 0..10, which take 24 bytes.
+fn fields(cases: &[u8]) {
+    table::read(
+        b" 01 00 05 01 00 00 00 0a 01 00 05 01 00 00 00 0a 01 00 05 01 00 00 00 0a",
+        cases,
+    );
 }
 
-fn ops() {
-    shape::one(b"sum of a literal", SUM, Term::at_least(B, 1));
-    shape::one(b"size of a literal", SIZE, Term::below(B, 0));
-    shape::one(b"if a plain term", IF, Term::plain(B));
-    shape::one(b"if an op 3", IF, Term::new(B, 3, 1));
-    shape::two(
-        b"carry if a plain term",
-        CARRY,
-        Term::plain(B),
-        Term::plain(D),
-    );
-    shape::one_term(
-        b"constraint 1 of a literal",
-        AT_MOST,
-        0,
-        Term::at_least(B, 1),
-    );
-    shape::one_term(b"constraint 2 of a plain term", EITHER, 0, Term::plain(B));
-}
-
-// Numbers that must be 0.
-fn zeros() {
-    shape::one(
-        b"max of b with 31000",
-        MAX,
-        Term::times(Format::MAX_NUMBER + 1000, B),
-    );
-    shape::one(b"min of b with 1", MIN, Term::times(1, B));
-    shape::two(
-        b"product of b and d with 1",
-        PRODUCT,
-        Term::plain(B),
-        Term::times(1, D),
-    );
-    shape::one(b"size of b with -1", SIZE, Term::times(-1, B));
-    shape::two(
-        b"carry of b with 1",
-        CARRY,
-        Term::times(1, B),
-        Term::at_least(D, 1),
-    );
-    shape::one_term(b"constraint 2 with c 1", EITHER, 1, Term::at_least(B, 1));
-    shape::one_term(
-        b"constraint 2 with c 30001",
-        EITHER,
-        Format::MAX_NUMBER + 1,
-        Term::at_least(B, 1),
+// Unknown forms, ops, and numbers that must be 0.
+fn refusal_7() {
+    fields(
+        b"rule form 0: 02 00 04 00 00 00 00
+rule form 8: 02 00 04 08 00 00 00
+constraint form 0: 03 00 03 00 00 00
+constraint form 3: 03 00 03 03 00 00
+sum of a literal: 02 00 08 01 00 00 00 01 01 00 01
+size of a literal: 02 00 08 05 00 00 00 01 02 00 00
+if a plain term: 02 00 08 06 00 00 00 01 00 00 00
+if an op 3: 02 00 08 06 00 00 00 01 03 00 01
+carry if a plain term: 02 00 0c 07 00 00 00 01 00 00 00 02 00 00 00
+constraint 1 of a literal: 03 00 07 01 00 00 01 01 00 01
+constraint 2 of a plain term: 03 00 07 02 00 00 01 00 00 00
+max of b with 31000: 02 00 08 02 00 00 00 01 00 79 18
+min of b with 1: 02 00 08 03 00 00 00 01 00 00 01
+product of b and d with 1: 02 00 0c 04 00 00 00 01 00 00 00 02 00 00 01
+size of b with -1: 02 00 08 05 00 00 00 01 00 ff ff
+carry of b with 1: 02 00 0c 07 00 00 00 01 00 00 01 02 01 00 01
+constraint 2 with c 1: 03 00 07 02 00 01 01 01 00 01
+constraint 2 with c 30001: 03 00 07 02 75 31 01 01 00 01
+",
     );
 }
 
 fn counts() {
-    shape::none(b"sum of none", SUM, 0);
-    shape::none(b"max of none", MAX, 0);
-    shape::none(b"min of none", MIN, 0);
-    shape::none(b"size of none", SIZE, 0);
-    shape::none(b"if nothing", IF, 0);
-    shape::one(b"product of one", PRODUCT, Term::plain(B));
-    shape::two(b"size of two", SIZE, Term::plain(B), Term::plain(D));
-    shape::no_term(b"constraint 1 of none", AT_MOST, 0);
-}
-
-fn products() {
-    shape::two(b"product of two", PRODUCT, Term::plain(B), Term::plain(D));
-    shape::three(
-        b"product of three",
-        PRODUCT,
-        Term::plain(A),
-        Term::plain(B),
-        Term::plain(D),
-    );
-    shape::three(
-        b"product of two and a literal",
-        PRODUCT,
-        Term::plain(A),
-        Term::plain(B),
-        Term::at_least(D, 0),
-    );
-}
-
-fn carries() {
-    shape::none(b"carry of none", CARRY, 0);
-    shape::one(b"carry of one plain term", CARRY, Term::plain(B));
-    shape::one(b"carry of one literal", CARRY, Term::at_least(B, 1));
-    shape::two(
-        b"carry of b if d >= 1",
-        CARRY,
-        Term::plain(B),
-        Term::at_least(D, 1),
+    fields(
+        b"sum of none: 02 00 04 01 00 00 00
+max of none: 02 00 04 02 00 00 00
+min of none: 02 00 04 03 00 00 00
+size of none: 02 00 04 05 00 00 00
+if nothing: 02 00 04 06 00 00 00
+product of one: 02 00 08 04 00 00 00 01 00 00 00
+size of two: 02 00 0c 05 00 00 00 01 00 00 00 02 00 00 00
+constraint 1 of none: 03 00 03 01 00 00
+product of two: 02 00 0c 04 00 00 00 01 00 00 00 02 00 00 00
+product of three: 02 00 10 04 00 00 00 00 00 00 00 01 00 00 00 02 00 00 00
+product of two and a literal: 02 00 10 04 00 00 00 00 00 00 00 01 00 00 00 02 01 00 00
+carry of none: 02 00 04 07 00 00 00
+carry of one plain term: 02 00 08 07 00 00 00 01 00 00 00
+carry of one literal: 02 00 08 07 00 00 00 01 01 00 01
+carry of b if d >= 1: 02 00 0c 07 00 00 00 01 00 00 00 02 01 00 01
+",
     );
 }
 
 pub fn all() {
-    unknown();
-    ops();
-    zeros();
+    refusal_7();
     counts();
-    products();
-    carries();
 }

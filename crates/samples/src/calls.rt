@@ -19,7 +19,7 @@ pub const REPORT: usize = refusals::Call::CHECK * Format::MAX_VARIABLES;
 // The lent part starts here and has at most so many bytes: more than a call asks for.
 const START: usize = 16;
 
-const MOST: usize = REPORT + 8;
+pub const MOST: usize = REPORT + 8;
 
 const ROOM: usize = START + MOST + 16;
 
@@ -143,9 +143,4 @@ fn try_in(room: &mut [u8], call: Call, name: &[u8], file: &[u8], assignment: &[u
 pub fn lent(call: Call, name: &[u8], file: &[u8], assignment: &[u8], len: usize) {
     let mut room = [0u8; ROOM];
     try_in(&mut room, call, name, file, assignment, len);
-}
-
-// Lends as many bytes as there are.
-pub fn lent_all(call: Call, name: &[u8], file: &[u8], assignment: &[u8]) {
-    lent(call, name, file, assignment, MOST);
 }

@@ -1,18 +1,12 @@
-// The numbers of the kinds and forms, and terms.
+// The numbers of the kinds and forms that are built, and terms.
 
-// The kinds of variables.
-pub const STANDARD: u8 = 0;
-
+// The kind of the variables that are built.
 pub const FOUNDED: u8 = 1;
 
 // The forms of rules.
 pub const SUM: u8 = 1;
 
 pub const MAX: u8 = 2;
-
-pub const MIN: u8 = 3;
-
-pub const PRODUCT: u8 = 4;
 
 pub const SIZE: u8 = 5;
 
@@ -53,10 +47,6 @@ impl Term {
 
     pub fn times(k: i64, x: u8) -> Self {
         Term::new(x, PLAIN, k)
-    }
-
-    pub fn at_least(x: u8, k: i64) -> Self {
-        Term::new(x, AT_LEAST, k)
     }
 
     pub fn below(x: u8, k: i64) -> Self {

@@ -13,8 +13,8 @@ mod order;
 mod reduct;
 mod rings;
 mod rows;
-mod shape;
 mod show;
+mod table;
 mod verdicts;
 
 use crate::calls::Call;

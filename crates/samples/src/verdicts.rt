@@ -1,245 +1,110 @@
 // Verdicts and reports of the call check: the order of the verdicts, what each place asks, and the ends of the report.
-use crate::build;
-use crate::calls;
 use crate::calls::Call;
+use crate::table;
 
-// s standard and a, b and d founded, all in -5..5, and the rules and constraints that are given.
-fn with(name: &[u8], fields: &[u8], assignment: &[u8]) {
-    let mut file = [0u8; 128];
-    let n = build::bytes(
-        &mut file,
-        0,
-        b"\x01\x00\x05\x00\xff\xfb\x00\x05\x01\x00\x05\x01\xff\xfb\x00\x05\x01\x00\x05\x01\xff\xfb\x00\x05\x01\x00\x05\x01\xff\xfb\x00\x05",
-    );
-    let n = build::bytes(&mut file, n, fields);
-    if n <= file.len() {
-        calls::lent_all(Call::Check, name, &file[0..n], assignment);
-    }
-}
-
-// a >= 1; b >= 2; d + s <= 0; a >= 2 or b < 5; 2s - 3a <= 0.
-fn ordered(name: &[u8], assignment: &[u8]) {
-    with(
-        name,
-        b"\x02\x00\x04\x01\x01\x00\x01\x02\x00\x04\x01\x02\x00\x02\x03\x00\x0b\x01\x00\x00\x03\x00\x00\x01\x00\x00\x00\x01\x03\x00\x0b\x02\x00\x00\x01\x01\x00\x02\x02\x02\x00\x05\x03\x00\x0b\x01\x00\x00\x00\x00\x00\x02\x01\x00\xff\xfd",
-        assignment,
-    );
-}
-
-// The first that applies.
-fn verdicts() {
-    ordered(b"order with 0 0 0 6", b"\x00\x00\x00\x00\x00\x00\x00\x06");
-    ordered(b"order with 6 0 0 6", b"\x00\x06\x00\x00\x00\x00\x00\x06");
-    ordered(b"order with 5 0 0 5", b"\x00\x05\x00\x00\x00\x00\x00\x05");
-    ordered(b"order with 5 1 1 5", b"\x00\x05\x00\x01\x00\x01\x00\x05");
-    ordered(b"order with 5 1 5 -4", b"\x00\x05\x00\x01\x00\x05\xff\xfc");
-    ordered(b"order with 5 1 5 -5", b"\x00\x05\x00\x01\x00\x05\xff\xfb");
-    ordered(b"order with 5 1 4 -5", b"\x00\x05\x00\x01\x00\x04\xff\xfb");
-    ordered(b"order with 5 2 5 -5", b"\x00\x05\x00\x02\x00\x05\xff\xfb");
-    ordered(b"order with 3 2 5 -5", b"\x00\x03\x00\x02\x00\x05\xff\xfb");
-    ordered(b"order with 1 1 2 -5", b"\x00\x01\x00\x01\x00\x02\xff\xfb");
-    ordered(b"order with 1 1 2 -1", b"\x00\x01\x00\x01\x00\x02\xff\xff");
-}
-
-// Rising places ask 'at most', but not the kept ones in the set.
-fn rising() {
-    with(
-        b"a >= s with 3 4 -5 -5",
-        b"\x02\x00\x08\x01\x01\x00\x00\x00\x00\x00\x01",
-        b"\x00\x03\x00\x04\xff\xfb\xff\xfb",
-    );
-    with(
-        b"a >= b, b >= 2 with 0 4 2 -5",
-        b"\x02\x00\x08\x01\x01\x00\x00\x02\x00\x00\x01\x02\x00\x04\x01\x02\x00\x02",
-        b"\x00\x00\x00\x04\x00\x02\xff\xfb",
-    );
-    with(
-        b"a >= b with 0 4 3 -5",
-        b"\x02\x00\x08\x01\x01\x00\x00\x02\x00\x00\x01",
-        b"\x00\x00\x00\x04\x00\x03\xff\xfb",
-    );
-    with(
-        b"a >= b, b >= s with 2 4 2 -5",
-        b"\x02\x00\x08\x01\x01\x00\x00\x02\x00\x00\x01\x02\x00\x08\x01\x02\x00\x00\x00\x00\x00\x01",
-        b"\x00\x02\x00\x04\x00\x02\xff\xfb",
-    );
-    with(
-        b"a >= 1 if s >= 4 with 3 4 -5 -5",
-        b"\x02\x00\x08\x06\x01\x00\x01\x00\x01\x00\x04",
-        b"\x00\x03\x00\x04\xff\xfb\xff\xfb",
+// After s standard and a, b and d founded, all in -5..5: a >= 1; b >= 2; d + s <= 0; a >= 2 or b < 5; 2s - 3a <= 0.
+fn order() {
+    table::call(
+        Call::Check,
+        b" 01 00 05 00 ff fb 00 05 01 00 05 01 ff fb 00 05 01 00 05 01 ff fb 00 05 01 00 05 01 ff fb 00 05 02 00 04 01 01 00 01 02 00 04 01 02 00 02 03 00 0b 01 00 00 03 00 00 01 00 00 00 01 03 00 0b 02 00 00 01 01 00 02 02 02 00 05 03 00 0b 01 00 00 00 00 00 02 01 00 ff fd",
+        b"order with 0 0 0 6:; 00 00 00 00 00 00 00 06
+order with 6 0 0 6:; 00 06 00 00 00 00 00 06
+order with 5 0 0 5:; 00 05 00 00 00 00 00 05
+order with 5 1 1 5:; 00 05 00 01 00 01 00 05
+order with 5 1 5 -4:; 00 05 00 01 00 05 ff fc
+order with 5 1 5 -5:; 00 05 00 01 00 05 ff fb
+order with 5 1 4 -5:; 00 05 00 01 00 04 ff fb
+order with 5 2 5 -5:; 00 05 00 02 00 05 ff fb
+order with 3 2 5 -5:; 00 03 00 02 00 05 ff fb
+order with 1 1 2 -5:; 00 01 00 01 00 02 ff fb
+order with 1 1 2 -1:; 00 01 00 01 00 02 ff ff
+",
     );
 }
 
-// Falling places ask 'at least', also those of the set; mixed ones ask both.
-fn falling() {
-    with(
-        b"a >= -b with 0 4 -1 -5",
-        b"\x02\x00\x08\x01\x01\x00\x00\x02\x00\xff\xff",
-        b"\x00\x00\x00\x04\xff\xff\xff\xfb",
+// After the same variables.
+fn with(cases: &[u8]) {
+    table::call(
+        Call::Check,
+        b" 01 00 05 00 ff fb 00 05 01 00 05 01 ff fb 00 05 01 00 05 01 ff fb 00 05 01 00 05 01 ff fb 00 05",
+        cases,
     );
+}
+
+// Rising places ask 'at most', but not the kept ones in the set; falling places ask 'at least', also those of the set; mixed ones ask both.
+fn directions() {
     with(
-        b"a >= -a with 0 4 -5 -5",
-        b"\x02\x00\x08\x01\x01\x00\x00\x01\x00\xff\xff",
-        b"\x00\x00\x00\x04\xff\xfb\xff\xfb",
-    );
-    with(
-        b"a >= b, a >= 2 - b with 0 4 3 -5",
-        b"\x02\x00\x08\x01\x01\x00\x00\x02\x00\x00\x01\x02\x00\x08\x01\x01\x00\x02\x02\x00\xff\xff",
-        b"\x00\x00\x00\x04\x00\x03\xff\xfb",
-    );
-    with(
-        b"a >= |b| with 0 4 -3 -5",
-        b"\x02\x00\x08\x05\x01\x00\x00\x02\x00\x00\x00",
-        b"\x00\x00\x00\x04\xff\xfd\xff\xfb",
-    );
-    with(
-        b"a >= |b|, b >= -3 with 0 4 -3 -5",
-        b"\x02\x00\x08\x05\x01\x00\x00\x02\x00\x00\x00\x02\x00\x04\x01\x02\xff\xfd",
-        b"\x00\x00\x00\x04\xff\xfd\xff\xfb",
-    );
-    with(
-        b"a >= |s| with -3 4 -5 -5",
-        b"\x02\x00\x08\x05\x01\x00\x00\x00\x00\x00\x00",
-        b"\xff\xfd\x00\x04\xff\xfb\xff\xfb",
+        b"a >= s with 3 4 -5 -5: 02 00 08 01 01 00 00 00 00 00 01; 00 03 00 04 ff fb ff fb
+a >= b, b >= 2 with 0 4 2 -5: 02 00 08 01 01 00 00 02 00 00 01 02 00 04 01 02 00 02; 00 00 00 04 00 02 ff fb
+a >= b with 0 4 3 -5: 02 00 08 01 01 00 00 02 00 00 01; 00 00 00 04 00 03 ff fb
+a >= b, b >= s with 2 4 2 -5: 02 00 08 01 01 00 00 02 00 00 01 02 00 08 01 02 00 00 00 00 00 01; 00 02 00 04 00 02 ff fb
+a >= 1 if s >= 4 with 3 4 -5 -5: 02 00 08 06 01 00 01 00 01 00 04; 00 03 00 04 ff fb ff fb
+a >= -b with 0 4 -1 -5: 02 00 08 01 01 00 00 02 00 ff ff; 00 00 00 04 ff ff ff fb
+a >= -a with 0 4 -5 -5: 02 00 08 01 01 00 00 01 00 ff ff; 00 00 00 04 ff fb ff fb
+a >= b, a >= 2 - b with 0 4 3 -5: 02 00 08 01 01 00 00 02 00 00 01 02 00 08 01 01 00 02 02 00 ff ff; 00 00 00 04 00 03 ff fb
+a >= |b| with 0 4 -3 -5: 02 00 08 05 01 00 00 02 00 00 00; 00 00 00 04 ff fd ff fb
+a >= |b|, b >= -3 with 0 4 -3 -5: 02 00 08 05 01 00 00 02 00 00 00 02 00 04 01 02 ff fd; 00 00 00 04 ff fd ff fb
+a >= |s| with -3 4 -5 -5: 02 00 08 05 01 00 00 00 00 00 00; ff fd 00 04 ff fb ff fb
+",
     );
 }
 
 // Each condition once, ascending, 'at most' before 'at least'.
 fn listed() {
     with(
-        b"a >= s, a >= s - 1 with 3 4 -5 -5",
-        b"\x02\x00\x08\x01\x01\x00\x00\x00\x00\x00\x01\x02\x00\x08\x01\x01\xff\xff\x00\x00\x00\x01",
-        b"\x00\x03\x00\x04\xff\xfb\xff\xfb",
-    );
-    with(
-        b"a >= -s, a >= s with 3 4 -5 -5",
-        b"\x02\x00\x08\x01\x01\x00\x00\x00\x00\xff\xff\x02\x00\x08\x01\x01\x00\x00\x00\x00\x00\x01",
-        b"\x00\x03\x00\x04\xff\xfb\xff\xfb",
-    );
-    with(
-        b"b >= s, a >= s with 3 4 5 -5",
-        b"\x02\x00\x08\x01\x02\x00\x00\x00\x00\x00\x01\x02\x00\x08\x01\x01\x00\x00\x00\x00\x00\x01",
-        b"\x00\x03\x00\x04\x00\x05\xff\xfb",
-    );
-    with(
-        b"d >= -b + a + s with 1 -5 -5 4",
-        b"\x02\x00\x10\x01\x03\x00\x00\x02\x00\xff\xff\x01\x00\x00\x01\x00\x00\x00\x01",
-        b"\x00\x01\xff\xfb\xff\xfb\x00\x04",
-    );
-    with(
-        b"a >= s, constraint b <= d with 3 4 -5 -5",
-        b"\x02\x00\x08\x01\x01\x00\x00\x00\x00\x00\x01\x03\x00\x0b\x01\x00\x00\x02\x00\x00\x01\x03\x00\xff\xff",
-        b"\x00\x03\x00\x04\xff\xfb\xff\xfb",
+        b"a >= s, a >= s - 1 with 3 4 -5 -5: 02 00 08 01 01 00 00 00 00 00 01 02 00 08 01 01 ff ff 00 00 00 01; 00 03 00 04 ff fb ff fb
+a >= -s, a >= s with 3 4 -5 -5: 02 00 08 01 01 00 00 00 00 ff ff 02 00 08 01 01 00 00 00 00 00 01; 00 03 00 04 ff fb ff fb
+b >= s, a >= s with 3 4 5 -5: 02 00 08 01 02 00 00 00 00 00 01 02 00 08 01 01 00 00 00 00 00 01; 00 03 00 04 00 05 ff fb
+d >= -b + a + s with 1 -5 -5 4: 02 00 10 01 03 00 00 02 00 ff ff 01 00 00 01 00 00 00 01; 00 01 ff fb ff fb 00 04
+a >= s, constraint b <= d with 3 4 -5 -5: 02 00 08 01 01 00 00 00 00 00 01 03 00 0b 01 00 00 02 00 00 01 03 00 ff ff; 00 03 00 04 ff fb ff fb
+",
     );
 }
 
 // Sample plans that are left, and constraints with no term.
 fn plans() {
-    calls::lent_all(
+    table::call(
         Call::Check,
-        b"row 13 with b from 0, 0 0",
-        b"\x01\x00\x05\x01\x00\x00\x00\x0a\x01\x00\x05\x01\x00\x00\x00\x0a\x02\x00\x08\x05\x00\x00\x00\x01\x00\x00\x00\x02\x00\x08\x01\x01\xff\xfa\x00\x00\x00\x02",
-        b"\x00\x00\x00\x00",
-    );
-    calls::lent_all(
-        Call::Check,
-        b"row 13 with b from 0, 6 6",
-        b"\x01\x00\x05\x01\x00\x00\x00\x0a\x01\x00\x05\x01\x00\x00\x00\x0a\x02\x00\x08\x05\x00\x00\x00\x01\x00\x00\x00\x02\x00\x08\x01\x01\xff\xfa\x00\x00\x00\x02",
-        b"\x00\x06\x00\x06",
-    );
-    calls::lent_all(
-        Call::Check,
-        b"coefficient 1000",
-        b"\x01\x00\x05\x01\x00\x00\x00\x0a\x01\x00\x05\x01\x00\x00\x00\x0a\x01\x00\x05\x01\x00\x00\x00\x0a\x02\x00\x08\x01\x00\x00\x00\x01\x00\x03\xe8",
-        b"\x00\x00\x00\x00\x00\x00",
-    );
-    calls::lent_all(
-        Call::Check,
-        b"coefficient 1001",
-        b"\x01\x00\x05\x01\x00\x00\x00\x0a\x01\x00\x05\x01\x00\x00\x00\x0a\x01\x00\x05\x01\x00\x00\x00\x0a\x02\x00\x08\x01\x00\x00\x00\x01\x00\x03\xe9",
-        b"\x00\x00\x00\x00\x00\x00",
-    );
-    calls::lent(
-        Call::Check,
-        b"constraints 0 <= 0, -1 <= 0",
-        b"\x03\x00\x03\x01\x00\x00\x03\x00\x03\x01\xff\xff",
         b"",
-        0,
-    );
-    calls::lent(
-        Call::Check,
-        b"constraints -1 <= 0, 1 <= 0",
-        b"\x03\x00\x03\x01\xff\xff\x03\x00\x03\x01\x00\x01",
-        b"",
-        0,
+        b"row 13 with b from 0, 0 0: 01 00 05 01 00 00 00 0a 01 00 05 01 00 00 00 0a 02 00 08 05 00 00 00 01 00 00 00 02 00 08 01 01 ff fa 00 00 00 02; 00 00 00 00
+row 13 with b from 0, 6 6: 01 00 05 01 00 00 00 0a 01 00 05 01 00 00 00 0a 02 00 08 05 00 00 00 01 00 00 00 02 00 08 01 01 ff fa 00 00 00 02; 00 06 00 06
+coefficient 1000: 01 00 05 01 00 00 00 0a 01 00 05 01 00 00 00 0a 01 00 05 01 00 00 00 0a 02 00 08 01 00 00 00 01 00 03 e8; 00 00 00 00 00 00
+coefficient 1001: 01 00 05 01 00 00 00 0a 01 00 05 01 00 00 00 0a 01 00 05 01 00 00 00 0a 02 00 08 01 00 00 00 01 00 03 e9; 00 00 00 00 00 00
+constraints 0 <= 0, -1 <= 0: 03 00 03 01 00 00 03 00 03 01 ff ff;; 00 00
+constraints -1 <= 0, 1 <= 0: 03 00 03 01 ff ff 03 00 03 01 00 01;; 00 00
+",
     );
 }
 
-// Lent buffers of 12 bytes for each variable, and of one byte less.
+// Lent buffers of 12 bytes for each variable, and of one byte less. The 5 entries: a in -5..5, b in 0..5; b >= -1 + |a|; b >= 0 if b < 1.
 fn lengths() {
-    calls::lent(
+    table::call(
         Call::Check,
-        b"buffer of 11 bytes",
-        b"\x01\x00\x05\x01\x00\x00\x00\x05",
-        b"\x00\x05",
-        11,
-    );
-    calls::lent(
-        Call::Check,
-        b"buffer of 12 bytes",
-        b"\x01\x00\x05\x01\x00\x00\x00\x05",
-        b"\x00\x05",
-        12,
-    );
-    calls::lent(
-        Call::Check,
-        b"one byte, buffer of 11 bytes",
-        b"\x01\x00\x05\x01\x00\x00\x00\x05",
-        b"\x00",
-        11,
-    );
-    calls::lent(
-        Call::Check,
-        b"report of 5 entries, buffer of 23 bytes",
-        b"\x01\x00\x05\x01\xff\xfb\x00\x05\x01\x00\x05\x01\x00\x00\x00\x05\x02\x00\x08\x05\x01\xff\xff\x00\x00\x00\x00\x02\x00\x08\x06\x01\x00\x00\x01\x02\x00\x01",
-        b"\x00\x05\x00\x05",
-        23,
-    );
-    calls::lent(
-        Call::Check,
-        b"report of 5 entries, buffer of 24 bytes",
-        b"\x01\x00\x05\x01\xff\xfb\x00\x05\x01\x00\x05\x01\x00\x00\x00\x05\x02\x00\x08\x05\x01\xff\xff\x00\x00\x00\x00\x02\x00\x08\x06\x01\x00\x00\x01\x02\x00\x01",
-        b"\x00\x05\x00\x05",
-        24,
+        b"",
+        b"buffer of 11 bytes: 01 00 05 01 00 00 00 05; 00 05; 00 0b
+buffer of 12 bytes: 01 00 05 01 00 00 00 05; 00 05; 00 0c
+one byte, buffer of 11 bytes: 01 00 05 01 00 00 00 05; 00; 00 0b
+report of 5 entries, buffer of 23 bytes: 01 00 05 01 ff fb 00 05 01 00 05 01 00 00 00 05 02 00 08 05 01 ff ff 00 00 00 00 02 00 08 06 01 00 00 01 02 00 01; 00 05 00 05; 00 17
+report of 5 entries, buffer of 24 bytes: 01 00 05 01 ff fb 00 05 01 00 05 01 00 00 00 05 02 00 08 05 01 ff ff 00 00 00 00 02 00 08 06 01 00 00 01 02 00 01; 00 05 00 05; 00 18
+",
     );
 }
 
-// Numbers at the ends of their range.
+// Numbers at the ends of their range. The circle: a >= 1 + min of b, s, b >= a.
 fn ends() {
-    calls::lent_all(
+    table::call(
         Call::Check,
-        b"a >= s with 30000 -30000",
-        b"\x01\x00\x05\x01\x8a\xd0\x75\x30\x01\x00\x05\x00\x8a\xd0\x75\x30\x02\x00\x08\x01\x00\x00\x00\x01\x00\x00\x01",
-        b"\x75\x30\x8a\xd0",
-    );
-    calls::lent_all(
-        Call::Check,
-        b"a >= 0 if s < 30000 with 30000 30000",
-        b"\x01\x00\x05\x01\x8a\xd0\x75\x30\x01\x00\x05\x00\x8a\xd0\x75\x30\x02\x00\x08\x06\x00\x00\x00\x01\x02\x75\x30",
-        b"\x75\x30\x75\x30",
-    );
-    calls::lent_all(
-        Call::Check,
-        b"circle that stands at 30000",
-        b"\x01\x00\x05\x01\x8a\xd0\x75\x30\x01\x00\x05\x01\x8a\xd0\x75\x30\x01\x00\x05\x00\x8a\xd0\x75\x30\x02\x00\x0c\x03\x00\x00\x01\x01\x00\x00\x00\x02\x00\x00\x00\x02\x00\x08\x01\x01\x00\x00\x00\x00\x00\x01",
-        b"\x75\x30\x75\x30\x75\x2f",
+        b"",
+        b"a >= s with 30000 -30000: 01 00 05 01 8a d0 75 30 01 00 05 00 8a d0 75 30 02 00 08 01 00 00 00 01 00 00 01; 75 30 8a d0
+a >= 0 if s < 30000 with 30000 30000: 01 00 05 01 8a d0 75 30 01 00 05 00 8a d0 75 30 02 00 08 06 00 00 00 01 02 75 30; 75 30 75 30
+circle that stands at 30000: 01 00 05 01 8a d0 75 30 01 00 05 01 8a d0 75 30 01 00 05 00 8a d0 75 30 02 00 0c 03 00 00 01 01 00 00 00 02 00 00 00 02 00 08 01 01 00 00 00 00 00 01; 75 30 75 30 75 2f
+",
     );
 }
 
 pub fn all() {
-    verdicts();
-    rising();
-    falling();
+    order();
+    directions();
     listed();
     plans();
     lengths();
