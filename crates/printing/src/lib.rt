@@ -1,0 +1,2 @@
+// The text of the check's answer.
+pub mod writing;
