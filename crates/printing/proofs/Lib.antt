@@ -1,2 +1,4 @@
 pub mod OutputLaws
 pub mod DecimalLaws
+pub mod TextLaws
+pub mod PrintLaws

@@ -1,2 +1,4 @@
 pub mod Decimal
 pub mod Output
+pub mod Text
+pub mod Prints

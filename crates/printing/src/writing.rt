@@ -2,7 +2,7 @@
 // has no room for is left out, and counted all the same.
 ghost use mathlib.Core.Path.{_≡_};
 ghost use mathlib.Core.List.{[], _∷_};
-ghost use Prim.Native.Nat.{_≤_, _<_};
+ghost use Prim.Native.Nat.{_+_, _≤_};
 ghost use lib.IntN.{natAbs};
 ghost use lib.ListN.{length};
 ghost use Rattle.printing.specs.Decimal.{decimal, number};
@@ -34,6 +34,7 @@ pub fn put_word(output: &mut [u8], at: usize, word: &[u8]) -> usize
 pub fn put_decimal(output: &mut [u8], at: usize, n: usize) -> usize
     requires { ⌜ at ≤ 500000 ⌝ }
     ensures { λ r. ⌜ Appends (decimal n) at r (now (output .entry)) (now (output .exit)) ⌝ }
+    ensures { λ r. ⌜ r ≤ at + 20 ⌝ }
 {
     if n < 10 {
         return put(output, at, b'0' + n as u8);
@@ -46,6 +47,7 @@ pub fn put_decimal(output: &mut [u8], at: usize, n: usize) -> usize
 pub fn put_number(output: &mut [u8], at: usize, z: i64) -> usize
     requires { ⌜ (at ≤ 400000) × (natAbs z ≤ 32768) ⌝ }
     ensures { λ r. ⌜ Appends (number z) at r (now (output .entry)) (now (output .exit)) ⌝ }
+    ensures { λ r. ⌜ r ≤ at + 6 ⌝ }
 {
     if z < 0 {
         let next = put(output, at, b'-');

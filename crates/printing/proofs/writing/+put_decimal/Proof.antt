@@ -69,7 +69,7 @@ put-decimal-returns : (t : ℕ) → put-decimal-lts.Need-returns (
 ) (put-decimal-at t) put-decimal.Post
 put-decimal-returns t c =
     let s = c .before .before .before .before .before .before in
-    appends-as (sym (decimal-one (s .args .n) (omega arith))) (c .before .before .put .ensures)
+    (appends-as (sym (decimal-one (s .args .n) (omega arith))) (c .before .before .put .ensures), omega (arith, c .before .before .put .ensures .next))
 
 -- src/writing.rt:41:9
 put-decimal-put-decimal-requires : (t : ℕ) → put-decimal-lts.Need-put-decimal-requires (
@@ -108,7 +108,7 @@ put-decimal-put-requires-2 : (t : ℕ) → put-decimal-lts.Need-put-requires-2 (
 put-decimal-put-requires-2 t c κs =
     let s = c .before .before .before .before .before .before .before in
     let d = decimal-short 19 (s .args .n / 10) (omega arith) in
-    omega (arith, c .before .before .before .put-decimal .ensures .next)
+    omega (arith, c .before .before .before .put-decimal .ensures .0 .next)
 
 -- src/writing.rt:34:1
 put-decimal-same-length-2 : (t : ℕ) → put-decimal-lts.Need-same-length-2 (
@@ -128,7 +128,8 @@ put-decimal-returns-2 : (t : ℕ) → put-decimal-lts.Need-returns-2 (
 ) (put-decimal-at t) put-decimal.Post
 put-decimal-returns-2 t c =
     let s = c .before .before .before .before .before .before .before .before .before .before in
-    appends-as (sym (decimal-more (s .args .n) (omega arith))) (appends-both (c .before .before .before .before .before .before .put-decimal .ensures) (c .before .before .put2 .ensures))
+    let w = appends-as (sym (decimal-more (s .args .n) (omega arith))) (appends-both (c .before .before .before .before .before .before .put-decimal .ensures .0) (c .before .before .put2 .ensures)) in
+    (w, omega (arith, w .next, decimal-short 19 (s .args .n) (omega arith)))
 
 pub +put-decimal-spec : {M : Type 1} → statement M
 +put-decimal-spec = close μ-put-decimal λ t. put-decimal-lts.spec (

@@ -9,7 +9,7 @@ use mir.Facts.{toZ-ofZ, toZ-pos}
 use Rattle.format.proofs.Ints.{sfits-abs}
 use Rattle.printing.specs.Decimal.{decimal}
 use Rattle.printing.proofs.OutputLaws.{appends-as, appends-both}
-use Rattle.printing.proofs.DecimalLaws.{negative-size, positive-size, negative-number, positive-number}
+use Rattle.printing.proofs.DecimalLaws.{number-short, negative-size, positive-size, negative-number, positive-number}
 use borrow.Author.Needs.{needs}
 use Rattle.printing.proofs.writing.put_number.Statement.{statement}
 use Rattle.printing.proofs.writing.put_number.Tie as tie
@@ -57,8 +57,8 @@ returns c =
     let z = b .before .before .args .z in
     let e : natAbs (toZ w64 (ofZ w64 (pos 0 -ℤ toZ w64 (ofZ w64 z)))) ≡ natAbs z =
     rw (toZ-ofZ (b .before .before .fits .z), negative-size z (negative b), toZ-pos w64 {n = natAbs z} (omega (arith, b .before .before .pre .1))) in
-    appends-as (negative-number z (negative b))
-    (appends-both (c .before .before .before .before .before .before .put .ensures) (appends-as (ap decimal e) (c .before .before .put-decimal .ensures)))
+    let w = appends-as (negative-number z (negative b)) (appends-both (c .before .before .before .before .before .before .put .ensures) (appends-as (ap decimal e) (c .before .before .put-decimal .ensures .0))) in
+    (w, omega (arith, w .next, number-short z (b .before .before .pre .1)))
 
 -- src/writing.rt:54:29
 cast-put-decimal-2 : tie.Need-cast-put-decimal-2
@@ -80,7 +80,8 @@ returns-2 : tie.Need-returns-2
 returns-2 c =
     let b = c .before .before .before .before in
     let z = b .before .before .args .z in
-    appends-as (ap (λ (y : ℤ). decimal (natAbs y)) (toZ-ofZ (b .before .before .fits .z)) ∙ positive-number z (positive b)) (c .before .before .put-decimal2 .ensures)
+    let w = appends-as (ap (λ (y : ℤ). decimal (natAbs y)) (toZ-ofZ (b .before .before .fits .z)) ∙ positive-number z (positive b)) (c .before .before .put-decimal2 .ensures .0) in
+    (w, omega (arith, w .next, number-short z (b .before .before .pre .1)))
 
 pub put-number-spec : {M : Type 1} → statement M
 put-number-spec =

@@ -1,0 +1,101 @@
+-- The printing program's framing, and that the text for an input is always there and determined.
+use Prim.Native.Nat.{ℕ, _+_, _-_, _*_, _≤_, _<_}
+use mathlib.Core.Path.{_≡_, refl, sym, ap, ap₂, _∙_, subst}
+use mathlib.Core.Bool.{Bool, true, false, not, _||_}
+use mathlib.Core.List.{List, [], _++_}
+use native.Mathlib.Omega.{arith}
+use lib.Dec.{T, T-not, ltb}
+use lib.ListN.{length, take, drop, length-drop}
+use lib.Seq.{take-all}
+use borrow.Author.Tests.{ltb-true, ltb-false, lt-ltb, le-ltb}
+use Rattle.verdict.specs.Checks.{Answer, refusal, Judged, outside, rule-unmet, constraint-unmet, not-founded, founded, Checks, turned-down, judged}
+use Rattle.verdict.specs.Demands.{Demands}
+use Rattle.verdict.proofs.Determined.{checks-unique}
+use Rattle.verdict.proofs.Total.{checks-total}
+use Rattle.printing.specs.Output.{Holds, Appends}
+use Rattle.printing.specs.Text.{answerLine, entriesOf, textOf}
+use Rattle.printing.specs.Prints.{maxInput, announced, fileIn, assignmentIn, misframed, blank, Prints, bad-frame, checked, room, Told, Printed}
+use Rattle.printing.proofs.OutputLaws.{holds-none}
+use Rattle.printing.proofs.TextLaws.{no-entries}
+
+-- ---- the framing
+
+module _ (s : List ℕ) where
+  pub too-few : length s < 2 → true ≡ misframed s
+  unfolding misframed
+  too-few h = simp (lt-ltb (length s) 2 h)
+
+  pub file-short : 2 ≤ length s → length s < 2 + announced s → true ≡ misframed s
+  unfolding misframed
+  file-short h k = simp (le-ltb (length s) 2 h, lt-ltb (length s) (2 + announced s) k)
+
+  pub by-length : 2 ≤ length s → 2 + announced s ≤ length s → ltb maxInput (length s) ≡ misframed s
+  unfolding misframed
+  by-length h k = simp (le-ltb (length s) 2 h, le-ltb (length s) (2 + announced s) k)
+
+  pub framed : misframed s ≡ false → (2 ≤ length s) × (2 + announced s ≤ length s)
+  unfolding misframed
+  framed e = go (ltb (length s) 2) (ltb (length s) (2 + announced s)) (ltb maxInput (length s)) refl refl e
+    where
+      go : (p q r : Bool) → ltb (length s) 2 ≡ p → ltb (length s) (2 + announced s) ≡ q → (p || q || r) ≡ false → (2 ≤ length s) × (2 + announced s ≤ length s)
+      go true q r a b f = let z : _≡_ {A = ℕ} 0 1 = cc in absurd (omega arith)
+      go false true r a b f = let z : _≡_ {A = ℕ} 0 1 = cc in absurd (omega arith)
+      go false false r a b f = (ltb-false (length s) 2 a, ltb-false (length s) (2 + announced s) b)
+
+-- ---- an answer's entries lie in its report
+
+pub entries-fit : {s a b : List ℕ} {r : Answer} {b′ : List ℕ} → Checks s a b r b′ → Demands s a b r b′ → 4 * entriesOf r ≤ length b′
+entries-fit (turned-down p) d = omega arith
+entries-fit (judged c (outside o)) d = omega arith
+entries-fit (judged c (rule-unmet w f)) d = omega arith
+entries-fit (judged c (constraint-unmet w h f)) d = omega arith
+entries-fit (judged c (not-founded t l s)) d = d .shows _ (c .accepts) _ _ refl .inside
+entries-fit (judged c (founded st)) d = omega arith
+
+-- ---- one text for an input
+
+pub prints-unique : {s t u : List ℕ} → Prints s t → Prints s u → t ≡ u
+prints-unique (bad-frame p) (bad-frame q) = refl
+prints-unique {s} (bad-frame p) (checked q c) = absurd (T-not (misframed s) q p)
+prints-unique {s} (checked p c) (bad-frame q) = absurd (T-not (misframed s) p q)
+prints-unique (checked p c) (checked q d) = let e = checks-unique c d in ap₂ textOf (e .0) (e .1)
+
+pub prints-total : (s : List ℕ) → (t : List ℕ) × Prints s t
+prints-total s = go (misframed s) refl
+  where
+    go : (b : Bool) → misframed s ≡ b → (t : List ℕ) × Prints s t
+    go true e = (_, bad-frame (subst T (sym e) tt))
+    go false e = let c = checks-total (fileIn s) (assignmentIn s) blank in (_, checked (subst (λ (x : Bool). T (not x)) (sym e) tt) (c .2))
+
+-- ---- what the call leaves
+
+whole : {t : List ℕ} {n : ℕ} {b b′ : List ℕ} → Appends t 0 n b b′ → Holds t n b b′
+whole {b = b} w = w .holds [] b (holds-none b)
+
+pub told : {f a b : List ℕ} {r : Answer} {b₁ : List ℕ} {n : ℕ} {b′ : List ℕ} → Checks f a blank r b₁ → 4 * entriesOf r ≤ 3072
+    → Appends (textOf r b₁) 0 n b b′ × (n ≤ 52 + 19 * entriesOf r) → Told f a b n b′
+told c h w = record { answer = _; report = _; checks = c; holds = whole (w .0); short = omega (arith, w .1) }
+
+pub printed-refusal : (s : List ℕ) {n : ℕ} {b b′ : List ℕ} → misframed s ≡ true → Appends (answerLine (refusal 16 0)) 0 n b b′ → n ≤ 52 → Printed s b n b′
+printed-refusal s e w h = record {
+  text = _;
+  prints = bad-frame (subst T (sym e) tt);
+  holds = whole (no-entries (refusal 16 0) blank refl w);
+  short = omega arith;
+}
+
+-- the file and the assignment are parts of the input
+pub printed-told : (s : List ℕ) (end : ℕ) {n : ℕ} {b b′ : List ℕ} → misframed s ≡ false → end ≡ 2 + announced s
+    → Told (take (end - 2) (drop 2 s)) (take (length s - end) (drop end s)) b n b′ → Printed s b n b′
+printed-told s end e q t =
+    let k : end - 2 ≡ announced s = omega arith in
+    let f : take (end - 2) (drop 2 s) ≡ fileIn s = ap (λ (j : ℕ). take j (drop 2 s)) k in
+    let a : take (length s - end) (drop end s) ≡ assignmentIn s =
+    take-all (length s - end) (drop end s) (omega (arith, length-drop end s)) ∙ ap (λ (j : ℕ). drop j s) q in
+    record {
+      text = _;
+      prints = checked (subst (λ (x : Bool). T (not x)) (sym e) tt)
+          (subst (λ (y : List ℕ). Checks (fileIn s) y blank (t .answer) (t .report)) a (subst (λ (x : List ℕ). Checks x (take (length s - end) (drop end s)) blank (t .answer) (t .report)) f (t .checks)));
+      holds = t .holds;
+      short = t .short;
+    }

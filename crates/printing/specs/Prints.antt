@@ -1,0 +1,62 @@
+-- Document 01, "The printing program": the input's framing, and the text that is printed for an input.
+use Prim.Native.Nat.{ℕ, _+_, _*_, _<_, _≤_}
+use mathlib.Core.Path.{_≡_}
+use mathlib.Core.List.{List, _++_}
+use mathlib.Core.Bool.{Bool, not, _||_}
+use lib.Dec.{T, ltb}
+use lib.ListN.{length, take, drop, replicate}
+use Rattle.format.specs.Limits.{maxVariables}
+use Rattle.format.specs.Numbers.{unsignedAt}
+use Rattle.meaning.specs.Calls.{checkBytes}
+use Rattle.verdict.specs.Checks.{Answer, refusal, Checks}
+use Rattle.printing.specs.Text.{textOf}
+use Rattle.printing.specs.Output.{Holds}
+
+-- "over 61,000 in all"
+abbrev pub maxInput : ℕ
+maxInput = 61000
+
+-- "two bytes for the file's length, the file, the assignment to the end"
+abbrev pub announced : List ℕ → ℕ
+announced s = unsignedAt s 0
+
+abbrev pub fileIn : List ℕ → List ℕ
+fileIn s = take (announced s) (drop 2 s)
+
+abbrev pub assignmentIn : List ℕ → List ℕ
+assignmentIn s = drop (2 + announced s) s
+
+-- "Refusal 16: under 2 bytes, fewer file bytes than announced, or over 61,000 in all."
+unfoldable pub misframed : List ℕ → Bool
+misframed s = ltb (length s) 2 || ltb (length s) (2 + announced s) || ltb maxInput (length s)
+
+-- the report that the program lends the check: room for every entry, each byte 0
+abbrev pub reportBytes : ℕ
+reportBytes = checkBytes * maxVariables
+
+abbrev pub blank : List ℕ
+blank = replicate reportBytes 0
+
+-- the text that is printed for an input; "Order: 16, in the program alone; 1; .."
+pub data Prints (s : List ℕ) : List ℕ → Type 0 where
+  bad-frame : T (misframed s) → Prints s (textOf (refusal 16 0) blank)
+  checked : {r : Answer} {b : List ℕ} → T (not (misframed s)) → Checks (fileIn s) (assignmentIn s) blank r b → Prints s (textOf r b)
+
+-- room enough for every text: a first line of at most 52 bytes, and for each of at most 3 entries a variable a line of at most 19
+abbrev pub room : ℕ
+room = 52 + 19 * (3 * maxVariables)
+
+-- the call leaves the output b as b′ and answers n: the length of the text, which b′ holds from its first byte on as far as there is room
+pub record Printed (s b : List ℕ) (n : ℕ) (b′ : List ℕ) : Type 0 where
+  pub text : List ℕ
+  pub prints : Prints s text
+  pub holds : Holds text n b b′
+  pub short : n ≤ room
+
+-- the same for a file f and an assignment a whose framing is right
+pub record Told (f a b : List ℕ) (n : ℕ) (b′ : List ℕ) : Type 0 where
+  pub answer : Answer
+  pub report : List ℕ
+  pub checks : Checks f a blank answer report
+  pub holds : Holds (textOf answer report) n b b′
+  pub short : n ≤ room

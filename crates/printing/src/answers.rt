@@ -1,0 +1,110 @@
+// The first line of the text, and the whole.
+ghost use mathlib.Core.Path.{_≡_};
+ghost use mathlib.Core.List.{_++_};
+ghost use Prim.Native.Nat.{_+_, _*_, _≤_};
+ghost use lib.ListN.{length};
+ghost use Rattle.program.specs.Reading.{numberOf};
+ghost use Rattle.meaning.specs.Calls.{denialNumber, denialPlace};
+ghost use Rattle.verdict.specs.Checks.{unfounded, answerOf};
+ghost use Rattle.printing.specs.Decimal.{decimal};
+ghost use Rattle.printing.specs.Output.{Appends};
+ghost use Rattle.printing.specs.Text.{word, line, entriesOf, textOf};
+use crate::lines::put_entries;
+use crate::writing::put;
+use crate::writing::put_decimal;
+use crate::writing::put_word;
+use meaning::Denied;
+use program::Refusal;
+use verdict::Verdict;
+
+fn number_of(why: Refusal) -> usize
+    ensures { λ r. ⌜ r ≡ numberOf why ⌝ }
+{
+    match why {
+        Refusal::FileTooLong => 1,
+        Refusal::CutShort => 2,
+        Refusal::UnknownTag => 3,
+        Refusal::TagBelow => 4,
+        Refusal::OneTooMany => 5,
+        Refusal::WrongLength => 6,
+        Refusal::WrongForm => 7,
+        Refusal::OutsideRange => 8,
+        Refusal::Undeclared => 9,
+        Refusal::WrongCount => 10,
+        Refusal::VariableTwice => 11,
+        Refusal::NegativeProduct => 12,
+        Refusal::NotValid => 13,
+    }
+}
+
+fn denial_number(why: Denied) -> usize
+    ensures { λ r. ⌜ r ≡ denialNumber why ⌝ }
+{
+    match why {
+        Denied::File(why, _) => number_of(why),
+        Denied::Assignment => 14,
+        Denied::Buffer => 15,
+    }
+}
+
+fn denial_place(why: Denied) -> usize
+    ensures { λ r. ⌜ r ≡ denialPlace why ⌝ }
+{
+    match why {
+        Denied::File(_, at) => at,
+        Denied::Assignment => 0,
+        Denied::Buffer => 0,
+    }
+}
+
+// A first line with one number.
+fn put_one(output: &mut [u8], words: &[u8], n: usize) -> usize
+    requires { ⌜ length (now words) ≤ 11 ⌝ }
+    ensures { λ r. ⌜ Appends (line (now (words .entry) ++ decimal n)) 0 r (now (output .entry)) (now (output .exit)) ⌝ }
+    ensures { λ r. ⌜ r ≤ 52 ⌝ }
+{
+    let next = put_word(output, 0, words);
+    let next = put_decimal(output, next, n);
+    put(output, next, b'\n')
+}
+
+// A first line with two numbers.
+pub fn put_two(output: &mut [u8], words: &[u8], n: usize, k: usize) -> usize
+    requires { ⌜ length (now words) ≤ 10 ⌝ }
+    ensures { λ r. ⌜ Appends (line (now (words .entry) ++ decimal n ++ word " " ++ decimal k)) 0 r (now (output .entry)) (now (output .exit)) ⌝ }
+    ensures { λ r. ⌜ r ≤ 52 ⌝ }
+{
+    let next = put_word(output, 0, words);
+    let next = put_decimal(output, next, n);
+    let next = put(output, next, b' ');
+    let next = put_decimal(output, next, k);
+    put(output, next, b'\n')
+}
+
+// The text of `unfounded`, with the report's entries.
+fn put_unfounded(output: &mut [u8], n: usize, k: usize, report: &[u8]) -> usize
+    requires { ⌜ (n + k ≤ 1000) × (4 * (n + k) ≤ length (now report)) ⌝ }
+    ensures { λ r. ⌜ Appends (textOf (unfounded n k) (now (report .entry))) 0 r (now (output .entry)) (now (output .exit)) ⌝ }
+    ensures { λ r. ⌜ r ≤ 52 + 19 * (n + k) ⌝ }
+{
+    let next = put_two(output, b"unfounded ", n, k);
+    put_entries(output, next, report, n + k)
+}
+
+// The text of an answer with its report.
+pub fn put_answer(output: &mut [u8], verdict: Verdict, report: &[u8]) -> usize
+    requires { ⌜ (entriesOf (answerOf verdict) ≤ 1000) × (4 * entriesOf (answerOf verdict) ≤ length (now report)) ⌝ }
+    ensures { λ r. ⌜ Appends (textOf (answerOf verdict) (now (report .entry))) 0 r (now (output .entry)) (now (output .exit)) ⌝ }
+    ensures { λ r. ⌜ r ≤ 52 + 19 * entriesOf (answerOf verdict) ⌝ }
+{
+    match verdict {
+        Verdict::Refused(why) => {
+            put_two(output, b"refused ", denial_number(why), denial_place(why))
+        }
+        Verdict::Range(v) => put_one(output, b"range ", v),
+        Verdict::Rule(i) => put_one(output, b"rule ", i),
+        Verdict::Constraint(i) => put_one(output, b"constraint ", i),
+        Verdict::Unfounded(n, k) => put_unfounded(output, n, k, report),
+        Verdict::Stable => put_word(output, 0, b"stable\n"),
+    }
+}
