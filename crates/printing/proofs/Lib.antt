@@ -2,3 +2,4 @@ pub mod OutputLaws
 pub mod DecimalLaws
 pub mod TextLaws
 pub mod PrintLaws
+pub mod Example

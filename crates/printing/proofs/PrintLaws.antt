@@ -6,7 +6,7 @@ use mathlib.Core.List.{List, [], _++_}
 use native.Mathlib.Omega.{arith}
 use lib.Dec.{T, T-not, ltb}
 use lib.ListN.{length, take, drop, length-drop}
-use lib.Seq.{take-all}
+use lib.Seq.{take-all, take-at}
 use borrow.Author.Tests.{ltb-true, ltb-false, lt-ltb, le-ltb}
 use Rattle.verdict.specs.Checks.{Answer, refusal, Judged, outside, rule-unmet, constraint-unmet, not-founded, founded, Checks, turned-down, judged}
 use Rattle.verdict.specs.Demands.{Demands}
@@ -99,3 +99,11 @@ printed-told s end e q t =
       holds = t .holds;
       short = t .short;
     }
+
+-- an output with room for the longest text then starts with the text
+pub room-enough : {s b : List ℕ} {n : ℕ} {b′ t : List ℕ} → Printed s b n b′ → Prints s t → room ≤ length b → take n b′ ≡ t
+room-enough {s} {b} {n} {b′} {t} p q h =
+    let e = prints-unique (p .prints) q in
+    let k = p .holds .counted in
+    let f : take (length b) (p .text) ≡ p .text = take-all (length b) (p .text) (omega (arith, p .short)) in
+    ap (take n) (p .holds .bytes ∙ ap (λ (l : List ℕ). l ++ drop n b) f) ∙ take-at (p .text) (drop n b) n (sym k) ∙ e
