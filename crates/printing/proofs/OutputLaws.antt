@@ -20,30 +20,36 @@ holds-length {t} {n} {b} h =
 -- ---- one byte
 
 pub put-here : (b : List ℕ) (at x : ℕ) → at < length b → Appends (x ∷ []) at (at + 1) b (set b at x)
-put-here b at x h = record { next = refl; holds = λ t b₀ k. record {
-  counted = omega (arith, k .counted, length-append t (x ∷ []));
-  bytes =
-      let l = holds-length k in
-      let n = k .counted in
-      let e : b ≡ t ++ getD b₀ at 0 ∷ drop (suc at) b₀ =
-      k .bytes ∙ ap₂ (λ (p q : List ℕ). p ++ q) (take-all (length b₀) t (omega arith)) (drop-cons b₀ at 0 (omega arith)) in
-      let f : take (length b₀) (t ++ x ∷ []) ≡ t ++ x ∷ [] = take-all (length b₀) (t ++ x ∷ []) (omega (arith, length-append t (x ∷ []))) in
-      ap (λ (l : List ℕ). set l at x) e
-          ∙ set-at t (getD b₀ at 0) (drop (suc at) b₀) x at (sym n)
-          ∙ sym (append-snoc t x (drop (suc at) b₀))
-          ∙ ap₂ (λ (p q : List ℕ). p ++ q) (sym f) (ap (λ (j : ℕ). drop j b₀) (sym (add-one at)));
-} }
+put-here b at x h = record {
+  next = refl;
+  holds = λ t b₀ k. record {
+    counted = omega (arith, k .counted, length-append t (x ∷ []));
+    bytes =
+        let l = holds-length k in
+        let n = k .counted in
+        let e : b ≡ t ++ getD b₀ at 0 ∷ drop (suc at) b₀ =
+        k .bytes ∙ ap₂ (λ (p q : List ℕ). p ++ q) (take-all (length b₀) t (omega arith)) (drop-cons b₀ at 0 (omega arith)) in
+        let f : take (length b₀) (t ++ x ∷ []) ≡ t ++ x ∷ [] = take-all (length b₀) (t ++ x ∷ []) (omega (arith, length-append t (x ∷ []))) in
+        ap (λ (l : List ℕ). set l at x) e
+        ∙ set-at t (getD b₀ at 0) (drop (suc at) b₀) x at (sym n)
+        ∙ sym (append-snoc t x (drop (suc at) b₀))
+        ∙ ap₂ (λ (p q : List ℕ). p ++ q) (sym f) (ap (λ (j : ℕ). drop j b₀) (sym (add-one at)));
+  };
+}
 
 pub put-past : (b : List ℕ) (at x : ℕ) → length b ≤ at → Appends (x ∷ []) at (at + 1) b b
-put-past b at x h = record { next = refl; holds = λ t b₀ k. record {
-  counted = omega (arith, k .counted, length-append t (x ∷ []));
-  bytes =
-      let l = holds-length k in
-      let n = k .counted in
-      k .bytes
-          ∙ ap₂ (λ (p q : List ℕ). p ++ q) (sym (take-append-le (length b₀) t (x ∷ []) (omega arith)))
-          (drop-of-length-le b₀ {i = at} (omega arith) ∙ sym (drop-of-length-le b₀ {i = at + 1} (omega arith)));
-} }
+put-past b at x h = record {
+  next = refl;
+  holds = λ t b₀ k. record {
+    counted = omega (arith, k .counted, length-append t (x ∷ []));
+    bytes =
+        let l = holds-length k in
+        let n = k .counted in
+        k .bytes
+        ∙ ap₂ (λ (p q : List ℕ). p ++ q) (sym (take-append-le (length b₀) t (x ∷ []) (omega arith)))
+        (drop-of-length-le b₀ {i = at} (omega arith) ∙ sym (drop-of-length-le b₀ {i = at + 1} (omega arith)));
+  };
+}
 
 -- ---- none, and one part after another
 

@@ -32,11 +32,11 @@ answerLine stable = line (word "stable")
 -- "then `most V N` for bounds and `when V <= N` or `when V >= N` for conditions": an entry's line goes by its mark
 unfoldable pub entryLine : ℕ → ℕ → ℤ → List ℕ
 entryLine v mark z = select mark (
-  (bound ⇒ line (word "most " ++ decimal v ++ word " " ++ number z))
-  ∷ (atMost ⇒ line (word "when " ++ decimal v ++ word " <= " ++ number z))
-  ∷ (atLeast ⇒ line (word "when " ++ decimal v ++ word " >= " ++ number z))
-  ∷ []
-) []
+    (bound ⇒ line (word "most " ++ decimal v ++ word " " ++ number z))
+    ∷ (atMost ⇒ line (word "when " ++ decimal v ++ word " <= " ++ number z))
+    ∷ (atLeast ⇒ line (word "when " ++ decimal v ++ word " >= " ++ number z))
+    ∷ []
+    ) []
 
 -- the lines of the first n entries of a report
 unfoldable pub entryLines : List ℕ → ℕ → List ℕ

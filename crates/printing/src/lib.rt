@@ -3,6 +3,7 @@ ghost use mathlib.Core.Path.{_≡_};
 ghost use Prim.Native.Nat.{_+_, _*_, _≤_};
 ghost use lib.ListN.{length};
 ghost use Rattle.printing.specs.Prints.{maxInput, misframed, reportBytes, room, Told, Printed};
+
 pub mod answers;
 pub mod lines;
 pub mod writing;

@@ -1,4 +1,4 @@
-// Tries the reader of rule files and the calls least and check on document 01's examples, and prints their answers.
+// Tries the reader of rule files, the calls least and check and the printing call on document 01's examples, and prints their answers.
 mod bodies;
 mod build;
 mod by_form;
@@ -10,6 +10,7 @@ mod limits;
 mod models;
 mod numbers;
 mod order;
+mod prints;
 mod reduct;
 mod rings;
 mod rows;
@@ -34,4 +35,5 @@ fn main() {
     reduct::all(Call::Check);
     verdicts::all();
     rings::all();
+    prints::all();
 }

@@ -23,12 +23,12 @@ fn number_of(why: Refusal) -> u64 {
     }
 }
 
-fn text(s: &[u8]) {
+pub fn text(s: &[u8]) {
     io::write_all(1, s);
 }
 
 // A space and a number.
-fn number(n: usize) {
+pub fn number(n: usize) {
     text(b" ");
     io::print_decimal(1, n as u64);
 }

@@ -5,6 +5,7 @@ ghost use lib.ListN.{length};
 use crate::build;
 use crate::calls;
 use crate::calls::Call;
+use crate::prints;
 use crate::show;
 
 // Room for the file and for the assignment of one line.
@@ -15,6 +16,7 @@ const VALUES: usize = 16;
 // What the lines are for.
 enum Trial {
     Reader,
+    Printer,
     Call(Call),
 }
 
@@ -92,6 +94,7 @@ fn parts(what: Trial, name: &[u8], fields: &[u8], text: &[u8]) {
     if n <= file.len() {
         match what {
             Trial::Reader => show::bytes(name, &file[0..n]),
+            Trial::Printer => prints::input(name, &file[0..n]),
             Trial::Call(call) => assigned(call, name, &file[0..n], &text[start..]),
         }
     }
@@ -119,6 +122,11 @@ fn each(what: Trial, fields: &[u8], cases: &[u8]) {
 // Reads the file of each line.
 pub fn read(fields: &[u8], cases: &[u8]) {
     each(Trial::Reader, fields, cases);
+}
+
+// Prints the text for each line, whose bytes are the program's input.
+pub fn print(fields: &[u8], cases: &[u8]) {
+    each(Trial::Printer, fields, cases);
 }
 
 // Makes the call of each line.
