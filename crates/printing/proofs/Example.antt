@@ -1,7 +1,5 @@
 -- Document 01, "The printing program": what its example prints.
-use Prim.Native.Nat.{ℕ}
-use mathlib.Core.Path.{refl, subst}
-use mathlib.Core.List.{List, [], _∷_, _++_}
+use mathlib.Core.List.{[], _∷_, _++_}
 use lib.Dec.{lit≤}
 use Rattle.meaning.specs.Starred.{small, printed}
 use Rattle.verdict.proofs.Starred.{starred-checks}

@@ -3,3 +3,4 @@ pub mod DecimalLaws
 pub mod TextLaws
 pub mod PrintLaws
 pub mod Example
+pub mod Places

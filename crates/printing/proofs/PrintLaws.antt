@@ -1,22 +1,27 @@
 -- The printing program's framing, and that the text for an input is always there and determined.
 use Prim.Native.Nat.{ℕ, _+_, _-_, _*_, _≤_, _<_}
 use mathlib.Core.Path.{_≡_, refl, sym, ap, ap₂, _∙_, subst}
+use mathlib.Core.Logic.{_⊎_, inl, inr}
 use mathlib.Core.Bool.{Bool, true, false, not, _||_}
 use mathlib.Core.List.{List, [], _++_}
 use native.Mathlib.Omega.{arith}
 use lib.Dec.{T, T-not, ltb}
 use lib.ListN.{length, take, drop, length-drop}
 use lib.Seq.{take-all, take-at}
-use borrow.Author.Tests.{ltb-true, ltb-false, lt-ltb, le-ltb}
-use Rattle.verdict.specs.Checks.{Answer, refusal, Judged, outside, rule-unmet, constraint-unmet, not-founded, founded, Checks, turned-down, judged}
-use Rattle.verdict.specs.Demands.{Demands}
+use borrow.Author.Tests.{ltb-false, lt-ltb, le-ltb}
+use Rattle.program.specs.Program.{Program}
+use Rattle.meaning.specs.Stable.{assigned}
+use Rattle.verdict.specs.Checks.{Answer, refusal, unfounded, outside, rule-unmet, constraint-unmet, not-founded, founded, Checks, turned-down, judged}
+use Rattle.verdict.specs.Demands.{variableAt, markAt, numberAt, Shows, Demands}
+use Rattle.verdict.proofs.Demanded.{checks-demands}
 use Rattle.verdict.proofs.Determined.{checks-unique}
 use Rattle.verdict.proofs.Total.{checks-total}
+use Rattle.printing.specs.Decimal.{decimal, number}
 use Rattle.printing.specs.Output.{Holds, Appends}
-use Rattle.printing.specs.Text.{answerLine, entriesOf, textOf}
+use Rattle.printing.specs.Text.{word, line, answerLine, entryLine, entriesOf, textOf}
 use Rattle.printing.specs.Prints.{maxInput, announced, fileIn, assignmentIn, misframed, blank, Prints, bad-frame, checked, room, Told, Printed}
 use Rattle.printing.proofs.OutputLaws.{holds-none}
-use Rattle.printing.proofs.TextLaws.{no-entries}
+use Rattle.printing.proofs.TextLaws.{most-line, at-most-line, at-least-line, no-entries}
 
 -- ---- the framing
 
@@ -44,6 +49,10 @@ module _ (s : List ℕ) where
 
 -- ---- an answer's entries lie in its report
 
+-- what the demands say of a report with entries
+shown-by : {f a b : List ℕ} {n k : ℕ} {r : List ℕ} → Checks f a b (unfounded n k) r → (P : Program) × Shows P (assigned a) r n k
+shown-by (judged d j) = (_, checks-demands (judged d j) .shows _ (d .accepts) _ _ refl)
+
 pub entries-fit : {s a b : List ℕ} {r : Answer} {b′ : List ℕ} → Checks s a b r b′ → Demands s a b r b′ → 4 * entriesOf r ≤ length b′
 entries-fit (turned-down p) d = omega arith
 entries-fit (judged c (outside o)) d = omega arith
@@ -51,6 +60,24 @@ entries-fit (judged c (rule-unmet w f)) d = omega arith
 entries-fit (judged c (constraint-unmet w h f)) d = omega arith
 entries-fit (judged c (not-founded t l s)) d = d .shows _ (c .accepts) _ _ refl .inside
 entries-fit (judged c (founded st)) d = omega arith
+
+-- ---- the lines of `unfounded n k`: `most` for the first n entries, `when` for the k after them
+
+module _ {f a b : List ℕ} {n k : ℕ} {r : List ℕ} (c : Checks f a b (unfounded n k) r) where
+  pub bounds-most : (i : ℕ) → i < n
+      → entryLine (variableAt r i) (markAt r i) (numberAt r i) ≡ line (word "most " ++ decimal (variableAt r i) ++ word " " ++ number (numberAt r i))
+  bounds-most i h = sym (most-line _ _ _ (shown-by c .1 .bounds-marked i h))
+
+  pub conditions-when : (i : ℕ) → n ≤ i → i < n + k
+      → (entryLine (variableAt r i) (markAt r i) (numberAt r i) ≡ line (word "when " ++ decimal (variableAt r i) ++ word " <= " ++ number (numberAt r i)))
+      ⊎ (entryLine (variableAt r i) (markAt r i) (numberAt r i) ≡ line (word "when " ++ decimal (variableAt r i) ++ word " >= " ++ number (numberAt r i)))
+  conditions-when i h l = go (shown-by c .1 .conditions-marked i h l)
+    where
+      go : (markAt r i ≡ 1) ⊎ (markAt r i ≡ 2)
+          → (entryLine (variableAt r i) (markAt r i) (numberAt r i) ≡ line (word "when " ++ decimal (variableAt r i) ++ word " <= " ++ number (numberAt r i)))
+          ⊎ (entryLine (variableAt r i) (markAt r i) (numberAt r i) ≡ line (word "when " ++ decimal (variableAt r i) ++ word " >= " ++ number (numberAt r i)))
+      go (inl e) = inl (sym (at-most-line _ _ _ e))
+      go (inr e) = inr (sym (at-least-line _ _ _ e))
 
 -- ---- one text for an input
 

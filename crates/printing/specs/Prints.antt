@@ -1,7 +1,6 @@
 -- Document 01, "The printing program": the input's framing, and the text that is printed for an input.
-use Prim.Native.Nat.{ℕ, _+_, _*_, _<_, _≤_}
-use mathlib.Core.Path.{_≡_}
-use mathlib.Core.List.{List, _++_}
+use Prim.Native.Nat.{ℕ, _+_, _*_, _≤_}
+use mathlib.Core.List.{List}
 use mathlib.Core.Bool.{Bool, not, _||_}
 use lib.Dec.{T, ltb}
 use lib.ListN.{length, take, drop, replicate}

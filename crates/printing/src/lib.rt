@@ -1,7 +1,5 @@
 // The printing program's text: the answer of the check, and its report's entries, in lines.
 ghost use mathlib.Core.Path.{_≡_};
-ghost use Prim.Native.Nat.{_+_, _*_, _≤_};
-ghost use lib.ListN.{length};
 ghost use Rattle.printing.specs.Prints.{maxInput, misframed, reportBytes, room, Told, Printed};
 
 pub mod answers;

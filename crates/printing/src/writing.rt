@@ -1,6 +1,5 @@
 // Text appended to a lent output. `at` is how many bytes the text has so far; each function answers how many it then has. A byte that the output
-// has no room for is left out, and counted all the same.
-ghost use mathlib.Core.Path.{_≡_};
+// has no room for is left out, and counted all the same. The bounds on `at` keep the sums from wrapping; each function leaves room for its callees.
 ghost use mathlib.Core.List.{[], _∷_};
 ghost use Prim.Native.Nat.{_+_, _≤_};
 ghost use lib.IntN.{natAbs};

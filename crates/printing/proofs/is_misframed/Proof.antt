@@ -3,27 +3,19 @@ use Rattle.printing.proofs.PrintLaws.{too-few, file-short, by-length}
 use borrow.Author.Needs.{needs}
 use Rattle.printing.proofs.is_misframed.Statement.{statement}
 use Rattle.printing.proofs.is_misframed.Tie as tie
-use Rattle.printing.proofs.is_misframed.Reads as reads
-use Rattle.printing.proofs.is_misframed.Lts as lts
-use Rattle.format.proofs.unsigned_at.Reads as unsigned-at-reads
 
--- src/lib.rt:44:9
 returns : tie.Need-returns
 returns c = too-few _ (c .if1 .taken)
 
--- src/lib.rt:46:26
 unsigned-at-requires : tie.Need-unsigned-at-requires
 unsigned-at-requires c κs = search needs
 
--- src/lib.rt:46:22
 add-if2 : tie.Need-add-if2
 add-if2 c = search needs
 
--- src/lib.rt:47:9
 returns-2 : tie.Need-returns-2
 returns-2 c = file-short _ (c .before .before .if1 .left) (omega (arith, c .if2 .taken, c .before .unsigned-at .ensures .0))
 
--- src/lib.rt:40:1
 returns-3 : tie.Need-returns-3
 returns-3 c = by-length _ (c .before .before .if1 .left) (omega (arith, c .if2 .left, c .before .unsigned-at .ensures .0))
 

@@ -9,12 +9,6 @@ use Rattle.printing.proofs.PrintLaws.{framed, printed-refusal, printed-
 use borrow.Author.Needs.{needs}
 use Rattle.printing.proofs.print.Statement.{statement}
 use Rattle.printing.proofs.print.Tie as tie
-use Rattle.printing.proofs.print.Reads as reads
-use Rattle.printing.proofs.print.Lts as lts
-use Rattle.format.proofs.unsigned_at.Reads as unsigned-at-reads
-use Rattle.printing.proofs.answers.put_two.Reads as put-two-reads
-use Rattle.printing.proofs.is_misframed.Reads as is-misframed-reads
-use Rattle.printing.proofs.print_checked.Reads as print-checked-reads
 
 -- the framing, as the test tells it
 framed-is : (c : tie.Else1) → misframed (c .before .before .before .before .args .input .now) ≡ false
@@ -23,68 +17,52 @@ framed-is c = cc
 right : (c : tie.Else1) → let s = c .before .before .before .before .args .input .now in (2 ≤ length s) × (2 + announced s ≤ length s)
 right c = framed _ (framed-is c)
 
--- src/lib.rt:67:8
 is-misframed-requires : tie.Need-is-misframed-requires
 is-misframed-requires c κs = search needs
 
--- src/lib.rt:68:32
 slice-aggregate-put-two : tie.Need-slice-aggregate-put-two
 slice-aggregate-put-two c = search needs
 
--- src/lib.rt:68:9
 put-two-requires : tie.Need-put-two-requires
 put-two-requires c κs = search needs
 
--- src/lib.rt:68:9
 same-length : tie.Need-same-length
 same-length c = search needs
 
--- src/lib.rt:68:9
 returns : tie.Need-returns
 unfolding answerLine
 returns c = let w = c .before .before .put-two .ensures in printed-refusal _ (cc) (w .0) (w .1)
 
--- src/lib.rt:70:19
 unsigned-at-requires : tie.Need-unsigned-at-requires
 unsigned-at-requires c κs = omega (arith, right c .0)
 
--- src/lib.rt:70:15
 add-end : tie.Need-add-end
 add-end c = search needs
 
--- src/lib.rt:71:19
 sub-print-checked : tie.Need-sub-print-checked
 sub-print-checked c = search needs
 
--- src/lib.rt:71:19
 part-print-checked-start : tie.Need-part-print-checked-start
 part-print-checked-start c = search needs
 
--- src/lib.rt:71:19
 part-print-checked-end : tie.Need-part-print-checked-end
 part-print-checked-end c = omega (arith, right (c .before) .1, c .unsigned-at .ensures .0)
 
--- src/lib.rt:71:35
 sub-print-checked-2 : tie.Need-sub-print-checked-2
 sub-print-checked-2 c = omega (arith, right (c .before .before) .1, c .before .unsigned-at .ensures .0)
 
--- src/lib.rt:71:35
 part-print-checked-start-2 : tie.Need-part-print-checked-start-2
 part-print-checked-start-2 c = omega (arith, right (c .before .before) .1, c .before .unsigned-at .ensures .0)
 
--- src/lib.rt:71:35
 part-print-checked-end-2 : tie.Need-part-print-checked-end-2
 part-print-checked-end-2 c = search needs
 
--- src/lib.rt:71:5
 print-checked-requires : tie.Need-print-checked-requires
 print-checked-requires c κs = search needs
 
--- src/lib.rt:64:1
 same-length-2 : tie.Need-same-length-2
 same-length-2 c = search needs
 
--- src/lib.rt:64:1
 returns-2 : tie.Need-returns-2
 returns-2 c = printed-told _ _ (framed-is (c .before .before .before .before .before .before .before)) (ap (λ (n : ℕ). 2 + n) (c .before .before .before .before .before .before .unsigned-at .ensures .0)) (c .before .before .print-checked .ensures)
 

@@ -3,32 +3,22 @@ use Rattle.printing.proofs.PrintLaws.{entries-fit, told}
 use borrow.Author.Needs.{needs}
 use Rattle.printing.proofs.print_checked.Statement.{statement}
 use Rattle.printing.proofs.print_checked.Tie as tie
-use Rattle.printing.proofs.print_checked.Reads as reads
-use Rattle.printing.proofs.print_checked.Lts as lts
-use Rattle.printing.proofs.answers.put_answer.Reads as put-answer-reads
-use Rattle.verdict.proofs.call.check.Reads as check-reads
 
--- src/lib.rt:57:43
 slice-aggregate-check : tie.Need-slice-aggregate-check
 slice-aggregate-check c = search needs
 
--- src/lib.rt:57:9
 check-requires : tie.Need-check-requires
 check-requires c κs = search needs
 
--- src/lib.rt:58:33
 slice-aggregate-put-answer : tie.Need-slice-aggregate-put-answer
 slice-aggregate-put-answer c = search needs
 
--- src/lib.rt:58:5
 put-answer-requires : tie.Need-put-answer-requires
 put-answer-requires c κs = let k = c .before .before .before .check in let f = entries-fit (k .ensures .0) (k .ensures .1) in (omega (arith, f), f)
 
--- src/lib.rt:53:1
 same-length : tie.Need-same-length
 same-length c = search needs
 
--- src/lib.rt:53:1
 returns : tie.Need-returns
 returns c = let k = c .before .before .before .before .before .before .check in told (k .ensures .0) (omega (arith, entries-fit (k .ensures .0) (k .ensures .1))) (c .before .before .put-answer .ensures)
 

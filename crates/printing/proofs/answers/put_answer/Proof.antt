@@ -10,99 +10,70 @@ use Rattle.printing.proofs.TextLaws.{no-entries, answered}
 use borrow.Author.Needs.{needs}
 use Rattle.printing.proofs.answers.put_answer.Statement.{statement}
 use Rattle.printing.proofs.answers.put_answer.Tie as tie
-use Rattle.printing.proofs.answers.put_answer.Reads as reads
-use Rattle.printing.proofs.answers.put_answer.Lts as lts
-use Rattle.printing.proofs.answers.denial_number.Reads as denial-number-reads
-use Rattle.printing.proofs.answers.denial_place.Reads as denial-place-reads
-use Rattle.printing.proofs.answers.put_one.Reads as put-one-reads
-use Rattle.printing.proofs.answers.put_two.Reads as put-two-reads
-use Rattle.printing.proofs.answers.put_unfounded.Reads as put-unfounded-reads
-use Rattle.printing.proofs.writing.put_word.Reads as put-word-reads
 
--- src/answers.rt:101:26
 enum-known-verdict : tie.Need-enum-known-verdict
 enum-known-verdict c = search needs
 
--- src/answers.rt:102:29
 slice-aggregate-put-two : tie.Need-slice-aggregate-put-two
 slice-aggregate-put-two c = search needs
 
--- src/answers.rt:102:42
 denial-number-requires : tie.Need-denial-number-requires
 denial-number-requires c κs = search needs
 
--- src/answers.rt:102:62
 denial-place-requires : tie.Need-denial-place-requires
 denial-place-requires c κs = search needs
 
--- src/answers.rt:102:13
 put-two-requires : tie.Need-put-two-requires
 put-two-requires c κs = search needs
 
--- src/answers.rt:104:24
 enum-known-verdict-2 : tie.Need-enum-known-verdict-2
 enum-known-verdict-2 c = search needs
 
--- src/answers.rt:104:46
 slice-aggregate-put-one : tie.Need-slice-aggregate-put-one
 slice-aggregate-put-one c = search needs
 
--- src/answers.rt:104:30
 put-one-requires : tie.Need-put-one-requires
 put-one-requires c κs = search needs
 
--- src/answers.rt:105:23
 enum-known-verdict-3 : tie.Need-enum-known-verdict-3
 enum-known-verdict-3 c = search needs
 
--- src/answers.rt:105:45
 slice-aggregate-put-one-2 : tie.Need-slice-aggregate-put-one-2
 slice-aggregate-put-one-2 c = search needs
 
--- src/answers.rt:105:29
 put-one-requires-2 : tie.Need-put-one-requires-2
 put-one-requires-2 c κs = search needs
 
--- src/answers.rt:106:29
 enum-known-verdict-4 : tie.Need-enum-known-verdict-4
 enum-known-verdict-4 c = search needs
 
--- src/answers.rt:106:51
 slice-aggregate-put-one-3 : tie.Need-slice-aggregate-put-one-3
 slice-aggregate-put-one-3 c = search needs
 
--- src/answers.rt:106:35
 put-one-requires-3 : tie.Need-put-one-requires-3
 put-one-requires-3 c κs = search needs
 
--- src/answers.rt:107:28
 enum-known-verdict-5 : tie.Need-enum-known-verdict-5
 enum-known-verdict-5 c = search needs
 
--- src/answers.rt:107:37
 put-unfounded-requires : tie.Need-put-unfounded-requires
 put-unfounded-requires c κs =
     let b = c .before .before .before .before .before .before in
     let h = rw (c .before .before .verdict5 .given .1) at (b .pre) in
     h
 
--- src/answers.rt:108:37
 enum-told : tie.Need-enum-told
 enum-told c = search needs
 
--- src/answers.rt:108:48
 slice-aggregate-put-word : tie.Need-slice-aggregate-put-word
 slice-aggregate-put-word c = search needs
 
--- src/answers.rt:108:28
 put-word-requires : tie.Need-put-word-requires
 put-word-requires c κs = search needs
 
--- src/answers.rt:95:1
 same-length : tie.Need-same-length
 same-length c = search needs
 
--- src/answers.rt:95:1
 returns : tie.Need-returns
 unfolding answerLine
 returns c =
@@ -111,11 +82,9 @@ returns c =
     let e = ap₂ (λ (n at : ℕ). line (word "refused " ++ decimal n ++ word " " ++ decimal at)) (c .before .before .before .before .denial-number .ensures) (c .before .before .before .denial-place .ensures) in
     answered b (c .before .before .before .before .before .before .before .before .verdict .given .1) (no-entries (refusal _ _) b refl (appends-as e (w .0)), omega (arith, w .1))
 
--- src/answers.rt:95:1
 same-length-2 : tie.Need-same-length-2
 same-length-2 c = search needs
 
--- src/answers.rt:95:1
 returns-2 : tie.Need-returns-2
 unfolding answerLine
 returns-2 c =
@@ -123,11 +92,9 @@ returns-2 c =
     let b = c .before .before .before .before .before .before .before .before .before .before .args .report .now in
     answered b (c .before .before .before .before .before .before .verdict2 .given .1) (no-entries (range _) b refl (w .0), omega (arith, w .1))
 
--- src/answers.rt:95:1
 same-length-3 : tie.Need-same-length-3
 same-length-3 c = search needs
 
--- src/answers.rt:95:1
 returns-3 : tie.Need-returns-3
 unfolding answerLine
 returns-3 c =
@@ -135,11 +102,9 @@ returns-3 c =
     let b = c .before .before .before .before .before .before .before .before .before .before .args .report .now in
     answered b (c .before .before .before .before .before .before .verdict3 .given .1) (no-entries (rule _) b refl (w .0), omega (arith, w .1))
 
--- src/answers.rt:95:1
 same-length-4 : tie.Need-same-length-4
 same-length-4 c = search needs
 
--- src/answers.rt:95:1
 returns-4 : tie.Need-returns-4
 unfolding answerLine
 returns-4 c =
@@ -147,19 +112,15 @@ returns-4 c =
     let b = c .before .before .before .before .before .before .before .before .before .before .args .report .now in
     answered b (c .before .before .before .before .before .before .verdict4 .given .1) (no-entries (constraint _) b refl (w .0), omega (arith, w .1))
 
--- src/answers.rt:95:1
 same-length-5 : tie.Need-same-length-5
 same-length-5 c = search needs
 
--- src/answers.rt:95:1
 returns-5 : tie.Need-returns-5
 returns-5 c = answered (c .before .before .before .before .before .before .before .before .before .args .report .now) (c .before .before .before .before .before .verdict5 .given .1) (c .before .before .put-unfounded .ensures)
 
--- src/answers.rt:95:1
 same-length-6 : tie.Need-same-length-6
 same-length-6 c = search needs
 
--- src/answers.rt:95:1
 returns-6 : tie.Need-returns-6
 unfolding answerLine
 returns-6 c =

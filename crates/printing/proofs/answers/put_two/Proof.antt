@@ -3,37 +3,25 @@ use Rattle.printing.proofs.OutputLaws.{appends-both}
 use borrow.Author.Needs.{needs}
 use Rattle.printing.proofs.answers.put_two.Statement.{statement}
 use Rattle.printing.proofs.answers.put_two.Tie as tie
-use Rattle.printing.proofs.answers.put_two.Reads as reads
-use Rattle.printing.proofs.answers.put_two.Lts as lts
-use Rattle.printing.proofs.writing.put.Reads as put-reads
-use Rattle.printing.proofs.writing.put_decimal.Reads as put-decimal-reads
-use Rattle.printing.proofs.writing.put_word.Reads as put-word-reads
 
--- src/answers.rt:77:9
 put-word-requires : tie.Need-put-word-requires
 put-word-requires c κs = search needs
 
--- src/answers.rt:78:9
 put-decimal-requires : tie.Need-put-decimal-requires
 put-decimal-requires c κs = search needs
 
--- src/answers.rt:79:9
 put-requires : tie.Need-put-requires
 put-requires c κs = search needs
 
--- src/answers.rt:80:9
 put-decimal-requires-2 : tie.Need-put-decimal-requires-2
 put-decimal-requires-2 c κs = search needs
 
--- src/answers.rt:81:5
 put-requires-2 : tie.Need-put-requires-2
 put-requires-2 c κs = search needs
 
--- src/answers.rt:72:1
 same-length : tie.Need-same-length
 same-length c = search needs
 
--- src/answers.rt:72:1
 returns : tie.Need-returns
 returns c =
     let a = c .before .before .before .before .before .before .before .before .before .before .before .before .before .before .before .before .before .before .put-word .ensures in

@@ -8,9 +8,6 @@ use Rattle.printing.proofs.TextLaws.{entries-none, entries-more}
 use borrow.Author.Needs.{needs}
 use Rattle.printing.proofs.lines.put_entries.Statement.{statement}
 use Rattle.printing.proofs.lines.put_entries.Tie as tie
-use Rattle.printing.proofs.lines.put_entries.Reads as reads
-use Rattle.printing.proofs.lines.put_entries.Lts as lts
-use Rattle.printing.proofs.lines.put_entry.Reads as put-entry-reads
 
 abbrev Inv-loop : tie.InvT-loop
 Inv-loop output₀ at report count next₀ i₀ output next i = (length output ≡ length output₀) × (i ≤ count) × (next ≤ at + 19 * i) × Appends (entryLines report i) at next output₀ output
@@ -18,34 +15,27 @@ Inv-loop output₀ at report count next₀ i₀ output next i = (length output �
 abbrev μ-loop : tie.MeasureT-loop
 μ-loop output₀ at report count next₀ i₀ output next i = count - i
 
--- src/lines.rt:53:5
 loop-holds : tie.Need-loop-holds Inv-loop μ-loop
 loop-holds c = (search needs, search needs, search needs, entries-none _ _ _)
 
--- src/lines.rt:54:9
 put-entry-requires : tie.Need-put-entry-requires Inv-loop μ-loop
 put-entry-requires c κs = search needs
 
--- src/lines.rt:53:9
 add-i : tie.Need-add-i Inv-loop μ-loop
 add-i c = search needs
 
--- src/lines.rt:53:5
 loop-less : tie.Need-loop-less Inv-loop μ-loop
 loop-less c = search needs
 
--- src/lines.rt:53:5
 loop-again : tie.Need-loop-again Inv-loop μ-loop
 loop-again c =
     let l = c .before .before .before .before .before in
     let w = c .before .before .put-entry .ensures in
     (search needs, search needs, omega (arith, w .1, l .loop .inv .2), entries-more _ (l .loop .i) (l .loop .inv .3) (w .0))
 
--- src/lines.rt:47:1
 same-length : tie.Need-same-length Inv-loop μ-loop
 same-length c = search needs
 
--- src/lines.rt:47:1
 returns : tie.Need-returns Inv-loop μ-loop
 returns c =
     let l = c .before .loop in

@@ -3,7 +3,7 @@ use Prim.Native.Nat.{ℕ, _+_, _*_, _≤_}
 use mathlib.Core.List.{List}
 use native.Mathlib.Omega.{arith}
 use lib.IntN.{ℤ, natAbs}
-use lib.ListN.{length, getD}
+use lib.ListN.{getD}
 use mir.Syntax.{w64}
 use mir.Val.{toZ, ofZ}
 use Rattle.format.proofs.Ints.{signed-small}
@@ -15,10 +15,6 @@ use Rattle.printing.proofs.TextLaws.{entryWith, most-line, at-most-line
 use borrow.Author.Needs.{needs}
 use Rattle.printing.proofs.lines.put_entry.Statement.{statement}
 use Rattle.printing.proofs.lines.put_entry.Tie as tie
-use Rattle.printing.proofs.lines.put_entry.Reads as reads
-use Rattle.printing.proofs.lines.put_entry.Lts as lts
-use Rattle.format.proofs.signed_at.Reads as signed-at-reads
-use Rattle.printing.proofs.lines.put_line.Reads as put-line-reads
 
 -- the report and the entry
 abbrev bytes : tie.After-signed-at → List ℕ
@@ -51,99 +47,75 @@ done c x y e w =
     entry-done v (markAt (bytes c) (entry c)) (numberAt (bytes c) (entry c)) (omega (arith, known (4 * entry c))) (small c) e
     (appends-as (ap (λ (z : ℤ). entryWith x v y z) (number-is c)) w)
 
--- src/lines.rt:35:20
 mul-v : tie.Need-mul-v
 mul-v c = search needs
 
--- src/lines.rt:35:13
 shared-slice-read-v : tie.Need-shared-slice-read-v
 shared-slice-read-v c = search needs
 
--- src/lines.rt:36:23
 mul-mark : tie.Need-mul-mark
 mul-mark c = search needs
 
--- src/lines.rt:36:23
 add-mark : tie.Need-add-mark
 add-mark c = search needs
 
--- src/lines.rt:36:16
 shared-slice-read-mark : tie.Need-shared-slice-read-mark
 shared-slice-read-mark c = search needs
 
--- src/lines.rt:37:39
 mul-signed-at : tie.Need-mul-signed-at
 mul-signed-at c = search needs
 
--- src/lines.rt:37:39
 add-signed-at : tie.Need-add-signed-at
 add-signed-at c = search needs
 
--- src/lines.rt:37:9
 signed-at-requires : tie.Need-signed-at-requires
 signed-at-requires c κs = search needs
 
--- src/lines.rt:39:45
 slice-aggregate-put-line : tie.Need-slice-aggregate-put-line
 slice-aggregate-put-line c = search needs
 
--- src/lines.rt:39:58
 slice-aggregate-put-line-2 : tie.Need-slice-aggregate-put-line-2
 slice-aggregate-put-line-2 c = search needs
 
--- src/lines.rt:39:24
 put-line-requires : tie.Need-put-line-requires
 put-line-requires c κs = asked (c .before .before .before .before) (omega arith) (omega arith)
 
--- src/lines.rt:40:47
 slice-aggregate-put-line-3 : tie.Need-slice-aggregate-put-line-3
 slice-aggregate-put-line-3 c = search needs
 
--- src/lines.rt:40:60
 slice-aggregate-put-line-4 : tie.Need-slice-aggregate-put-line-4
 slice-aggregate-put-line-4 c = search needs
 
--- src/lines.rt:40:26
 put-line-requires-2 : tie.Need-put-line-requires-2
 put-line-requires-2 c κs = asked (c .before .before .before .before) (omega arith) (omega arith)
 
--- src/lines.rt:41:48
 slice-aggregate-put-line-5 : tie.Need-slice-aggregate-put-line-5
 slice-aggregate-put-line-5 c = search needs
 
--- src/lines.rt:41:61
 slice-aggregate-put-line-6 : tie.Need-slice-aggregate-put-line-6
 slice-aggregate-put-line-6 c = search needs
 
--- src/lines.rt:41:27
 put-line-requires-3 : tie.Need-put-line-requires-3
 put-line-requires-3 c κs = asked (c .before .before .before .before) (omega arith) (omega arith)
 
--- src/lines.rt:30:1
 same-length : tie.Need-same-length
 same-length c = search needs
 
--- src/lines.rt:30:1
 returns : tie.Need-returns
 returns c = done (c .before .before .before .before .before .before .before) (word "most ") (word " ") (most-line _ _ _ (c .before .before .before .before .before .before .match .keys1)) (c .before .before .put-line .ensures)
 
--- src/lines.rt:30:1
 same-length-2 : tie.Need-same-length-2
 same-length-2 c = search needs
 
--- src/lines.rt:30:1
 returns-2 : tie.Need-returns-2
 returns-2 c = done (c .before .before .before .before .before .before .before) (word "when ") (word " <= ") (at-most-line _ _ _ (c .before .before .before .before .before .before .match .keys2)) (c .before .before .put-line2 .ensures)
 
--- src/lines.rt:30:1
 same-length-3 : tie.Need-same-length-3
 same-length-3 c = search needs
 
--- src/lines.rt:30:1
 returns-3 : tie.Need-returns-3
 returns-3 c = done (c .before .before .before .before .before .before .before) (word "when ") (word " >= ") (at-least-line _ _ _ (c .before .before .before .before .before .before .match .keys3)) (c .before .before .put-line3 .ensures)
 
--- src/lines.rt:30:1
 returns-4 : tie.Need-returns-4
 returns-4 c =
     let n = c .match .rest in

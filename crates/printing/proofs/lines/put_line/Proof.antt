@@ -5,43 +5,28 @@ use Rattle.printing.proofs.OutputLaws.{appends-as, appends-both}
 use borrow.Author.Needs.{needs}
 use Rattle.printing.proofs.lines.put_line.Statement.{statement}
 use Rattle.printing.proofs.lines.put_line.Tie as tie
-use Rattle.printing.proofs.lines.put_line.Reads as reads
-use Rattle.printing.proofs.lines.put_line.Lts as lts
-use Rattle.format.proofs.wide.Reads as wide-reads
-use Rattle.printing.proofs.writing.put.Reads as put-reads
-use Rattle.printing.proofs.writing.put_decimal.Reads as put-decimal-reads
-use Rattle.printing.proofs.writing.put_number.Reads as put-number-reads
-use Rattle.printing.proofs.writing.put_word.Reads as put-word-reads
 
--- src/lines.rt:22:9
 put-word-requires : tie.Need-put-word-requires
 put-word-requires c κs = search needs
 
--- src/lines.rt:23:42
 wide-requires : tie.Need-wide-requires
 wide-requires c κs = search needs
 
--- src/lines.rt:23:9
 put-decimal-requires : tie.Need-put-decimal-requires
 put-decimal-requires c κs = search needs
 
--- src/lines.rt:24:9
 put-word-requires-2 : tie.Need-put-word-requires-2
 put-word-requires-2 c κs = search needs
 
--- src/lines.rt:25:9
 put-number-requires : tie.Need-put-number-requires
 put-number-requires c κs = search needs
 
--- src/lines.rt:26:5
 put-requires : tie.Need-put-requires
 put-requires c κs = search needs
 
--- src/lines.rt:18:1
 same-length : tie.Need-same-length
 same-length c = search needs
 
--- src/lines.rt:18:1
 returns : tie.Need-returns
 returns c =
     let a = c .before .before .before .before .before .before .before .before .before .before .before .before .before .before .before .before .before .before .before .put-word .ensures in

@@ -24,7 +24,6 @@ abbrev put-decimal-below : ℕ → In 1 put-decimal-kinds.ps
 put-decimal-below t =
     and 1 put-decimal-kinds.ps (falls 1 put-decimal-kinds.ps _<_ μ-put-decimal t) put-decimal.Pre
 
--- src/writing.rt:39:39
 put-decimal-cast-put : (t : ℕ) → put-decimal-lts.Need-cast-put (
   put-reads.Asked,
   put-reads.Learnt,
@@ -33,7 +32,6 @@ put-decimal-cast-put : (t : ℕ) → put-decimal-lts.Need-cast-put (
 ) (put-decimal-at t) put-decimal.Post
 put-decimal-cast-put t c = search needs
 
--- src/writing.rt:39:32
 put-decimal-add-put : (t : ℕ) → put-decimal-lts.Need-add-put (
   put-reads.Asked,
   put-reads.Learnt,
@@ -42,7 +40,6 @@ put-decimal-add-put : (t : ℕ) → put-decimal-lts.Need-add-put (
 ) (put-decimal-at t) put-decimal.Post
 put-decimal-add-put t c = search needs
 
--- src/writing.rt:39:9
 put-decimal-put-requires : (t : ℕ) → put-decimal-lts.Need-put-requires (
   put-reads.Asked,
   put-reads.Learnt,
@@ -51,7 +48,6 @@ put-decimal-put-requires : (t : ℕ) → put-decimal-lts.Need-put-requires (
 ) (put-decimal-at t) put-decimal.Post
 put-decimal-put-requires t c κs = search needs
 
--- src/writing.rt:39:9
 put-decimal-same-length : (t : ℕ) → put-decimal-lts.Need-same-length (
   put-reads.Asked,
   put-reads.Learnt,
@@ -60,7 +56,6 @@ put-decimal-same-length : (t : ℕ) → put-decimal-lts.Need-same-length (
 ) (put-decimal-at t) put-decimal.Post
 put-decimal-same-length t c = search needs
 
--- src/writing.rt:39:9
 put-decimal-returns : (t : ℕ) → put-decimal-lts.Need-returns (
   put-reads.Asked,
   put-reads.Learnt,
@@ -71,7 +66,6 @@ put-decimal-returns t c =
     let s = c .before .before .before .before .before .before in
     (appends-as (sym (decimal-one (s .args .n) (omega arith))) (c .before .before .put .ensures), omega (arith, c .before .before .put .ensures .next))
 
--- src/writing.rt:41:9
 put-decimal-put-decimal-requires : (t : ℕ) → put-decimal-lts.Need-put-decimal-requires (
   put-reads.Asked,
   put-reads.Learnt,
@@ -80,7 +74,6 @@ put-decimal-put-decimal-requires : (t : ℕ) → put-decimal-lts.Need-put-decima
 ) (put-decimal-at t) put-decimal.Post
 put-decimal-put-decimal-requires t c κs = search needs
 
--- src/writing.rt:42:30
 put-decimal-cast-put-2 : (t : ℕ) → put-decimal-lts.Need-cast-put-2 (
   put-reads.Asked,
   put-reads.Learnt,
@@ -89,7 +82,6 @@ put-decimal-cast-put-2 : (t : ℕ) → put-decimal-lts.Need-cast-put-2 (
 ) (put-decimal-at t) put-decimal.Post
 put-decimal-cast-put-2 t c = search needs
 
--- src/writing.rt:42:23
 put-decimal-add-put-2 : (t : ℕ) → put-decimal-lts.Need-add-put-2 (
   put-reads.Asked,
   put-reads.Learnt,
@@ -98,7 +90,6 @@ put-decimal-add-put-2 : (t : ℕ) → put-decimal-lts.Need-add-put-2 (
 ) (put-decimal-at t) put-decimal.Post
 put-decimal-add-put-2 t c = search needs
 
--- src/writing.rt:42:5
 put-decimal-put-requires-2 : (t : ℕ) → put-decimal-lts.Need-put-requires-2 (
   put-reads.Asked,
   put-reads.Learnt,
@@ -110,7 +101,6 @@ put-decimal-put-requires-2 t c κs =
     let d = decimal-short 19 (s .args .n / 10) (omega arith) in
     omega (arith, c .before .before .before .put-decimal .ensures .0 .next)
 
--- src/writing.rt:34:1
 put-decimal-same-length-2 : (t : ℕ) → put-decimal-lts.Need-same-length-2 (
   put-reads.Asked,
   put-reads.Learnt,
@@ -119,7 +109,6 @@ put-decimal-same-length-2 : (t : ℕ) → put-decimal-lts.Need-same-length-2 (
 ) (put-decimal-at t) put-decimal.Post
 put-decimal-same-length-2 t c = search needs
 
--- src/writing.rt:34:1
 put-decimal-returns-2 : (t : ℕ) → put-decimal-lts.Need-returns-2 (
   put-reads.Asked,
   put-reads.Learnt,

@@ -13,10 +13,6 @@ use Rattle.printing.proofs.DecimalLaws.{number-short, negative-size, po
 use borrow.Author.Needs.{needs}
 use Rattle.printing.proofs.writing.put_number.Statement.{statement}
 use Rattle.printing.proofs.writing.put_number.Tie as tie
-use Rattle.printing.proofs.writing.put_number.Reads as reads
-use Rattle.printing.proofs.writing.put_number.Lts as lts
-use Rattle.printing.proofs.writing.put.Reads as put-reads
-use Rattle.printing.proofs.writing.put_decimal.Reads as put-decimal-reads
 
 -- the sign, as the test tells it
 negative : (c : tie.Then1) → ltZ (c .before .before .args .z) (pos 0) ≡ true
@@ -25,32 +21,26 @@ negative c = simp (toZ-ofZ (c .before .before .fits .z)) at (c .if1 .taken)
 positive : (c : tie.Else1) → ltZ (c .before .before .args .z) (pos 0) ≡ false
 positive c = simp (toZ-ofZ (c .before .before .fits .z)) at (c .if1 .left)
 
--- src/writing.rt:51:13
 put-requires : tie.Need-put-requires
 put-requires c κs = search needs
 
--- src/writing.rt:52:43
 sub-put-decimal : tie.Need-sub-put-decimal
 sub-put-decimal c =
     let b = c .before .before .before .before .before in
     rw (toZ-ofZ (b .before .before .fits .z), negative-size (b .before .before .args .z) (negative b)) (sfits-abs (pos (natAbs (b .before .before .args .z))) 32768 (omega (arith, b .before .before .pre .1)) (omega arith))
 
--- src/writing.rt:52:42
 cast-put-decimal : tie.Need-cast-put-decimal
 cast-put-decimal c =
     let b = c .before .before .before .before .before in
     let z = b .before .before .args .z in
     rw (toZ-ofZ (b .before .before .fits .z), negative-size z (negative b), toZ-pos w64 {n = natAbs z} (omega (arith, b .before .before .pre .1))) (tt, record { fits = omega (arith, b .before .before .pre .1) })
 
--- src/writing.rt:52:9
 put-decimal-requires : tie.Need-put-decimal-requires
 put-decimal-requires c κs = search needs
 
--- src/writing.rt:52:9
 same-length : tie.Need-same-length
 same-length c = search needs
 
--- src/writing.rt:52:9
 returns : tie.Need-returns
 returns c =
     let b = c .before .before .before .before .before .before .before .before in
@@ -60,22 +50,18 @@ returns c =
     let w = appends-as (negative-number z (negative b)) (appends-both (c .before .before .before .before .before .before .put .ensures) (appends-as (ap decimal e) (c .before .before .put-decimal .ensures .0))) in
     (w, omega (arith, w .next, number-short z (b .before .before .pre .1)))
 
--- src/writing.rt:54:29
 cast-put-decimal-2 : tie.Need-cast-put-decimal-2
 cast-put-decimal-2 c =
     let b = c .before in
     let z = b .before .before .args .z in
     rw (toZ-ofZ (b .before .before .fits .z), positive-size z (positive b)) (tt, record { fits = omega (arith, b .before .before .pre .1) })
 
--- src/writing.rt:54:5
 put-decimal-requires-2 : tie.Need-put-decimal-requires-2
 put-decimal-requires-2 c κs = search needs
 
--- src/writing.rt:46:1
 same-length-2 : tie.Need-same-length-2
 same-length-2 c = search needs
 
--- src/writing.rt:46:1
 returns-2 : tie.Need-returns-2
 returns-2 c =
     let b = c .before .before .before .before in

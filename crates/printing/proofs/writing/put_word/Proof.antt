@@ -1,5 +1,4 @@
 use mathlib.Core.Path.{_≡_}
-use mathlib.Core.List.{List}
 use Prim.Native.Nat.{_+_, _≤_, _-_}
 use native.Mathlib.Omega.{arith}
 use lib.ListN.{length, take}
@@ -8,9 +7,6 @@ use Rattle.printing.proofs.OutputLaws.{appends-none, word-more, word-en
 use borrow.Author.Needs.{needs}
 use Rattle.printing.proofs.writing.put_word.Statement.{statement}
 use Rattle.printing.proofs.writing.put_word.Tie as tie
-use Rattle.printing.proofs.writing.put_word.Reads as reads
-use Rattle.printing.proofs.writing.put_word.Lts as lts
-use Rattle.printing.proofs.writing.put.Reads as put-reads
 
 abbrev Inv-loop : tie.InvT-loop
 Inv-loop output₀ at word next₀ i₀ i-end output next i = (length output ≡ length output₀) × (i ≤ i-end) × (i-end ≡ length word) × (next ≡ at + i) × Appends (take i word) at next output₀ output
@@ -18,38 +14,30 @@ Inv-loop output₀ at word next₀ i₀ i-end output next i = (length output ≡
 abbrev μ-loop : tie.MeasureT-loop
 μ-loop output₀ at word next₀ i₀ i-end output next i = i-end - i
 
--- src/writing.rt:27:5
 loop-holds : tie.Need-loop-holds Inv-loop μ-loop
 loop-holds c = (search needs, search needs, search needs, search needs, appends-none _ _)
 
--- src/writing.rt:28:34
 shared-slice-read-put : tie.Need-shared-slice-read-put Inv-loop μ-loop
 shared-slice-read-put c = search needs
 
--- src/writing.rt:28:9
 put-requires : tie.Need-put-requires Inv-loop μ-loop
 put-requires c κs = search needs
 
--- src/writing.rt:27:9
 add-i : tie.Need-add-i Inv-loop μ-loop
 add-i c = search needs
 
--- src/writing.rt:27:5
 loop-less : tie.Need-loop-less Inv-loop μ-loop
 loop-less c = search needs
 
--- src/writing.rt:27:5
 loop-again : tie.Need-loop-again Inv-loop μ-loop
 loop-again c =
     let l = c .before .before .before .before .before .before in
     let w = l .before .before .before .args .word .now in
     (search needs, search needs, search needs, omega (arith, c .before .before .put .ensures .next), word-more w (l .loop .i) (omega arith) (l .loop .inv .4) (c .before .before .put .ensures))
 
--- src/writing.rt:22:1
 same-length : tie.Need-same-length Inv-loop μ-loop
 same-length c = search needs
 
--- src/writing.rt:22:1
 returns : tie.Need-returns Inv-loop μ-loop
 returns c = word-end _ (c .before .loop .i) (omega arith) (c .before .loop .inv .4)
 
