@@ -1,0 +1,161 @@
+//! Compares the proved calls, through libfounded.a, with the second checker on seeded inputs: every answer and every byte of the lent buffers and
+//! around them. Small programs are tried by brute force, and a smaller number of inputs goes through the printing program.
+//!
+//! compare [first seed] [inputs] [small programs] [inputs of the printing program] [its path]
+
+use second::brute::{self, Calls, Tried};
+use second::gen::{self, Input};
+use second::tally::{see, Seen, Tally};
+use second::{Reading, Solved, Verdict, Wrong};
+use std::io::Write;
+use std::process::{Command, Stdio};
+
+extern "C" {
+    fn founded_read(file: *const u8, length: usize) -> u64;
+    fn founded_least(file: *const u8, length: usize, a: *const u8, n: usize, buffer: *mut u8, room: usize) -> u64;
+    fn founded_check(file: *const u8, length: usize, a: *const u8, n: usize, report: *mut u8, room: usize) -> u64;
+}
+
+/// What the buffers hold before, and how many such bytes stand on each side.
+const FILL: u8 = 0xA5;
+const GUARD: usize = 64;
+
+/// An answer's word and its three numbers.
+fn parts(packed: u64) -> (u64, usize, usize, usize) {
+    let number = |bit: u32| (packed >> bit & 0xFFFF) as usize;
+    (packed & 0xFF, number(8), number(24), number(40))
+}
+
+/// An empty buffer, too, has a pointer that is not null.
+fn proved_read(file: &[u8]) -> Reading {
+    match parts(unsafe { founded_read(file.as_ptr(), file.len()) }) {
+        (7, variables, rules, constraints) => Reading::Accepted { variables, rules, constraints },
+        (6, number, place, 0) => Reading::Refused { number, place },
+        other => panic!("read answers {other:?}"),
+    }
+}
+
+fn proved_least(file: &[u8], a: &[u8], buffer: &mut [u8]) -> Solved {
+    match parts(unsafe { founded_least(file.as_ptr(), file.len(), a.as_ptr(), a.len(), buffer.as_mut_ptr(), buffer.len()) }) {
+        (6, number, place, 0) => Solved::Refused { number, place },
+        (5, v, 0, 0) => Solved::Range(v),
+        (9, 0, 0, 0) => Solved::None,
+        (8, 0, 0, 0) => Solved::Found,
+        other => panic!("least answers {other:?}"),
+    }
+}
+
+fn proved_check(file: &[u8], a: &[u8], report: &mut [u8]) -> Verdict {
+    match parts(unsafe { founded_check(file.as_ptr(), file.len(), a.as_ptr(), a.len(), report.as_mut_ptr(), report.len()) }) {
+        (6, number, place, 0) => Verdict::Refused { number, place },
+        (5, v, 0, 0) => Verdict::Range(v),
+        (4, i, 0, 0) => Verdict::Rule(i),
+        (3, i, 0, 0) => Verdict::Constraint(i),
+        (2, n, k, 0) => Verdict::Unfounded(n, k),
+        (1, 0, 0, 0) => Verdict::Stable,
+        other => panic!("check answers {other:?}"),
+    }
+}
+
+/// Makes a call with a buffer lent from the middle of a larger one, and answers the buffer's bytes, or nothing where one around it has changed.
+fn lend<A>(call: fn(&[u8], &[u8], &mut [u8]) -> A, input: &Input) -> (A, Option<Vec<u8>>) {
+    let mut room = vec![FILL; input.buffer + 2 * GUARD];
+    let (before, rest) = room.split_at_mut(GUARD);
+    let (lent, after) = rest.split_at_mut(input.buffer);
+    let answer = call(&input.file, &input.assignment, lent);
+    let kept = before.iter().chain(after.iter()).all(|&x| x == FILL);
+    (answer, kept.then(|| lent.to_vec()))
+}
+
+/// What differs on this input.
+fn differs(input: &Input, seen: &Seen) -> Option<String> {
+    let read = proved_read(&input.file);
+    if read != seen.reading {
+        return Some(format!("read: {read:?}, second {:?}", seen.reading));
+    }
+    let (solved, model) = lend(proved_least, input);
+    if solved != seen.solved || model.as_ref() != Some(&seen.model) {
+        return Some(format!("least: {solved:?}, second {:?}", seen.solved));
+    }
+    let (verdict, report) = lend(proved_check, input);
+    if verdict != seen.verdict || report.as_ref() != Some(&seen.report) {
+        return Some(format!("check: {verdict:?}, second {:?}", seen.verdict));
+    }
+    None
+}
+
+fn calls(first: u64, inputs: u64, failures: &mut Vec<String>) {
+    let mut tally = Tally::default();
+    for seed in first..first + inputs {
+        let input = gen::input(seed);
+        let seen = see(&input, FILL, Wrong::Nothing);
+        tally.add(&input, &seen);
+        if let Some(what) = differs(&input, &seen) {
+            failures.push(format!("seed {seed}: {what}"));
+        }
+    }
+    for (name, count) in &tally.counts {
+        println!("{count:>8}  {name}");
+    }
+    for (number, places) in &tally.places {
+        println!("refusal {number:02} at {} places", places.len());
+    }
+    let missing = tally.missing((inputs / 600).max(1) as usize);
+    failures.extend(missing.into_iter().filter(|m| !m.contains("refusal 16")));
+    println!("{inputs} inputs through the library");
+}
+
+/// Every assignment of small programs, each sentence of the third demand tried on what the proved check shows.
+fn brute_force(first: u64, programs: u64, failures: &mut Vec<String>) {
+    let proved = Calls { read: proved_read, least: proved_least, check: proved_check };
+    let mut tried = Tried::default();
+    for seed in first..first + programs {
+        if let Err(what) = brute::try_file(&proved, &gen::small(seed), &mut tried) {
+            failures.push(format!("small program {seed}: {what}"));
+        }
+    }
+    println!("brute force {tried:?}");
+    let each = [tried.invalid, tried.stable, tried.unfounded, tried.kept_below, tried.no_model, tried.outside];
+    if programs >= 1_000 && each.iter().any(|&n| n < 20) {
+        failures.push("brute force tried too little".to_string());
+    }
+}
+
+fn printed(program: &str, input: &[u8]) -> std::io::Result<Vec<u8>> {
+    let mut child = Command::new(program).stdin(Stdio::piped()).stdout(Stdio::piped()).spawn()?;
+    let mut stdin = child.stdin.take().expect("piped");
+    // the program may stop reading an input that is too long
+    let _ = stdin.write_all(input);
+    drop(stdin);
+    Ok(child.wait_with_output()?.stdout)
+}
+
+fn program(path: &str, first: u64, inputs: u64, failures: &mut Vec<String>) {
+    for seed in first..first + inputs {
+        let input = gen::print_input(seed);
+        let want = second::print(&input);
+        match printed(path, &input) {
+            Ok(got) if got == want => {}
+            Ok(got) => failures.push(format!("seed {seed}: printed {:?}, second {:?}", String::from_utf8_lossy(&got), String::from_utf8_lossy(&want))),
+            Err(e) => failures.push(format!("{path}: {e}")),
+        }
+    }
+    println!("{inputs} inputs through the printing program");
+}
+
+fn main() {
+    let given: Vec<String> = std::env::args().skip(1).collect();
+    let amount = |i: usize, usual: u64| given.get(i).map_or(usual, |a| a.parse().expect("a number"));
+    let (first, inputs, small, prints) = (amount(0, 0), amount(1, 60_000), amount(2, 4_000), amount(3, 0));
+    let mut failures = Vec::new();
+    calls(first, inputs, &mut failures);
+    brute_force(first, small, &mut failures);
+    if prints > 0 {
+        program(given.get(4).expect("the program's path"), first, prints, &mut failures);
+    }
+    for failure in failures.iter().take(20) {
+        println!("differs: {failure}");
+    }
+    println!("{}", if failures.is_empty() { "compare passed" } else { "compare failed" });
+    std::process::exit(i32::from(!failures.is_empty()));
+}

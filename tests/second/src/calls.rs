@@ -1,0 +1,210 @@
+//! The three calls: read, least, check.
+
+use crate::graph;
+use crate::meaning::Direction;
+use crate::program::{signed, Program};
+use crate::reader::{parse, Refusal};
+use crate::wrong::Wrong;
+
+#[derive(Clone, Copy, Debug, PartialEq, Eq)]
+pub enum Reading {
+    Accepted { variables: usize, rules: usize, constraints: usize },
+    Refused { number: usize, place: usize },
+}
+
+#[derive(Clone, Copy, Debug, PartialEq, Eq)]
+pub enum Solved {
+    Refused { number: usize, place: usize },
+    Range(usize),
+    None,
+    Found,
+}
+
+#[derive(Clone, Copy, Debug, PartialEq, Eq)]
+pub enum Verdict {
+    Refused { number: usize, place: usize },
+    Range(usize),
+    Rule(usize),
+    Constraint(usize),
+    Unfounded(usize, usize),
+    Stable,
+}
+
+/// One line of the report.
+#[derive(Clone, Copy, Debug, PartialEq, Eq)]
+pub struct Entry {
+    pub variable: usize,
+    pub mark: u8,
+    pub number: i64,
+}
+
+pub fn read_with(file: &[u8], wrong: Wrong) -> Reading {
+    match parse(file, wrong) {
+        Err(Refusal { number, place }) => Reading::Refused { number, place },
+        Ok(program) => Reading::Accepted {
+            variables: program.variables.len(),
+            rules: program.rules.len(),
+            constraints: program.constraints.len(),
+        },
+    }
+}
+
+/// The program and the assigned values, or a refusal from 1 to 15.
+fn open(
+    file: &[u8],
+    assignment: &[u8],
+    lent: usize,
+    bytes_each: usize,
+    wrong: Wrong,
+) -> Result<(Program, Vec<i64>), Refusal> {
+    let program = parse(file, wrong)?;
+    let count = program.variables.len();
+    let bad_assignment = assignment.len() != 2 * count;
+    let bad_buffer = match wrong {
+        Wrong::LeastAsksTwelve => lent < 12 * count,
+        Wrong::OneByteShort if bytes_each == 12 => lent + 1 < bytes_each * count,
+        _ => lent < bytes_each * count,
+    };
+    if bad_assignment && !(bad_buffer && wrong == Wrong::FifteenBeforeFourteen) {
+        return Err(Refusal { number: 14, place: 0 });
+    }
+    if bad_buffer {
+        return Err(Refusal { number: 15, place: 0 });
+    }
+    let values = (0..count).map(|v| signed(assignment, 2 * v)).collect();
+    Ok((program, values))
+}
+
+/// The first variable assigned outside its range.
+fn first_outside(program: &Program, values: &[i64]) -> Option<usize> {
+    (0..values.len()).find(|&v| {
+        let variable = &program.variables[v];
+        let tried = variable.founded || program.wrong != Wrong::RangeOfFounded;
+        tried && !(variable.low..=variable.high).contains(&values[v])
+    })
+}
+
+pub fn least_with(file: &[u8], assignment: &[u8], buffer: &mut [u8], wrong: Wrong) -> Solved {
+    let (program, assigned) = match open(file, assignment, buffer.len(), 2, wrong) {
+        Ok(opened) => opened,
+        Err(Refusal { number, place }) => return Solved::Refused { number, place },
+    };
+    if let Some(variable) = first_outside(&program, &assigned) {
+        return Solved::Range(variable);
+    }
+    let Some(mut model) = program.least_model(&assigned) else {
+        return Solved::None;
+    };
+    if wrong == Wrong::HandsBack {
+        model = assigned;
+    }
+    for (v, value) in model.iter().enumerate() {
+        buffer[2 * v..2 * v + 2].copy_from_slice(&(*value as i16).to_be_bytes());
+    }
+    Solved::Found
+}
+
+pub fn check_with(file: &[u8], assignment: &[u8], report: &mut [u8], wrong: Wrong) -> Verdict {
+    let (program, assigned) = match open(file, assignment, report.len(), 12, wrong) {
+        Ok(opened) => opened,
+        Err(Refusal { number, place }) => return Verdict::Refused { number, place },
+    };
+    if let Some(variable) = first_outside(&program, &assigned) {
+        return Verdict::Range(variable);
+    }
+    let unmet_rule = program.rules.iter().position(|r| !program.rule_met(r, &assigned));
+    let unmet_constraint =
+        program.constraints.iter().position(|c| !program.constraint_met(c, &assigned));
+    if let (Some(constraint), Wrong::ConstraintsFirst) = (unmet_constraint, wrong) {
+        return Verdict::Constraint(constraint);
+    }
+    if let Some(rule) = unmet_rule {
+        return Verdict::Rule(rule);
+    }
+    if let Some(constraint) = unmet_constraint {
+        return Verdict::Constraint(constraint);
+    }
+    // Every rule is met, so the assignment itself is a model of its reduct
+    // and a least one exists below it.
+    let Some(least) = program.least_model(&assigned) else {
+        return Verdict::Stable;
+    };
+    let bounds = bounds(&program, &assigned, &least);
+    if bounds.is_empty() {
+        return Verdict::Stable;
+    }
+    let mut conditions = conditions(&program, &assigned, &bounds);
+    if wrong != Wrong::Nothing {
+        // A wrong variant may have more to show than the report holds.
+        conditions.truncate(report.len() / 4 - bounds.len());
+    }
+    let entries: Vec<Entry> = bounds.iter().chain(&conditions).copied().collect();
+    for (i, entry) in entries.iter().enumerate() {
+        let number = (entry.number as i16).to_be_bytes();
+        let bytes = [entry.variable as u8, entry.mark, number[0], number[1]];
+        report[4 * i..4 * i + 4].copy_from_slice(&bytes);
+    }
+    if wrong == Wrong::ClearsRest {
+        report[4 * entries.len()..].fill(0);
+    }
+    Verdict::Unfounded(bounds.len(), conditions.len())
+}
+
+/// Mark 0: each founded variable whose least value is below its assigned one.
+fn bounds(program: &Program, assigned: &[i64], least: &[i64]) -> Vec<Entry> {
+    let edges = graph::edges(program);
+    let on_circle = |v: usize| graph::reached(&edges, v)[v] && assigned[v] > program.variables[v].low;
+    let mut bounds = Vec::new();
+    for v in 0..assigned.len() {
+        let founded = program.variables[v].founded;
+        if founded && least[v] < assigned[v] {
+            bounds.push(Entry { variable: v, mark: 0, number: least[v] });
+        } else if program.wrong == Wrong::StrikesCircles && founded && on_circle(v) {
+            bounds.push(Entry { variable: v, mark: 0, number: program.variables[v].low });
+        }
+    }
+    if program.wrong == Wrong::ShowsFirstOnly {
+        bounds.truncate(1);
+    }
+    bounds
+}
+
+/// Marks 1 and 2: what the rules heading into the set rest on.
+fn conditions(program: &Program, assigned: &[i64], bounds: &[Entry]) -> Vec<Entry> {
+    let in_set = |v: usize| bounds.iter().any(|entry| entry.variable == v);
+    // For every variable: how often "at most" and "at least" are needed.
+    let mut at_most = vec![0; assigned.len()];
+    let mut at_least = vec![0; assigned.len()];
+    for rule in program.rules.iter().filter(|rule| in_set(rule.head)) {
+        for position in 0..rule.terms.len() {
+            let v = rule.terms[position].variable;
+            if in_set(v) && (program.kept(rule, position) || program.wrong == Wrong::DropsAllOfSet) {
+                continue;
+            }
+            match program.direction(rule, position) {
+                Direction::Rising => at_most[v] += 1,
+                Direction::Falling => at_least[v] += 1,
+                Direction::Mixed => {
+                    at_most[v] += 1;
+                    at_least[v] += 1;
+                }
+            }
+        }
+    }
+    let mut entries = Vec::new();
+    for v in 0..assigned.len() {
+        let mut marks = [(1, at_most[v]), (2, at_least[v])];
+        match program.wrong {
+            Wrong::MarkTwoFirst => marks.swap(0, 1),
+            Wrong::ShowsEverything => marks = [(1, 1), (2, 1)],
+            _ => {}
+        }
+        for (mark, needed) in marks {
+            let times = if program.wrong == Wrong::ShowsTwice { needed.min(2) } else { needed.min(1) };
+            for _ in 0..times {
+                entries.push(Entry { variable: v, mark, number: assigned[v] });
+            }
+        }
+    }
+    entries
+}

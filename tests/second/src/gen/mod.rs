@@ -1,0 +1,156 @@
+//! Inputs drawn from a seed. The same seed always gives the same input.
+
+pub mod assignments;
+pub mod damage;
+pub mod fields;
+pub mod limits;
+pub mod prng;
+pub mod programs;
+pub mod spoil;
+pub mod whole;
+
+use fields::Field;
+use prng::Random;
+
+/// What the calls are given.
+#[derive(Clone, Debug)]
+pub struct Input {
+    pub file: Vec<u8>,
+    pub assignment: Vec<u8>,
+    /// Length of the lent buffer.
+    pub buffer: usize,
+    /// Which part of the generator made it.
+    pub label: &'static str,
+    /// The refusal (number, place) that reading must give, where the way the
+    /// file was made says so. Place `usize::MAX`: not said.
+    pub due: Option<(usize, usize)>,
+}
+
+/// The input of this seed.
+pub fn input(seed: u64) -> Input {
+    let random = &mut Random::new(seed);
+    let drawn = random.below(100);
+    let mut made = match drawn {
+        0..=19 => plan(random, "small", programs::SMALL),
+        20..=33 => plan(random, "middle", programs::MIDDLE),
+        34..=36 => plan(random, "large", programs::LARGE),
+        37..=40 => plan(random, "extreme", programs::EXTREME),
+        41..=47 => {
+            let made = programs::ring(random);
+            dress(random, "ring", &made)
+        }
+        48 => {
+            let made = programs::climb(random);
+            dress(random, "climb", &made)
+        }
+        49 => {
+            let made = programs::crowded(random);
+            dress(random, "crowded", &made)
+        }
+        50..=68 => spoilt(random),
+        69 => {
+            let (file, variables, due) = limits::at_limit(random);
+            let top = random.between(0, 1);
+            let values: Vec<i64> =
+                (0..variables).map(|_| if random.percent(20) { 0 } else { top }).collect();
+            let buffer = 12 * variables;
+            Input { file, assignment: fields::assignment(&values), buffer, label: "limit", due }
+        }
+        70..=94 => {
+            let shape = random.pick(&[programs::SMALL, programs::MIDDLE]);
+            let mut input = plan(random, "damaged", shape);
+            damage::damage(random, &mut input.file);
+            input
+        }
+        95 => {
+            let file = damage::noise(random);
+            Input { file, assignment: vec![0; 2], buffer: 24, label: "noise", due: None }
+        }
+        _ => {
+            let mut input = plan(random, "assignment length", programs::SMALL);
+            let n = input.assignment.len();
+            let other = random.pick(&[n + 1, n.saturating_sub(1), n + 2, 0, 2 * n, 600]);
+            input.assignment.resize(other, 0);
+            input
+        }
+    };
+    // Buffers at, above and below their least size.
+    let variables = match crate::read(&made.file) {
+        crate::Reading::Accepted { variables, .. } => variables,
+        crate::Reading::Refused { .. } => made.assignment.len() / 2,
+    };
+    made.buffer = match random.below(40) {
+        0 => (12 * variables).saturating_sub(1),
+        1 => 2 * variables,
+        2 => (2 * variables).saturating_sub(1),
+        3 => 0,
+        4 => 12 * variables + random.below(40),
+        5 => random.below(12 * variables + 1),
+        _ => 12 * variables,
+    };
+    made
+}
+
+fn plan(random: &mut Random, label: &'static str, shape: programs::Shape) -> Input {
+    let made = programs::program(random, shape);
+    dress(random, label, &made)
+}
+
+/// Fields and witness become a file and an assignment.
+fn dress(random: &mut Random, label: &'static str, made: &(Vec<Field>, Vec<i64>)) -> Input {
+    let file = fields::bytes(&made.0);
+    let values = assignments::assign(random, &file, &made.1);
+    Input { file, assignment: fields::assignment(&values), buffer: 0, label, due: None }
+}
+
+/// A file with faults that are known.
+fn spoilt(random: &mut Random) -> Input {
+    let shape = random.pick(&[programs::SMALL, programs::MIDDLE]);
+    let (mut list, witness) = programs::program(random, shape);
+    let assignment = fields::assignment(&witness);
+    let accepted = matches!(crate::read(&fields::bytes(&list)), crate::Reading::Accepted { .. });
+    let mut due = None;
+    let mut file = None;
+    if accepted && !list.is_empty() {
+        match random.below(10) {
+            0 => {
+                let (bytes, cut) = whole::cut(random, &list);
+                file = Some(bytes);
+                due = cut;
+            }
+            1 => due = whole::disorder(random, &mut list),
+            2 | 3 => due = whole::knot(random, &mut list),
+            _ => due = spoil::spoil_some(random, &mut list),
+        }
+    }
+    let file = file.unwrap_or_else(|| fields::bytes(&list));
+    Input { file, assignment, buffer: 0, label: "spoilt", due }
+}
+
+/// A small program for the brute force: few variables, short ranges.
+pub fn small(seed: u64) -> Vec<u8> {
+    let random = &mut Random::new(seed ^ 0xB207_E0F0_0000_0000);
+    let mut list = programs::program(random, programs::SMALL).0;
+    if random.percent(10) {
+        whole::knot(random, &mut list);
+    }
+    fields::bytes(&list)
+}
+
+/// A standard input for the printing program, well framed or not.
+pub fn print_input(seed: u64) -> Vec<u8> {
+    let random = &mut Random::new(seed ^ 0x0F12_0000_0000_0000);
+    let made = input(random.word() % 1_000_000);
+    let length = made.file.len().min(65_535) as u16;
+    let mut out = length.to_be_bytes().to_vec();
+    out.extend(made.file);
+    out.extend(made.assignment);
+    match random.below(20) {
+        0 => out.truncate(random.below(3)),
+        1 => out.truncate(random.below(out.len())),
+        2 => out.resize(random.pick(&[60_999, 61_000, 61_001, 61_500]), 0),
+        3 => out[..2].copy_from_slice(&(random.word() as u16).to_be_bytes()),
+        _ => {}
+    }
+    out
+}

@@ -1,0 +1,41 @@
+//! A second checker for founded cover files, written from the specification
+//! alone. Clarity comes before speed: plain structures, plain searches,
+//! naive iteration.
+//!
+//! The four calls are `read`, `least`, `check` and `print`. Each has a twin
+//! ending in `_with` that takes a [`Wrong`]: a deliberate mistake, used to see
+//! whether the generator would notice it. `Wrong::Nothing` is the checker.
+
+pub mod brute;
+pub mod calls;
+pub mod gen;
+pub mod graph;
+pub mod meaning;
+pub mod printing;
+pub mod program;
+pub mod reader;
+pub mod tally;
+pub mod wrong;
+
+pub use calls::{Reading, Solved, Verdict};
+pub use wrong::Wrong;
+
+/// Reads a file: its three counts, or the first refusal.
+pub fn read(file: &[u8]) -> Reading {
+    calls::read_with(file, Wrong::Nothing)
+}
+
+/// The least model of the reduct; writes only when it answers `Found`.
+pub fn least(file: &[u8], assignment: &[u8], buffer: &mut [u8]) -> Solved {
+    calls::least_with(file, assignment, buffer, Wrong::Nothing)
+}
+
+/// The verdict on an assignment; writes only when it answers `Unfounded`.
+pub fn check(file: &[u8], assignment: &[u8], report: &mut [u8]) -> Verdict {
+    calls::check_with(file, assignment, report, Wrong::Nothing)
+}
+
+/// What the printing program prints for this standard input.
+pub fn print(input: &[u8]) -> Vec<u8> {
+    printing::print_with(input, Wrong::Nothing)
+}

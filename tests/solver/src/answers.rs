@@ -1,0 +1,70 @@
+//! Runs `gringo | clasp 0` and reads the answer sets as assignments.
+
+use std::io::{Read, Write};
+use std::process::{Command, Stdio};
+
+/// Clasp's exit codes when it has been through the whole search.
+const ALL_FOUND: i32 = 30;
+const NONE_FOUND: i32 = 20;
+
+/// One assignment for every answer set of the text.
+pub fn answers(text: &str, variables: usize) -> Result<Vec<Vec<i64>>, String> {
+    let output = solve(text).map_err(|e| format!("gringo | clasp: {e}"))??;
+    let mut lines = output.lines();
+    let mut found = Vec::new();
+    while let Some(line) = lines.next() {
+        if line.starts_with("Answer:") {
+            found.push(assignment(lines.next().unwrap_or(""), variables)?);
+        }
+    }
+    let said = output.lines().find_map(|l| l.strip_prefix("Models")?.split(':').nth(1));
+    if said.and_then(|n| n.trim().parse().ok()) != Some(found.len()) {
+        return Err(format!("clasp counts other models than the {} read:\n{output}", found.len()));
+    }
+    Ok(found)
+}
+
+/// What clasp prints. The inner error is something gringo or clasp complains of.
+fn solve(text: &str) -> std::io::Result<Result<String, String>> {
+    let mut gringo = Command::new("gringo")
+        .args(["-Wno-atom-undefined", "-Wno-global-variable", "-"])
+        .stdin(Stdio::piped())
+        .stdout(Stdio::piped())
+        .stderr(Stdio::piped())
+        .spawn()?;
+    let ground = gringo.stdout.take().expect("piped");
+    let clasp = Command::new("clasp").arg("0").stdin(ground).stdout(Stdio::piped()).spawn()?;
+    let mut input = gringo.stdin.take().expect("piped");
+    input.write_all(text.as_bytes())?;
+    drop(input);
+    let mut complaint = String::new();
+    gringo.stderr.take().expect("piped").read_to_string(&mut complaint)?;
+    let grounded = gringo.wait()?;
+    let solved = clasp.wait_with_output()?;
+    if !grounded.success() || !complaint.is_empty() {
+        return Ok(Err(format!("gringo, {grounded}: {complaint}")));
+    }
+    let output = String::from_utf8_lossy(&solved.stdout).into_owned();
+    match solved.status.code() {
+        Some(ALL_FOUND | NONE_FOUND) => Ok(Ok(output)),
+        _ => Ok(Err(format!("clasp, {}: {output}", solved.status))),
+    }
+}
+
+/// 000: "The value of x is then the largest value v such that [x >= v] is
+/// true". A standard variable has one atom only.
+fn assignment(atoms: &str, variables: usize) -> Result<Vec<i64>, String> {
+    let mut values: Vec<Option<i64>> = vec![None; variables];
+    for atom in atoms.split_whitespace() {
+        let (x, value) = arguments(atom).ok_or(format!("atom {atom}"))?;
+        let known = values.get_mut(x).ok_or(format!("atom {atom}"))?;
+        *known = (*known).max(Some(value));
+    }
+    values.into_iter().collect::<Option<Vec<i64>>>().ok_or(format!("a variable without value: {atoms}"))
+}
+
+fn arguments(atom: &str) -> Option<(usize, i64)> {
+    let inner = atom.strip_prefix("ge(").or(atom.strip_prefix("is("))?.strip_suffix(')')?;
+    let (x, value) = inner.split_once(',')?;
+    Some((x.parse().ok()?, value.parse().ok()?))
+}

@@ -1,0 +1,214 @@
+//! Compares the proved check with an answer set solver: for each small
+//! program, the assignments called stable against the answer sets of its
+//! translation.
+//!
+//! solver [first seed] [programs]                  compares, then tries the wrong readings
+//! solver --reading NAME [first seed] [programs]   compares under another reading
+//! solver --show SEED                              prints a program and its translation
+
+mod answers;
+mod families;
+mod inputs;
+mod proved;
+mod reading;
+mod show;
+mod tally;
+mod translate;
+
+use proved::Word;
+use reading::Reading;
+use second::calls::check_with;
+use second::gen::fields;
+use second::program::Program;
+use second::reader::parse;
+use second::{Verdict, Wrong};
+use std::collections::BTreeSet;
+use tally::Tally;
+
+/// Differences printed.
+const PRINTED: usize = 3;
+
+/// Mistakes of the second checker that change what is stable.
+const WRONG_CHECKERS: [Wrong; 9] = [
+    Wrong::KeepsStandard,
+    Wrong::StartsAtZero,
+    Wrong::BelowOrEqual,
+    Wrong::FirstLiteralOnly,
+    Wrong::KeepsFalling,
+    Wrong::StrikesCircles,
+    Wrong::OneRound,
+    Wrong::NothingIsZero,
+    Wrong::HeadAlwaysKept,
+];
+
+/// A program to compare, taken apart, with the check's words.
+struct Case {
+    name: String,
+    file: Vec<u8>,
+    program: Program,
+    words: Vec<(Vec<i64>, Word)>,
+}
+
+impl Case {
+    /// Nothing for a file that the second reader turns down.
+    fn new((name, file): (String, Vec<u8>)) -> Option<Case> {
+        let program = parse(&file, Wrong::Nothing).ok()?;
+        let words = proved::assignments(&program)
+            .into_iter()
+            .map(|values| {
+                let word = proved::check(&file, &values);
+                (values, word)
+            })
+            .collect();
+        Some(Case { name, file, program, words })
+    }
+
+    fn stable(&self) -> BTreeSet<Vec<i64>> {
+        let stable = self.words.iter().filter(|(_, word)| *word == Word::Stable);
+        stable.map(|(values, _)| values.clone()).collect()
+    }
+
+    /// What a wrong checker calls stable. Compared with `stable`, which by then
+    /// the solver has confirmed, or the run has failed.
+    fn stable_with(&self, wrong: Wrong) -> BTreeSet<Vec<i64>> {
+        let mut report = vec![0; 12 * self.program.variables.len()];
+        let mut is_stable = |values: &Vec<i64>| {
+            let assignment = fields::assignment(values);
+            check_with(&self.file, &assignment, &mut report, wrong) == Verdict::Stable
+        };
+        let all = self.words.iter().map(|(values, _)| values);
+        all.filter(|values| is_stable(values)).cloned().collect()
+    }
+
+    /// What differs between the check and the solver, in readable form.
+    fn difference(&self, reading: Reading) -> Option<String> {
+        let text = translate::translate(&self.program, reading);
+        let list = match answers::answers(&text, self.program.variables.len()) {
+            Ok(list) => list,
+            Err(what) => return Some(format!("{}\n{text}{what}\n", self.title())),
+        };
+        let solver: BTreeSet<Vec<i64>> = list.iter().cloned().collect();
+        let check = self.stable();
+        let other = self.words.iter().find(|(_, word)| matches!(word, Word::Other(_)));
+        if solver == check && list.len() == solver.len() && other.is_none() {
+            return None;
+        }
+        let mut out = format!("{}\n", self.title());
+        out += &format!("  check:  {check:?}\n  solver: {solver:?}\n");
+        if list.len() != solver.len() {
+            out += &format!("  {} answer sets for {} assignments\n", list.len(), solver.len());
+        }
+        for (values, word) in other.into_iter().take(1) {
+            out += &format!("  {values:?}: the check says {word:?}\n");
+        }
+        for values in check.symmetric_difference(&solver) {
+            let mut report = vec![0; 12 * values.len()];
+            let verdict = second::check(&self.file, &fields::assignment(values), &mut report);
+            out += &format!("  {values:?}: the second checker says {verdict:?}\n");
+        }
+        Some(out)
+    }
+
+    fn title(&self) -> String {
+        format!("{}\n{}", self.name, show::program(&self.program))
+    }
+}
+
+/// The samples, then so many seeded programs that are not turned down.
+fn cases(first: u64, programs: usize) -> Vec<Case> {
+    let sample = |given| Case::new(given).expect("samples are accepted");
+    let mut cases: Vec<Case> = inputs::samples().into_iter().map(sample).collect();
+    let wanted = cases.len() + programs;
+    let mut seed = first;
+    while cases.len() < wanted {
+        cases.extend(Case::new(inputs::seeded(seed)));
+        seed += 1;
+    }
+    println!("seeds {first}..{seed}, {} files turned down", seed - first - programs as u64);
+    cases
+}
+
+/// How many programs differ; the first few are printed.
+fn compare(cases: &[Case], reading: Reading) -> usize {
+    let mut differing = 0;
+    for case in cases {
+        if let Some(what) = case.difference(reading) {
+            differing += 1;
+            if differing <= PRINTED {
+                println!("differs: {what}");
+            }
+        }
+    }
+    println!("{} programs, {differing} differ, reading {reading:?}", cases.len());
+    differing
+}
+
+fn count(cases: &[Case]) -> Vec<String> {
+    let mut tally = Tally::default();
+    for case in cases {
+        tally.add(&case.program, &case.words);
+    }
+    for (name, count) in &tally.programs {
+        println!("{count:>6}  {name}");
+    }
+    println!(
+        "{} programs, {} assignments, {} of them stable",
+        cases.len(),
+        tally.assignments,
+        tally.stable
+    );
+    tally.missing(cases.len())
+}
+
+/// Each wrong reading, and each wrong checker, must be noticed somewhere.
+fn sharp(cases: &[Case]) -> Vec<String> {
+    let mut unseen = Vec::new();
+    let mut note = |what: String, found: Vec<&Case>| match found.as_slice() {
+        [] => unseen.push(format!("{what}: not noticed")),
+        some => {
+            let names: Vec<&str> = some.iter().map(|case| case.name.as_str()).collect();
+            println!("{what}: differs on {}", names.join("; "));
+        }
+    };
+    for reading in Reading::WRONG {
+        let found = cases.iter().filter(|case| case.difference(reading).is_some()).take(PRINTED);
+        note(format!("wrong reading {reading:?}"), found.collect());
+    }
+    for wrong in WRONG_CHECKERS {
+        let found = cases.iter().filter(|case| case.stable_with(wrong) != case.stable()).take(PRINTED);
+        note(format!("wrong checker {wrong:?}"), found.collect());
+    }
+    unseen
+}
+
+fn main() {
+    let mut given: Vec<String> = std::env::args().skip(1).collect();
+    if let [option, seed] = given.as_slice() {
+        if option == "--show" {
+            let (name, file) = inputs::seeded(seed.parse().expect("a seed"));
+            let program = parse(&file, Wrong::Nothing).expect("a file that is not turned down");
+            println!("{name}\n{}", show::program(&program));
+            println!("{}", translate::translate(&program, Reading::Right));
+            return;
+        }
+    }
+    let mut reading = Reading::Right;
+    if given.first().is_some_and(|a| a == "--reading") {
+        reading = given.get(1).and_then(|name| Reading::named(name)).expect("the name of a reading");
+        given.drain(..2);
+    }
+    let amount = |i: usize, usual: u64| given.get(i).map_or(usual, |a| a.parse().expect("a number"));
+    let cases = cases(amount(0, 0), amount(1, 300) as usize);
+    let mut failed = compare(&cases, reading) > 0;
+    if reading == Reading::Right {
+        failed |= compare(&cases, Reading::MixedSupports) > 0;
+        let mut failures = sharp(&cases);
+        failures.extend(count(&cases));
+        for failure in &failures {
+            println!("failed: {failure}");
+        }
+        failed |= !failures.is_empty();
+    }
+    println!("{}", if failed { "solver comparison failed" } else { "solver comparison passed" });
+    std::process::exit(i32::from(failed));
+}

@@ -1,0 +1,71 @@
+//! How occurrences are read: the right way, and ways that are wrong on purpose.
+
+use second::program::{Program, Rule, AT_LEAST, BELOW, SIZE, SUM};
+
+#[derive(Clone, Copy, Debug, PartialEq, Eq, PartialOrd, Ord)]
+pub enum Direction {
+    Rising,
+    Falling,
+    Mixed,
+}
+
+/// Document 01, "Which way a variable pushes".
+pub fn direction(program: &Program, rule: &Rule, position: usize) -> Direction {
+    let term = &rule.terms[position];
+    let (low, high) = (program.variables[term.variable].low, program.variables[term.variable].high);
+    match term.op {
+        AT_LEAST => Direction::Rising,
+        BELOW => Direction::Falling,
+        _ if rule.form == SUM && term.number < 0 => Direction::Falling,
+        _ if rule.form == SIZE && low < 0 && 0 < high => Direction::Mixed,
+        _ if rule.form == SIZE && low < 0 => Direction::Falling,
+        _ => Direction::Rising,
+    }
+}
+
+#[derive(Clone, Copy, Debug, PartialEq, Eq)]
+pub enum Reading {
+    /// As the papers say.
+    Right,
+    /// Wrong: standard variables are founded, so that they fall to their low.
+    StandardFounded,
+    /// Wrong: the value of a falling occurrence must itself be supported.
+    FallingSupports,
+    /// Wrong: falling occurrences are kept in the reduct like rising ones.
+    FallingKept,
+    /// Wrong: mixed occurrences are kept in the reduct like rising ones.
+    MixedKept,
+    /// Wrong: no occurrence needs support, so that circles hold themselves up.
+    SupportedOnly,
+    /// Wrong: [x >= v] does not follow from [x >= v + 1].
+    Unchained,
+    /// Wrong: founded variables start at 0 and not at low.
+    FromZero,
+    /// Wrong: a rule that gives more than its head's high says nothing.
+    NoCeiling,
+    /// Wrong: op 2 also holds at the number itself.
+    BelowOrEqual,
+    /// Another right one: the value of a mixed occurrence must be supported.
+    /// A valid file has no mixed variable in its head's component (000), so
+    /// the support never comes back to the head and nothing changes.
+    MixedSupports,
+}
+
+impl Reading {
+    pub const WRONG: [Reading; 9] = [
+        Reading::StandardFounded,
+        Reading::FallingSupports,
+        Reading::FallingKept,
+        Reading::MixedKept,
+        Reading::SupportedOnly,
+        Reading::Unchained,
+        Reading::FromZero,
+        Reading::NoCeiling,
+        Reading::BelowOrEqual,
+    ];
+
+    pub fn named(name: &str) -> Option<Reading> {
+        let others = [Reading::Right, Reading::MixedSupports];
+        Reading::WRONG.into_iter().chain(others).find(|r| format!("{r:?}") == name)
+    }
+}
