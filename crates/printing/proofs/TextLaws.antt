@@ -87,9 +87,14 @@ pub no-entries : (r : Answer) (b : List ℕ) {k : ℕ} {c d : List ℕ} → entr
 unfolding entryLines
 no-entries r b e w = appends-as (sym (ap (λ (n : ℕ). answerLine r ++ entryLines b n) e ∙ append-nil (answerLine r))) w
 
--- what holds of an answer's text, in another name for the answer
+-- the text of an answer with the report b is written, and short
 abbrev pub Answered : Answer → List ℕ → ℕ → List ℕ → List ℕ → Type 0
-Answered r b k c d = Appends (textOf r b) 0 k c d × (k ≤ 52 + 19 * entriesOf r)
+Answered r b k c c′ = Appends (textOf r b) 0 k c c′ × (k ≤ 52 + 19 * entriesOf r)
 
-pub answered : {d e : Verdict} (b : List ℕ) {k : ℕ} {c c′ : List ℕ} → d ≡ e → Answered (answerOf e) b k c c′ → Answered (answerOf d) b k c c′
-answered {d} {e} b {k} {c} {c′} p w = subst (λ (x : Verdict). Answered (answerOf x) b k c c′) (sym p) w
+-- as a test told which answer it is
+module _ {d e : Verdict} (told : d ≡ e) (b : List ℕ) {k : ℕ} {c c′ : List ℕ} where
+  pub answered : Answered (answerOf e) b k c c′ → Answered (answerOf d) b k c c′
+  answered w = subst (λ (x : Verdict). Answered (answerOf x) b k c c′) (sym told) w
+
+  pub answered-alone : entriesOf (answerOf e) ≡ 0 → Appends (answerLine (answerOf e)) 0 k c c′ → k ≤ 52 → Answered (answerOf d) b k c c′
+  answered-alone none w h = answered (no-entries (answerOf e) b none w, omega arith)

@@ -2,11 +2,10 @@ use mathlib.Core.Path.{refl, ap₂}
 use mathlib.Core.List.{_++_}
 use Prim.Native.Nat.{ℕ}
 use native.Mathlib.Omega.{arith}
-use Rattle.verdict.specs.Checks.{refusal, range, rule, constraint, stable}
 use Rattle.printing.specs.Decimal.{decimal}
 use Rattle.printing.specs.Text.{word, line, answerLine}
 use Rattle.printing.proofs.OutputLaws.{appends-as}
-use Rattle.printing.proofs.TextLaws.{no-entries, answered}
+use Rattle.printing.proofs.TextLaws.{answered, answered-alone}
 use borrow.Author.Needs.{needs}
 use Rattle.printing.proofs.answers.put_answer.Statement.{statement}
 use Rattle.printing.proofs.answers.put_answer.Tie as tie
@@ -57,10 +56,7 @@ enum-known-verdict-5 : tie.Need-enum-known-verdict-5
 enum-known-verdict-5 c = search needs
 
 put-unfounded-requires : tie.Need-put-unfounded-requires
-put-unfounded-requires c κs =
-    let b = c .before .before .before .before .before .before in
-    let h = rw (c .before .before .verdict5 .given .1) at (b .pre) in
-    h
+put-unfounded-requires c κs = rw (c .before .before .verdict5 .given .1) at (c .before .before .before .before .before .before .pre)
 
 enum-told : tie.Need-enum-told
 enum-told c = search needs
@@ -78,55 +74,42 @@ returns : tie.Need-returns
 unfolding answerLine
 returns c =
     let w = c .before .before .put-two .ensures in
-    let b = c .before .before .before .before .before .before .before .before .before .before .before .before .args .report .now in
     let e = ap₂ (λ (n at : ℕ). line (word "refused " ++ decimal n ++ word " " ++ decimal at)) (c .before .before .before .before .denial-number .ensures) (c .before .before .before .denial-place .ensures) in
-    answered b (c .before .before .before .before .before .before .before .before .verdict .given .1) (no-entries (refusal _ _) b refl (appends-as e (w .0)), omega (arith, w .1))
+    answered-alone (c .before .before .before .before .before .before .before .before .verdict .given .1) _ refl (appends-as e (w .0)) (w .1)
 
 same-length-2 : tie.Need-same-length-2
 same-length-2 c = search needs
 
 returns-2 : tie.Need-returns-2
 unfolding answerLine
-returns-2 c =
-    let w = c .before .before .put-one .ensures in
-    let b = c .before .before .before .before .before .before .before .before .before .before .args .report .now in
-    answered b (c .before .before .before .before .before .before .verdict2 .given .1) (no-entries (range _) b refl (w .0), omega (arith, w .1))
+returns-2 c = let w = c .before .before .put-one .ensures in answered-alone (c .before .before .before .before .before .before .verdict2 .given .1) _ refl (w .0) (w .1)
 
 same-length-3 : tie.Need-same-length-3
 same-length-3 c = search needs
 
 returns-3 : tie.Need-returns-3
 unfolding answerLine
-returns-3 c =
-    let w = c .before .before .put-one2 .ensures in
-    let b = c .before .before .before .before .before .before .before .before .before .before .args .report .now in
-    answered b (c .before .before .before .before .before .before .verdict3 .given .1) (no-entries (rule _) b refl (w .0), omega (arith, w .1))
+returns-3 c = let w = c .before .before .put-one2 .ensures in answered-alone (c .before .before .before .before .before .before .verdict3 .given .1) _ refl (w .0) (w .1)
 
 same-length-4 : tie.Need-same-length-4
 same-length-4 c = search needs
 
 returns-4 : tie.Need-returns-4
 unfolding answerLine
-returns-4 c =
-    let w = c .before .before .put-one3 .ensures in
-    let b = c .before .before .before .before .before .before .before .before .before .before .args .report .now in
-    answered b (c .before .before .before .before .before .before .verdict4 .given .1) (no-entries (constraint _) b refl (w .0), omega (arith, w .1))
+returns-4 c = let w = c .before .before .put-one3 .ensures in answered-alone (c .before .before .before .before .before .before .verdict4 .given .1) _ refl (w .0) (w .1)
 
 same-length-5 : tie.Need-same-length-5
 same-length-5 c = search needs
 
 returns-5 : tie.Need-returns-5
-returns-5 c = answered (c .before .before .before .before .before .before .before .before .before .args .report .now) (c .before .before .before .before .before .verdict5 .given .1) (c .before .before .put-unfounded .ensures)
+returns-5 c = answered (c .before .before .before .before .before .verdict5 .given .1) _ (c .before .before .put-unfounded .ensures)
 
 same-length-6 : tie.Need-same-length-6
 same-length-6 c = search needs
 
 returns-6 : tie.Need-returns-6
 unfolding answerLine
-returns-6 c =
-    let w = c .before .before .put-word .ensures in
-    let b = c .before .before .before .before .before .before .before .before .before .args .report .now in
-    answered b (c .before .before .before .before .before .enum-told .given .1) (no-entries stable b refl w, omega (arith, w .next))
+returns-6 c = let w = c .before .before .put-word .ensures in answered-alone (c .before .before .before .before .before .enum-told .given .1) _ refl w (omega (arith, w .next))
 
 pub put-answer-spec : {M : Type 1} → statement M
 put-answer-spec =
