@@ -18,8 +18,8 @@ use Rattle.verdict.proofs.Determined.{checks-unique}
 use Rattle.verdict.proofs.Total.{checks-total}
 use Rattle.printing.specs.Decimal.{decimal, number}
 use Rattle.printing.specs.Output.{Holds, Appends}
-use Rattle.printing.specs.Text.{word, line, answerLine, entryLine, entriesOf, textOf}
-use Rattle.printing.specs.Prints.{maxInput, announced, fileIn, assignmentIn, misframed, blank, Prints, bad-frame, checked, room, Told, Printed}
+use Rattle.printing.specs.Text.{word, line, answerLine, entryLine, entriesOf, textOf, firstMost, entryMost}
+use Rattle.printing.specs.Prints.{maxInput, announced, fileIn, assignmentIn, misframed, reportBytes, blank, Prints, bad-frame, checked, room, Told, Printed}
 use Rattle.printing.proofs.OutputLaws.{holds-none}
 use Rattle.printing.proofs.TextLaws.{most-line, at-most-line, at-least-line, no-entries}
 
@@ -99,11 +99,11 @@ prints-total s = go (misframed s) refl
 whole : {t : List ℕ} {n : ℕ} {b b′ : List ℕ} → Appends t 0 n b b′ → Holds t n b b′
 whole {b = b} w = w .holds [] b (holds-none b)
 
-pub told : {f a b : List ℕ} {r : Answer} {b₁ : List ℕ} {n : ℕ} {b′ : List ℕ} → Checks f a blank r b₁ → 4 * entriesOf r ≤ 3072
-    → Appends (textOf r b₁) 0 n b b′ × (n ≤ 52 + 19 * entriesOf r) → Told f a b n b′
+pub told : {f a b : List ℕ} {r : Answer} {b₁ : List ℕ} {n : ℕ} {b′ : List ℕ} → Checks f a blank r b₁ → 4 * entriesOf r ≤ reportBytes
+    → Appends (textOf r b₁) 0 n b b′ × (n ≤ firstMost + entryMost * entriesOf r) → Told f a b n b′
 told c h w = record { answer = _; report = _; checks = c; holds = whole (w .0); short = omega (arith, w .1) }
 
-pub printed-refusal : (s : List ℕ) {n : ℕ} {b b′ : List ℕ} → misframed s ≡ true → Appends (answerLine (refusal 16 0)) 0 n b b′ → n ≤ 52 → Printed s b n b′
+pub printed-refusal : (s : List ℕ) {n : ℕ} {b b′ : List ℕ} → misframed s ≡ true → Appends (answerLine (refusal 16 0)) 0 n b b′ → n ≤ firstMost → Printed s b n b′
 printed-refusal s e w h = record {
   text = _;
   prints = bad-frame (subst T (sym e) tt);

@@ -14,7 +14,7 @@ use Rattle.verdict.specs.declared.Verdict.{Verdict}
 use Rattle.verdict.specs.Demands.{variableAt, markAt, numberAt}
 use Rattle.printing.specs.Decimal.{decimal, number}
 use Rattle.printing.specs.Output.{Appends}
-use Rattle.printing.specs.Text.{word, line, answerLine, entryLine, entryLines, entriesOf, textOf}
+use Rattle.printing.specs.Text.{word, line, answerLine, entryLine, entryLines, entriesOf, textOf, firstMost, entryMost}
 use Rattle.printing.proofs.DecimalLaws.{decimal-short, number-short}
 use Rattle.printing.proofs.OutputLaws.{appends-as, appends-none, appends-both}
 
@@ -54,11 +54,11 @@ with-length x v y z h k =
       number-short z k,
     )
 
-pub entry-short : (v mark : ℕ) (z : ℤ) → v < 256 → natAbs z ≤ 32768 → length (entryLine v mark z) ≤ 19
+pub entry-short : (v mark : ℕ) (z : ℤ) → v < 256 → natAbs z ≤ 32768 → length (entryLine v mark z) ≤ entryMost
 unfolding entryLine
 entry-short v mark z h k = go (eqb mark 0) (eqb mark 1) (eqb mark 2)
   where
-    go : (p q r : Bool) → length (cond p (entryWith (word "most ") v (word " ") z) (cond q (entryWith (word "when ") v (word " <= ") z) (cond r (entryWith (word "when ") v (word " >= ") z) []))) ≤ 19
+    go : (p q r : Bool) → length (cond p (entryWith (word "most ") v (word " ") z) (cond q (entryWith (word "when ") v (word " <= ") z) (cond r (entryWith (word "when ") v (word " >= ") z) []))) ≤ entryMost
     go true q r = omega (arith, with-length (word "most ") v (word " ") z h k)
     go false true r = omega (arith, with-length (word "when ") v (word " <= ") z h k)
     go false false true = omega (arith, with-length (word "when ") v (word " >= ") z h k)
@@ -66,7 +66,7 @@ entry-short v mark z h k = go (eqb mark 0) (eqb mark 1) (eqb mark 2)
 
 -- an entry's line is written
 pub entry-done : (v mark : ℕ) (z : ℤ) → v < 256 → natAbs z ≤ 32768 → {x : List ℕ} {at k : ℕ} {c d : List ℕ} → x ≡ entryLine v mark z → Appends x at k c d
-    → Appends (entryLine v mark z) at k c d × (k ≤ at + 19)
+    → Appends (entryLine v mark z) at k c d × (k ≤ at + entryMost)
 entry-done v mark z h l e w = let u = appends-as e w in (u, omega (arith, u .next, entry-short v mark z h l))
 
 -- ---- the lines of a report
@@ -89,12 +89,12 @@ no-entries r b e w = appends-as (sym (ap (λ (n : ℕ). answerLine r ++ entryLin
 
 -- the text of an answer with the report b is written, and short
 abbrev pub Answered : Answer → List ℕ → ℕ → List ℕ → List ℕ → Type 0
-Answered r b k c c′ = Appends (textOf r b) 0 k c c′ × (k ≤ 52 + 19 * entriesOf r)
+Answered r b k c c′ = Appends (textOf r b) 0 k c c′ × (k ≤ firstMost + entryMost * entriesOf r)
 
 -- as a test told which answer it is
 module _ {d e : Verdict} (told : d ≡ e) (b : List ℕ) {k : ℕ} {c c′ : List ℕ} where
   pub answered : Answered (answerOf e) b k c c′ → Answered (answerOf d) b k c c′
   answered w = subst (λ (x : Verdict). Answered (answerOf x) b k c c′) (sym told) w
 
-  pub answered-alone : entriesOf (answerOf e) ≡ 0 → Appends (answerLine (answerOf e)) 0 k c c′ → k ≤ 52 → Answered (answerOf d) b k c c′
+  pub answered-alone : entriesOf (answerOf e) ≡ 0 → Appends (answerLine (answerOf e)) 0 k c c′ → k ≤ firstMost → Answered (answerOf d) b k c c′
   answered-alone none w h = answered (no-entries (answerOf e) b none w, omega arith)

@@ -8,7 +8,7 @@ use Rattle.format.specs.Limits.{maxVariables}
 use Rattle.format.specs.Numbers.{unsignedAt}
 use Rattle.meaning.specs.Calls.{checkBytes}
 use Rattle.verdict.specs.Checks.{Answer, refusal, Checks}
-use Rattle.printing.specs.Text.{textOf}
+use Rattle.printing.specs.Text.{textOf, firstMost, entryMost}
 use Rattle.printing.specs.Output.{Holds}
 
 -- "over 61,000 in all"
@@ -41,9 +41,9 @@ pub data Prints (s : List ℕ) : List ℕ → Type 0 where
   bad-frame : T (misframed s) → Prints s (textOf (refusal 16 0) blank)
   checked : {r : Answer} {b : List ℕ} → T (not (misframed s)) → Checks (fileIn s) (assignmentIn s) blank r b → Prints s (textOf r b)
 
--- room enough for every text: a first line of at most 52 bytes, and for each of at most 3 entries a variable a line of at most 19
+-- room enough for every text: a first line, and a line for each of at most 3 entries a variable
 abbrev pub room : ℕ
-room = 52 + 19 * (3 * maxVariables)
+room = firstMost + entryMost * (3 * maxVariables)
 
 -- the call leaves the output b as b′ and answers n: the length of the text, which b′ holds from its first byte on as far as there is room
 pub record Printed (s b : List ℕ) (n : ℕ) (b′ : List ℕ) : Type 0 where

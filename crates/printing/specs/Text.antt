@@ -55,3 +55,10 @@ entriesOf stable = 0
 -- the text of an answer with the report b
 abbrev pub textOf : Answer → List ℕ → List ℕ
 textOf r b = answerLine r ++ entryLines b (entriesOf r)
+
+-- no first line is longer than this, and no line of an entry: `unfounded` with two numbers of 20 digits, and `when 255 >= -32768`
+abbrev pub firstMost : ℕ
+firstMost = 52
+
+abbrev pub entryMost : ℕ
+entryMost = 19

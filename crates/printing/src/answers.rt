@@ -8,7 +8,7 @@ ghost use Rattle.meaning.specs.Calls.{denialNumber, denialPlace};
 ghost use Rattle.verdict.specs.Checks.{unfounded, answerOf};
 ghost use Rattle.printing.specs.Decimal.{decimal};
 ghost use Rattle.printing.specs.Output.{Appends};
-ghost use Rattle.printing.specs.Text.{word, line, entriesOf, textOf};
+ghost use Rattle.printing.specs.Text.{word, line, entriesOf, textOf, firstMost, entryMost};
 use crate::lines::put_entries;
 use crate::writing::put;
 use crate::writing::put_decimal;
@@ -17,6 +17,7 @@ use meaning::Denied;
 use program::Refusal;
 use verdict::Verdict;
 
+// The number of a file's refusal.
 fn number_of(why: Refusal) -> usize
     ensures { λ r. ⌜ r ≡ numberOf why ⌝ }
 {
@@ -37,6 +38,7 @@ fn number_of(why: Refusal) -> usize
     }
 }
 
+// The number of a call's refusal, and its place.
 fn denial_number(why: Denied) -> usize
     ensures { λ r. ⌜ r ≡ denialNumber why ⌝ }
 {
@@ -61,7 +63,7 @@ fn denial_place(why: Denied) -> usize
 fn put_one(output: &mut [u8], words: &[u8], n: usize) -> usize
     requires { ⌜ length (now words) ≤ 11 ⌝ }
     ensures { λ r. ⌜ Appends (line (now (words .entry) ++ decimal n)) 0 r (now (output .entry)) (now (output .exit)) ⌝ }
-    ensures { λ r. ⌜ r ≤ 52 ⌝ }
+    ensures { λ r. ⌜ r ≤ firstMost ⌝ }
 {
     let next = put_word(output, 0, words);
     let next = put_decimal(output, next, n);
@@ -72,7 +74,7 @@ fn put_one(output: &mut [u8], words: &[u8], n: usize) -> usize
 pub fn put_two(output: &mut [u8], words: &[u8], n: usize, k: usize) -> usize
     requires { ⌜ length (now words) ≤ 10 ⌝ }
     ensures { λ r. ⌜ Appends (line (now (words .entry) ++ decimal n ++ word " " ++ decimal k)) 0 r (now (output .entry)) (now (output .exit)) ⌝ }
-    ensures { λ r. ⌜ r ≤ 52 ⌝ }
+    ensures { λ r. ⌜ r ≤ firstMost ⌝ }
 {
     let next = put_word(output, 0, words);
     let next = put_decimal(output, next, n);
@@ -85,7 +87,7 @@ pub fn put_two(output: &mut [u8], words: &[u8], n: usize, k: usize) -> usize
 fn put_unfounded(output: &mut [u8], n: usize, k: usize, report: &[u8]) -> usize
     requires { ⌜ (n + k ≤ 1000) × (4 * (n + k) ≤ length (now report)) ⌝ }
     ensures { λ r. ⌜ Appends (textOf (unfounded n k) (now (report .entry))) 0 r (now (output .entry)) (now (output .exit)) ⌝ }
-    ensures { λ r. ⌜ r ≤ 52 + 19 * (n + k) ⌝ }
+    ensures { λ r. ⌜ r ≤ firstMost + entryMost * (n + k) ⌝ }
 {
     let next = put_two(output, b"unfounded ", n, k);
     put_entries(output, next, report, n + k)
@@ -95,7 +97,7 @@ fn put_unfounded(output: &mut [u8], n: usize, k: usize, report: &[u8]) -> usize
 pub fn put_answer(output: &mut [u8], verdict: Verdict, report: &[u8]) -> usize
     requires { ⌜ (entriesOf (answerOf verdict) ≤ 1000) × (4 * entriesOf (answerOf verdict) ≤ length (now report)) ⌝ }
     ensures { λ r. ⌜ Appends (textOf (answerOf verdict) (now (report .entry))) 0 r (now (output .entry)) (now (output .exit)) ⌝ }
-    ensures { λ r. ⌜ r ≤ 52 + 19 * entriesOf (answerOf verdict) ⌝ }
+    ensures { λ r. ⌜ r ≤ firstMost + entryMost * entriesOf (answerOf verdict) ⌝ }
 {
     match verdict {
         Verdict::Refused(why) => {

@@ -6,7 +6,7 @@ ghost use lib.ListN.{length};
 ghost use Rattle.verdict.specs.Demands.{variableAt, markAt, numberAt};
 ghost use Rattle.printing.specs.Decimal.{decimal, number};
 ghost use Rattle.printing.specs.Output.{Appends};
-ghost use Rattle.printing.specs.Text.{line, entryLine, entryLines};
+ghost use Rattle.printing.specs.Text.{line, entryLine, entryLines, entryMost};
 use crate::writing::put;
 use crate::writing::put_decimal;
 use crate::writing::put_number;
@@ -29,7 +29,7 @@ fn put_line(output: &mut [u8], at: usize, first: &[u8], v: u8, second: &[u8], z:
 fn put_entry(output: &mut [u8], at: usize, report: &[u8], i: usize) -> usize
     requires { ⌜ (at ≤ 100000) × (4 * (i + 1) ≤ length (now report)) ⌝ }
     ensures { λ r. ⌜ Appends (entryLine (variableAt (now (report .entry)) i) (markAt (now (report .entry)) i) (numberAt (now (report .entry)) i)) at r (now (output .entry)) (now (output .exit)) ⌝ }
-    ensures { λ r. ⌜ r ≤ at + 19 ⌝ }
+    ensures { λ r. ⌜ r ≤ at + entryMost ⌝ }
 {
     let v = report[4 * i];
     let mark = report[4 * i + 1];
@@ -46,7 +46,7 @@ fn put_entry(output: &mut [u8], at: usize, report: &[u8], i: usize) -> usize
 pub fn put_entries(output: &mut [u8], at: usize, report: &[u8], count: usize) -> usize
     requires { ⌜ (at ≤ 1000) × (count ≤ 1000) × (4 * count ≤ length (now report)) ⌝ }
     ensures { λ r. ⌜ Appends (entryLines (now (report .entry)) count) at r (now (output .entry)) (now (output .exit)) ⌝ }
-    ensures { λ r. ⌜ r ≤ at + 19 * count ⌝ }
+    ensures { λ r. ⌜ r ≤ at + entryMost * count ⌝ }
 {
     let mut next = at;
     for i in 0..count {

@@ -7,6 +7,7 @@ ghost use lib.ListN.{length};
 ghost use Rattle.printing.specs.Decimal.{decimal, number};
 ghost use Rattle.printing.specs.Output.{Appends};
 
+// One byte.
 pub fn put(output: &mut [u8], at: usize, byte: u8) -> usize
     requires { ⌜ at ≤ 1000000 ⌝ }
     ensures { λ r. ⌜ Appends (byte ∷ []) at r (now (output .entry)) (now (output .exit)) ⌝ }
@@ -18,6 +19,7 @@ pub fn put(output: &mut [u8], at: usize, byte: u8) -> usize
     at + 1
 }
 
+// The bytes of a word.
 pub fn put_word(output: &mut [u8], at: usize, word: &[u8]) -> usize
     requires { ⌜ (at ≤ 500000) × (length (now word) ≤ 100) ⌝ }
     ensures { λ r. ⌜ Appends (now (word .entry)) at r (now (output .entry)) (now (output .exit)) ⌝ }

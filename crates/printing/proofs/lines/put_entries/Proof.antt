@@ -3,14 +3,14 @@ use Prim.Native.Nat.{ℕ, _+_, _*_, _-_, _≤_}
 use native.Mathlib.Omega.{arith}
 use lib.ListN.{length}
 use Rattle.printing.specs.Output.{Appends}
-use Rattle.printing.specs.Text.{entryLines}
+use Rattle.printing.specs.Text.{entryLines, entryMost}
 use Rattle.printing.proofs.TextLaws.{entries-none, entries-more}
 use borrow.Author.Needs.{needs}
 use Rattle.printing.proofs.lines.put_entries.Statement.{statement}
 use Rattle.printing.proofs.lines.put_entries.Tie as tie
 
 abbrev Inv-loop : tie.InvT-loop
-Inv-loop output₀ at report count next₀ i₀ output next i = (length output ≡ length output₀) × (i ≤ count) × (next ≤ at + 19 * i) × Appends (entryLines report i) at next output₀ output
+Inv-loop output₀ at report count next₀ i₀ output next i = (length output ≡ length output₀) × (i ≤ count) × (next ≤ at + entryMost * i) × Appends (entryLines report i) at next output₀ output
 
 abbrev μ-loop : tie.MeasureT-loop
 μ-loop output₀ at report count next₀ i₀ output next i = count - i

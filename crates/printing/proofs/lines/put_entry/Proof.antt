@@ -9,7 +9,7 @@ use mir.Val.{toZ, ofZ}
 use Rattle.format.proofs.Ints.{signed-small}
 use Rattle.verdict.specs.Demands.{variableAt, markAt, numberAt}
 use Rattle.printing.specs.Output.{Appends}
-use Rattle.printing.specs.Text.{word, entryLine}
+use Rattle.printing.specs.Text.{word, entryLine, entryMost}
 use Rattle.printing.proofs.OutputLaws.{appends-as, appends-none}
 use Rattle.printing.proofs.TextLaws.{entryWith, most-line, at-most-line, at-least-line, no-line, entry-done}
 use borrow.Author.Needs.{needs}
@@ -40,7 +40,7 @@ asked c h k = (c .before .before .before .before .before .pre .0, h, k, omega (a
 done : (c : tie.After-signed-at) (x y : List ℕ) {at k : ℕ} {b d : List ℕ}
     → entryWith x (variableAt (bytes c) (entry c)) y (numberAt (bytes c) (entry c)) ≡ entryLine (variableAt (bytes c) (entry c)) (markAt (bytes c) (entry c)) (numberAt (bytes c) (entry c))
     → Appends (entryWith x (variableAt (bytes c) (entry c)) y (toZ w64 (ofZ w64 (c .signed-at .result)))) at k b d
-    → Appends (entryLine (variableAt (bytes c) (entry c)) (markAt (bytes c) (entry c)) (numberAt (bytes c) (entry c))) at k b d × (k ≤ at + 19)
+    → Appends (entryLine (variableAt (bytes c) (entry c)) (markAt (bytes c) (entry c)) (numberAt (bytes c) (entry c))) at k b d × (k ≤ at + entryMost)
 done c x y e w =
     let v = variableAt (bytes c) (entry c) in
     let known = c .before .before .before .shared-slice-known .given in
