@@ -1,15 +1,16 @@
 // The word and the numbers of each answer, and how they are packed.
 ghost use mathlib.Core.Path.{_≡_};
 ghost use Rattle.program.specs.Reading as read;
-ghost use Rattle.program.specs.Reading.{numberOf};
 ghost use Rattle.meaning.specs.Calls.{denialNumber, denialPlace};
 ghost use Rattle.meaning.specs.LeastCall as least;
 ghost use Rattle.verdict.specs.Checks as check;
 ghost use Rattle.founded.specs.Packing.{parts, Fits, packed, readParts, leastParts, checkParts};
 use meaning::Denied;
 use meaning::Solved;
+use meaning::refusals::denial_number;
+use meaning::refusals::denial_place;
 use program::Reading;
-use program::Refusal;
+use program::number_of;
 use verdict::Verdict;
 
 // An answer's word and its numbers, 0 where there is none.
@@ -65,35 +66,10 @@ fn with_two(word: usize, first: usize, second: usize) -> Parts
     }
 }
 
-// A refusal's number.
-fn number_of(why: Refusal) -> usize
-    ensures { λ r. ⌜ r ≡ numberOf why ⌝ }
-{
-    match why {
-        Refusal::FileTooLong => 1,
-        Refusal::CutShort => 2,
-        Refusal::UnknownTag => 3,
-        Refusal::TagBelow => 4,
-        Refusal::OneTooMany => 5,
-        Refusal::WrongLength => 6,
-        Refusal::WrongForm => 7,
-        Refusal::OutsideRange => 8,
-        Refusal::Undeclared => 9,
-        Refusal::WrongCount => 10,
-        Refusal::VariableTwice => 11,
-        Refusal::NegativeProduct => 12,
-        Refusal::NotValid => 13,
-    }
-}
-
 fn of_denied(why: Denied) -> Parts
     ensures { λ r. ⌜ r ≡ parts 6 (denialNumber why) (denialPlace why) 0 ⌝ }
 {
-    match why {
-        Denied::File(refusal, at) => with_two(Word::REFUSED, number_of(refusal), at),
-        Denied::Assignment => with_one(Word::REFUSED, 14),
-        Denied::Buffer => with_one(Word::REFUSED, 15),
-    }
+    with_two(Word::REFUSED, denial_number(why), denial_place(why))
 }
 
 pub fn of_reading(reading: Reading) -> Parts

@@ -5,7 +5,7 @@ ghost use Prim.Native.Nat.{ℕ, _≤_};
 ghost use lib.ListN.{length};
 ghost use Rattle.format.specs.Limits.{maxVariables};
 ghost use Rattle.program.specs.Reading.{Reads, accepted};
-ghost use Rattle.meaning.specs.Calls.{checkBytes, leastBytes, Opened};
+ghost use Rattle.meaning.specs.Calls.{checkBytes, leastBytes, denialNumber, denialPlace, Opened};
 use crate::Denied;
 use crate::Opening;
 use program::Counts;
@@ -24,6 +24,27 @@ impl Call {
         ensures { λ _. do ⌜ (← ⟦Call::LEAST⟧ .entry) ≡ leastBytes ⌝ }
         ensures { λ _. do ⌜ (← ⟦Call::CHECK⟧ .entry) ≡ checkBytes ⌝ }
     {}
+}
+
+// The number of a call's refusal, and its place.
+pub fn denial_number(why: Denied) -> usize
+    ensures { λ r. ⌜ r ≡ denialNumber why ⌝ }
+{
+    match why {
+        Denied::File(why, _) => program::number_of(why),
+        Denied::Assignment => 14,
+        Denied::Buffer => 15,
+    }
+}
+
+pub fn denial_place(why: Denied) -> usize
+    ensures { λ r. ⌜ r ≡ denialPlace why ⌝ }
+{
+    match why {
+        Denied::File(_, at) => at,
+        Denied::Assignment => 0,
+        Denied::Buffer => 0,
+    }
 }
 
 // A file that is accepted with these counts.

@@ -3,8 +3,6 @@ ghost use mathlib.Core.Path.{_≡_};
 ghost use mathlib.Core.List.{_++_};
 ghost use Prim.Native.Nat.{_+_, _*_, _≤_};
 ghost use lib.ListN.{length};
-ghost use Rattle.program.specs.Reading.{numberOf};
-ghost use Rattle.meaning.specs.Calls.{denialNumber, denialPlace};
 ghost use Rattle.verdict.specs.Checks.{unfounded, answerOf};
 ghost use Rattle.printing.specs.Decimal.{decimal};
 ghost use Rattle.printing.specs.Output.{Appends};
@@ -13,51 +11,9 @@ use crate::lines::put_entries;
 use crate::writing::put;
 use crate::writing::put_decimal;
 use crate::writing::put_word;
-use meaning::Denied;
-use program::Refusal;
+use meaning::refusals::denial_number;
+use meaning::refusals::denial_place;
 use verdict::Verdict;
-
-// The number of a file's refusal.
-fn number_of(why: Refusal) -> usize
-    ensures { λ r. ⌜ r ≡ numberOf why ⌝ }
-{
-    match why {
-        Refusal::FileTooLong => 1,
-        Refusal::CutShort => 2,
-        Refusal::UnknownTag => 3,
-        Refusal::TagBelow => 4,
-        Refusal::OneTooMany => 5,
-        Refusal::WrongLength => 6,
-        Refusal::WrongForm => 7,
-        Refusal::OutsideRange => 8,
-        Refusal::Undeclared => 9,
-        Refusal::WrongCount => 10,
-        Refusal::VariableTwice => 11,
-        Refusal::NegativeProduct => 12,
-        Refusal::NotValid => 13,
-    }
-}
-
-// The number of a call's refusal, and its place.
-fn denial_number(why: Denied) -> usize
-    ensures { λ r. ⌜ r ≡ denialNumber why ⌝ }
-{
-    match why {
-        Denied::File(why, _) => number_of(why),
-        Denied::Assignment => 14,
-        Denied::Buffer => 15,
-    }
-}
-
-fn denial_place(why: Denied) -> usize
-    ensures { λ r. ⌜ r ≡ denialPlace why ⌝ }
-{
-    match why {
-        Denied::File(_, at) => at,
-        Denied::Assignment => 0,
-        Denied::Buffer => 0,
-    }
-}
 
 // A first line with one number.
 fn put_one(output: &mut [u8], words: &[u8], n: usize) -> usize

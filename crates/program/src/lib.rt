@@ -2,7 +2,7 @@
 ghost use mathlib.Core.Path.{_≡_};
 ghost use Prim.Native.Nat.{_<_};
 ghost use Rattle.format.specs.Limits.{maxFile};
-ghost use Rattle.program.specs.Reading.{counted};
+ghost use Rattle.program.specs.Reading.{numberOf, counted};
 use format::Format;
 
 // Why a file is turned down.
@@ -20,6 +20,27 @@ pub enum Refusal {
     VariableTwice,
     NegativeProduct,
     NotValid,
+}
+
+// The number of a refusal.
+pub fn number_of(why: Refusal) -> usize
+    ensures { λ r. ⌜ r ≡ numberOf why ⌝ }
+{
+    match why {
+        Refusal::FileTooLong => 1,
+        Refusal::CutShort => 2,
+        Refusal::UnknownTag => 3,
+        Refusal::TagBelow => 4,
+        Refusal::OneTooMany => 5,
+        Refusal::WrongLength => 6,
+        Refusal::WrongForm => 7,
+        Refusal::OutsideRange => 8,
+        Refusal::Undeclared => 9,
+        Refusal::WrongCount => 10,
+        Refusal::VariableTwice => 11,
+        Refusal::NegativeProduct => 12,
+        Refusal::NotValid => 13,
+    }
 }
 
 // How many variables, rules and constraints a file has.

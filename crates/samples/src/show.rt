@@ -1,27 +1,11 @@
 // Prints a case's name and what reading its file answers, or the call least or check.
 use meaning::Denied;
 use meaning::Solved;
+use meaning::refusals::denial_number;
+use meaning::refusals::denial_place;
 use program::Reading;
-use program::Refusal;
+use program::number_of;
 use verdict::Verdict;
-
-fn number_of(why: Refusal) -> u64 {
-    match why {
-        Refusal::FileTooLong => 1,
-        Refusal::CutShort => 2,
-        Refusal::UnknownTag => 3,
-        Refusal::TagBelow => 4,
-        Refusal::OneTooMany => 5,
-        Refusal::WrongLength => 6,
-        Refusal::WrongForm => 7,
-        Refusal::OutsideRange => 8,
-        Refusal::Undeclared => 9,
-        Refusal::WrongCount => 10,
-        Refusal::VariableTwice => 11,
-        Refusal::NegativeProduct => 12,
-        Refusal::NotValid => 13,
-    }
-}
 
 pub fn text(s: &[u8]) {
     io::write_all(1, s);
@@ -45,9 +29,9 @@ pub fn value(high: u8, low: u8) {
 }
 
 // A refusal's number and place.
-fn refused(n: u64, at: usize) {
-    text(b"refused ");
-    io::print_decimal(1, n);
+fn refused(n: usize, at: usize) {
+    text(b"refused");
+    number(n);
     number(at);
 }
 
@@ -81,11 +65,7 @@ pub fn built(name: &[u8], file: &[u8], n: usize) {
 }
 
 fn denied(why: Denied) {
-    match why {
-        Denied::File(why, at) => refused(number_of(why), at),
-        Denied::Assignment => refused(14, 0),
-        Denied::Buffer => refused(15, 0),
-    }
+    refused(denial_number(why), denial_place(why));
 }
 
 // A word and a number.
