@@ -131,16 +131,21 @@ fn printed(program: &str, input: &[u8]) -> std::io::Result<Vec<u8>> {
 }
 
 fn program(path: &str, first: u64, inputs: u64, failures: &mut Vec<String>) {
+    let mut misframed = 0;
     for seed in first..first + inputs {
         let input = gen::print_input(seed);
         let want = second::print(&input);
+        misframed += u64::from(want == b"refused 16 0\n");
         match printed(path, &input) {
             Ok(got) if got == want => {}
             Ok(got) => failures.push(format!("seed {seed}: printed {:?}, second {:?}", String::from_utf8_lossy(&got), String::from_utf8_lossy(&want))),
             Err(e) => failures.push(format!("{path}: {e}")),
         }
     }
-    println!("{inputs} inputs through the printing program");
+    println!("{inputs} inputs through the printing program, {misframed} of them misframed");
+    if misframed < inputs / 100 {
+        failures.push("too few misframed inputs".to_string());
+    }
 }
 
 fn main() {
