@@ -1,12 +1,10 @@
 -- The three demands, of every call that `Checks` describes.
-use Prim.Native.Nat.{ℕ, _<_}
+use Prim.Native.Nat.{ℕ}
 use mathlib.Core.Path.{_≡_, refl, sym, _∙_, subst}
-use mathlib.Core.Logic.{_↔_}
 use mathlib.Core.List.{List}
 use native.Mathlib.Omega.{arith}
 use lib.Dec.{T, T-not}
-use lib.ListN.{length, drop}
-use Rattle.program.specs.Program.{Program, variableIn}
+use Rattle.program.specs.Program.{Program}
 use Rattle.program.specs.Reading.{Accepts}
 use Rattle.program.proofs.Conditions.{never}
 use Rattle.program.proofs.Promises.{Promises, accepts-promises}

@@ -1,6 +1,6 @@
 -- The call check has at most one answer, and leaves the lent report in at most one way.
 use Prim.Native.Nat.{ℕ, _<_}
-use mathlib.Core.Path.{_≡_, refl, sym, ap, subst}
+use mathlib.Core.Path.{_≡_, refl, ap, subst}
 use mathlib.Core.List.{List}
 use lib.ListN.{length}
 use native.Mathlib.Omega.{arith}
@@ -14,7 +14,7 @@ use Rattle.meaning.proofs.Theory.{least-unique}
 use Rattle.meaning.proofs.Monotone.{laws}
 use Rattle.meaning.proofs.Determined.{same-outside, same-refusal, refused-or-called}
 use Rattle.report.specs.Report.{bounds, conditions, reported}
-use Rattle.verdict.specs.Checks.{Answer, refusal, range, rule, constraint, unfounded, stable, FirstUnmet}
+use Rattle.verdict.specs.Checks.{Answer, range, rule, constraint, unfounded, FirstUnmet}
 use Rattle.verdict.specs.Checks.{Judged, outside, rule-unmet, constraint-unmet, not-founded, founded, Checks, turned-down, judged}
 use Rattle.verdict.proofs.Demanded.{never-outside, none-short}
 

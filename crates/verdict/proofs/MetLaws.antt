@@ -14,7 +14,6 @@ use Rattle.program.specs.Program.{Program, Constraint, constraintOf, constraint
 use Rattle.program.specs.Evaluate.{satisfied}
 use Rattle.program.specs.Reading.{Reads, accepted, Accepts}
 use Rattle.program.specs.declared.Counts.{Counts}
-use Rattle.program.specs.declared.Given.the-variants.{Value}
 use Rattle.program.proofs.Conditions.{never, last-or}
 use Rattle.program.proofs.Places.{place-next}
 use Rattle.program.proofs.Unique.{accepts-unique}

@@ -1,10 +1,10 @@
 -- The report, from what the code wrote: the bounds, and the conditions into the part after them.
 use Prim.Native.Nat.{ℕ, _+_, _-_, _*_, _≤_}
-use mathlib.Core.Path.{_≡_, refl, sym, ap, ap₂, subst, _∙_}
+use mathlib.Core.Path.{_≡_, sym, ap, ap₂, subst, _∙_}
 use mathlib.Core.List.{List, [], _++_, append-assoc, append-nil}
 use native.Mathlib.Omega.{arith}
 use borrow.Rule.Slice.PartMut.{midOf, putMid}
-use lib.ListN.{length, take, drop, length-drop, length-append, drop-of-length-le}
+use lib.ListN.{length, take, drop, length-drop, drop-of-length-le}
 use lib.Seq.{take-append-seam, drop-append-seam, take-all, drop-drop}
 use Rattle.report.specs.Report.{Entry, bytesIn}
 use Rattle.report.proofs.Entries.{bytes-append, bytes-length}

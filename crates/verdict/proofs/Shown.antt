@@ -1,5 +1,5 @@
 -- What the report of an unfounded assignment shows: demand 3's sentences, read off its bytes.
-use Prim.Native.Nat.{ℕ, zero, suc, _+_, _-_, _*_, _<_, _≤_}
+use Prim.Native.Nat.{ℕ, zero, suc, _+_, _-_, _<_, _≤_}
 use mathlib.Core.Path.{_≡_, refl, sym, ap, _∙_, subst}
 use mathlib.Core.Logic.{_⊎_, inl, inr}
 use mathlib.Core.Bool.{Bool, true, false, not, cond, _&&_, _||_}
@@ -20,14 +20,14 @@ use Rattle.program.proofs.Conditions.{some-below, below-some}
 use Rattle.program.proofs.Promises.{Promises}
 use Rattle.meaning.specs.Founded.{Valuation, Below, Model, Least}
 use Rattle.meaning.specs.Reduct.{placed, kept, system}
-use Rattle.meaning.specs.Stable.{Meets, Stable}
+use Rattle.meaning.specs.Stable.{Meets}
 use Rattle.meaning.specs.Unfounded.{over, Unfounded, Condition, Conditions}
 use Rattle.meaning.proofs.Tests.{cases, is-true, is-test, and-left}
 use Rattle.meaning.proofs.Theory.{self-model, inside-short, short-unfounded, bounded}
 use Rattle.meaning.proofs.Monotone.{laws}
 use Rattle.meaning.proofs.InRanges.{founded-declared}
 use Rattle.meaning.proofs.SolveLaws.{value-small}
-use Rattle.report.specs.Report.{Entry, entry, bytesIn, atMost, atLeast, asksMost, asksLeast, askedBy, asked, shown, bounds, conditions}
+use Rattle.report.specs.Report.{Entry, entry, bytesIn, asksMost, asksLeast, askedBy, asked, shown, bounds, conditions}
 use Rattle.report.proofs.Entries.{bytes-length}
 use Rattle.verdict.specs.Demands.{variableAt, markAt, numberAt, isShown, shownBound, Met, ConditionsMet, Shows}
 use Rattle.verdict.proofs.Listed.{entryIn, Listed, left-is, right-is, both-length, once-by-key, bounds-every, bounds-listed, bounds-sorted}

@@ -1,9 +1,9 @@
 -- Document 01's starred sample plans under the check, and wrong checks that they refute.
 use Prim.Native.Nat.{ℕ, _+_, _*_, _≤_}
-use mathlib.Core.Path.{_≡_, refl, sym, ap, ap₂, subst, _∙_}
+use mathlib.Core.Path.{_≡_, refl, ap, ap₂, subst, _∙_}
 use mathlib.Core.List.{List, [], _∷_, _++_}
 use native.Mathlib.Omega.{arith}
-use lib.Dec.{T, lit≤}
+use lib.Dec.{T}
 use lib.IntN.{ℤ}
 use lib.ListN.{length, drop}
 use Rattle.format.specs.Numbers.{bytesOf}
@@ -19,9 +19,8 @@ use Rattle.meaning.specs.Starred.{Plan, StablePlan, UnfoundedPlan, UnmetPlan, s
 use Rattle.meaning.proofs.Starred as plans
 use Rattle.meaning.proofs.Starred.{starred-plans, printed-read, example2-read, example1-read, example4-read, contrary-read}
 use Rattle.report.specs.Report.{bytesIn, ascending, askedBy, asked, shown, bounds, conditions}
-use Rattle.verdict.specs.Checks.{Answer, unfounded, stable, rule, Checks, judged, founded, not-founded, rule-unmet}
+use Rattle.verdict.specs.Checks.{unfounded, stable, rule, Checks, judged, founded, not-founded, rule-unmet}
 use Rattle.verdict.specs.Starred.{Checked, StarredChecks}
-use Rattle.verdict.proofs.Determined.{checks-unique}
 
 -- unfolding this unfolds the report too
 computes : Unit {0}

@@ -1,5 +1,4 @@
 use mathlib.Core.Path.{refl, sym, _∙_}
-use native.Mathlib.Omega.{arith}
 use Rattle.format.specs.Limits.{maxVariables}
 use Rattle.sets.specs.Bit.{has}
 use Rattle.validity.proofs.RuleLaws.{variables-few, variables-inside}
