@@ -9,8 +9,8 @@ use lib.ListN.{length, getD, drop, take}
 use Rattle.program.specs.Tables.{anyBelow}
 use Rattle.program.specs.Program.{Term, termIn, termsOf, constraintOf}
 use Rattle.program.specs.Evaluate.{sumBelow, holds, satisfied}
-use Rattle.evaluation.specs.Readings.{bit, readingOf, weighted, Coefficients, Satisfiable}
-use Rattle.evaluation.proofs.Bytes.{rest}
+use Rattle.bodies.specs.Readings.{bit, readingOf, weighted, Coefficients, Satisfiable}
+use Rattle.parts.proofs.Bytes.{rest}
 
 either : (t : Bool) (a : ℤ) → cond t a a ≡ a
 either true a = refl

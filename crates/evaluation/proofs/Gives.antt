@@ -10,8 +10,8 @@ use Rattle.program.specs.Program.{Term, Rule, termIn, termsOf, ruleOf}
 use Rattle.program.specs.Evaluate.{sumBelow, larger, smaller, largestTo, smallestTo, holds, allHold, onlyIf, evaluate}
 use Rattle.program.specs.declared.Given.{Given}
 use Rattle.program.specs.declared.Given.the-variants.{Value}
-use Rattle.evaluation.specs.Readings.{readingOf, weighted, fewest, headless, Evaluable}
-use Rattle.evaluation.proofs.Bytes.{rest}
+use Rattle.bodies.specs.Readings.{readingOf, weighted, fewest, headless, Evaluable}
+use Rattle.parts.proofs.Bytes.{rest}
 
 module _ (r : Rule) (at : ℕ → ℤ) where
   pub gives-sum : r .form ≡ 1 → evaluate r at ≡ Value (r .c +ℤ sumBelow (λ i. termIn (r .terms) i .number *ℤ at i) (length (r .terms)))

@@ -5,8 +5,7 @@ ghost use lib.IntN.{pos};
 ghost use lib.ListN.{length, getD};
 ghost use Rattle.program.specs.Program.{constraintOf, termIn};
 ghost use Rattle.program.specs.Evaluate.{satisfied};
-ghost use Rattle.evaluation.specs.Readings.{Small, Satisfiable};
-use crate::bodies;
+ghost use Rattle.bodies.specs.Readings.{Small, Satisfiable};
 use format::Format;
 
 // The constraint in a field's value: form (1), c (2), terms.

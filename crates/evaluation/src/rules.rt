@@ -4,9 +4,8 @@ ghost use Prim.Native.Nat.{_+_, _*_};
 ghost use lib.ListN.{length, drop};
 ghost use Rattle.program.specs.Program.{ruleOf, termsOf};
 ghost use Rattle.program.specs.Evaluate.{onlyIf, evaluate};
-ghost use Rattle.evaluation.specs.Readings.{readingOf, headless, Small, Evaluable};
-use crate::bodies;
-use crate::numbers;
+ghost use Rattle.bodies.specs.Readings.{readingOf, headless, Small, Evaluable};
+use bodies::numbers;
 use format::Format;
 use program::Given;
 

@@ -12,7 +12,7 @@ use Rattle.program.specs.Fields.{tagAt, lengthAt, nextAt}
 use Rattle.program.specs.Program.{Variable, Program}
 use Rattle.program.specs.Refusals.{cutShort, unknownTag, tagBelow, oneTooMany, valueRefusal}
 use Rattle.fields.specs.Standing.{fieldAt}
-use Rattle.fields.specs.Faults.{lengthRefusal}
+use Rattle.values.specs.Lengths.{lengthRefusal}
 use Rattle.fields.specs.declared.cursor.Field.the-variants.{Whole, Short, End}
 
 module _ (s : List ℕ) (at : ℕ) where

@@ -1,5 +1,2 @@
-pub mod TermLaws
-pub mod FaultLaws
-pub mod ValueLaws
 pub mod FieldLaws
 pub mod ScanLaws

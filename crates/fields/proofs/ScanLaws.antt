@@ -22,13 +22,13 @@ use Rattle.program.specs.declared.Refusal.the-variants.{FileTooLong, CutShort, 
 use Rattle.program.proofs.Places.{passed-none, passed-more, passed-inside, passed-fine, place-next, before-next, not-cut, variables-stand, counts, variables-length}
 use Rattle.program.proofs.Counting.{countsTo, counts-more}
 use Rattle.fields.specs.Standing.{fieldAt}
-use Rattle.fields.specs.Faults.{Describes, checkedNumber}
-use Rattle.fields.specs.Scanning.{Counted}
+use Rattle.fields.specs.Scanning.{Describes, Counted}
+use Rattle.faults.specs.Faults.{checkedNumber}
 use Rattle.fields.specs.declared.cursor.Cursor.{Cursor}
 use Rattle.fields.specs.declared.cursor.Field.{Field}
 use Rattle.fields.specs.declared.cursor.Field.the-variants as field
-use Rattle.fields.specs.declared.answers.Checked.{Checked}
-use Rattle.fields.specs.declared.answers.Checked.the-variants.{Fine, Bad}
+use Rattle.faults.specs.declared.Checked.{Checked}
+use Rattle.faults.specs.declared.Checked.the-variants.{Fine, Bad}
 use Rattle.fields.proofs.cursor.Field.{enum}
 
 -- ---- what stands at a place, from the code's answer

@@ -2,7 +2,4 @@
 pub mod answers;
 pub mod checks;
 pub mod cursor;
-mod faults;
 pub mod scan;
-mod terms;
-mod values;

@@ -1,10 +1,10 @@
 // Reads all fields of a file, one after the other.
 ghost use Rattle.fields.specs.Scanning.{Scans};
-use crate::answers::Checked;
 use crate::answers::Scanned;
 use crate::checks;
 use crate::cursor::Cursor;
 use crate::cursor::Field;
+use faults::Checked;
 use format::Format;
 use program::Counts;
 use program::Refusal;

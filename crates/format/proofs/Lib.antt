@@ -1,2 +1,3 @@
 pub mod Int
 pub mod Ints
+pub mod Examples

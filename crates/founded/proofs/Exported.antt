@@ -9,10 +9,10 @@ use Rattle.meaning.specs.LeastCall as least
 use Rattle.verdict.specs.Checks.{Checks}
 use Rattle.verdict.specs.Checks as check
 use Rattle.verdict.specs.Demands.{Demands}
-use Rattle.founded.specs.declared.answers.Parts.{Parts}
-use Rattle.founded.specs.Packing.{packed, unpacked, readParts, leastParts, checkParts}
+use Rattle.packing.specs.declared.Parts.{Parts}
+use Rattle.packing.specs.Packing.{packed, unpacked, readParts, leastParts, checkParts}
 use Rattle.founded.specs.Exports.{ExportedRead, ExportedLeast, ExportedCheck}
-use Rattle.founded.proofs.Unpacked.{read-unpacks, least-unpacks, check-unpacks}
+use Rattle.packing.proofs.Unpacked.{read-unpacks, least-unpacks, check-unpacks}
 
 module _ {p : Parts} {r : ℕ} (e : r ≡ packed p) where
   pub exported-read : {s : List ℕ} {x : read.Answer} → Reads s x → p ≡ readParts x → ExportedRead s r

@@ -1,3 +1,1 @@
-pub mod Bounds
-pub mod Unpacked
 pub mod Exported

@@ -9,7 +9,7 @@ use Rattle.meaning.specs.LeastCall as least
 use Rattle.verdict.specs.Checks.{Checks}
 use Rattle.verdict.specs.Checks as check
 use Rattle.verdict.specs.Demands.{Demands}
-use Rattle.founded.specs.Packing.{packed, unpacked, readParts, leastParts, checkParts}
+use Rattle.packing.specs.Packing.{packed, unpacked, readParts, leastParts, checkParts}
 
 pub record ExportedRead (s : List ℕ) (r : ℕ) : Type 0 where
   pub answer : read.Answer

@@ -1,12 +1,9 @@
 // The C interface: the three calls, each with its answer packed in a number. include/founded.h declares them and takes the answers apart.
 ghost use Rattle.founded.specs.Exports.{ExportedRead, ExportedLeast, ExportedCheck};
-
-pub mod answers;
-
-use answers::of_reading;
-use answers::of_solved;
-use answers::of_verdict;
-use answers::pack;
+use packing::of_reading;
+use packing::of_solved;
+use packing::of_verdict;
+use packing::pack;
 
 // The three counts of an accepted file, or the first refusal.
 #[no_mangle]
@@ -21,7 +18,7 @@ pub extern "C" fn founded_read(file: &[u8]) -> u64
 pub extern "C" fn founded_least(file: &[u8], assignment: &[u8], buffer: &mut [u8]) -> u64
     ensures { λ r. ⌜ ExportedLeast (now (file .entry)) (now (assignment .entry)) (now (buffer .entry)) r (now (buffer .exit)) ⌝ }
 {
-    pack(of_solved(meaning::call::least(file, assignment, buffer)))
+    pack(of_solved(least::call::least(file, assignment, buffer)))
 }
 
 // The verdict on an assignment, and for an unfounded one the report, from its first byte on.
@@ -29,5 +26,5 @@ pub extern "C" fn founded_least(file: &[u8], assignment: &[u8], buffer: &mut [u8
 pub extern "C" fn founded_check(file: &[u8], assignment: &[u8], report: &mut [u8]) -> u64
     ensures { λ r. ⌜ ExportedCheck (now (file .entry)) (now (assignment .entry)) (now (report .entry)) r (now (report .exit)) ⌝ }
 {
-    pack(of_verdict(verdict::call::check(file, assignment, report)))
+    pack(of_verdict(checker::call::check(file, assignment, report)))
 }

@@ -1,18 +1,22 @@
 -- Assignments in their ranges. Past the last variable stands one of range 0..0, and an assignment reads 0 there.
-use Prim.Native.Nat.{ℕ, _+_, _*_, _<_, _≤_}
+use Prim.Native.Nat.{ℕ, zero, suc, _+_, _*_, _<_, _≤_}
 use mathlib.Core.Path.{_≡_}
-use mathlib.Core.List.{List}
+use mathlib.Core.List.{List, [], _∷_}
 use native.Mathlib.Omega.{arith}
-use lib.IntN.{pos}
-use lib.Signed.{leZ}
+use lib.IntN.{ℤ, pos, negsuc, natAbs}
+use lib.Signed.{leZ, leZ-yes, _≤ℤ_}
 use lib.ListN.{length, List·getD-eq-default}
 use lib.Dec.{T, ltb, ltb→lt, nltb→le}
-use Rattle.format.proofs.Int.{int}
+use Rattle.format.specs.Limits.{maxNumber}
+use Rattle.format.proofs.Int.{int, abs-is}
 use Rattle.program.specs.Program.{Variable, Program, noVariable, variableIn, founded}
+use Rattle.program.proofs.Promises.{VariablePromise, Promises}
+use Rattle.bodies.specs.Readings.{Small}
 use Rattle.meaning.specs.Founded.{Valuation, Within}
 use Rattle.meaning.specs.Reduct.{system}
 use Rattle.meaning.specs.Stable.{assigned}
 use Rattle.meaning.specs.LeastCall.{inRange, AllInside}
+use Rattle.meaning.specs.Values.{valued}
 use Rattle.meaning.proofs.Tests.{cases, is-true, is-test, and-left, and-right, and-both}
 
 -- a founded variable is declared
@@ -51,3 +55,23 @@ module _ (P : Program) {θ : Valuation} where
 
 pub assigned-within : (P : Program) (a : List ℕ) → length a ≤ 2 * length (P .variables) → AllInside P (assigned a) → Within (system P) (assigned a)
 assigned-within P a h = inside-within P (λ v k. assigned-past a v (omega arith))
+
+-- ---- values in their ranges are small
+
+ranged : (vs : List Variable) (x : ℕ) → ((y : ℕ) → y < length vs → VariablePromise (variableIn vs y))
+    → (natAbs (variableIn vs x .low) ≤ maxNumber) × (natAbs (variableIn vs x .high) ≤ maxNumber)
+ranged [] x h = (omega arith, omega arith)
+ranged (v ∷ vs) zero h = let p = h 0 (omega arith) in (p .low-small, p .high-small)
+ranged (v ∷ vs) (suc x) h = ranged vs x (λ y l. h (suc y) (omega arith))
+
+between : (n : ℕ) (l z h : ℤ) → l ≤ℤ z → z ≤ℤ h → natAbs l ≤ n → natAbs h ≤ n → natAbs z ≤ n
+between n l (pos z) h p q a b = omega (int, abs-is h)
+between n l (negsuc z) h p q a b = omega (int, abs-is l)
+
+pub value-small : {P : Program} → Promises P → {m : Valuation} → Within (system P) m → (v : ℕ) → natAbs (m v) ≤ maxNumber
+value-small {P} p {m} w v =
+    let r = ranged (P .variables) v (p .variables) in
+    between maxNumber (variableIn (P .variables) v .low) (m v) (variableIn (P .variables) v .high) (leZ-yes (w .low v .le)) (leZ-yes (w .high v .le)) (r .0) (r .1)
+
+pub within-small : {P : Program} → Promises P → (m : List ℤ) → Within (system P) (valued m) → Small m
+within-small p m = value-small p

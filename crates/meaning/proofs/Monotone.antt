@@ -20,7 +20,7 @@ use Rattle.program.specs.declared.Direction.the-variants.{Rising, Falling, Mixe
 use Rattle.program.specs.declared.Given.the-variants.{Value}
 use Rattle.program.proofs.Promises.{RulePromise, Promises, carried-place}
 use Rattle.evaluation.proofs.Gives.{gives-sum, gives-largest, gives-smallest, gives-product, gives-size, gives-literals, gives-carried, seven}
-use Rattle.evaluation.proofs.Pushes.{push-sum, push-plain, push-size, push-literal}
+use Rattle.parts.proofs.Pushes.{push-sum, push-plain, push-size, push-literal}
 use Rattle.meaning.specs.Founded.{Valuation, Within}
 use Rattle.meaning.specs.Reduct.{placed, kept, reading, gives, system}
 use Rattle.meaning.proofs.Tests.{cases, is-test, and-left, and-right, and-both}

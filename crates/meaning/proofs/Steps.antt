@@ -15,7 +15,7 @@ use Rattle.program.specs.Program.{Program, Rule, Variable, variableIn}
 use Rattle.program.specs.declared.Given.{Given}
 use Rattle.program.specs.declared.Given.the-variants.{Nothing, Value}
 use Rattle.program.proofs.Conditions.{never, none-below}
-use Rattle.evaluation.specs.Readings.{Evaluable}
+use Rattle.bodies.specs.Readings.{Evaluable}
 use Rattle.evaluation.proofs.Gives.{evaluate-same}
 use Rattle.meaning.specs.Founded.{Valuation, Reaches}
 use Rattle.meaning.specs.Reduct.{placed, kept, reading, gives, system}

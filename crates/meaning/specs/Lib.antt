@@ -6,9 +6,4 @@ pub mod LeastCall
 pub mod Unfounded
 pub mod Search
 pub mod Values
-pub mod Masks
 pub mod Reads
-pub mod Tabled
-pub mod Entries
-pub mod Running
-pub mod Starred

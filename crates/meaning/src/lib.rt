@@ -1,13 +1,5 @@
-// The meaning of a program: the reduct and its least model.
-pub mod call;
-pub mod demands;
-pub mod places;
-pub mod refusals;
-pub mod solve;
-pub mod tables;
-pub mod values;
-pub mod writing;
-
+// The meaning of a program: the reduct, its least model, stable assignments, unfounded sets; and the answers of the calls. The definitions
+// stand in specs/, the laws about them in proofs/.
 use program::Counts;
 use program::Refusal;
 
@@ -30,22 +22,4 @@ pub enum Solved {
     Range(usize),
     Nothing,
     Found,
-}
-
-// What a rule asks of its head: more than it has, or no more.
-pub enum Demand {
-    More(i64),
-    Enough,
-}
-
-// The lowest rule that demands more than its head has, with what it gives, or that there is none.
-pub enum Step {
-    Raise(usize, i64),
-    Done,
-}
-
-// The least model was reached, or there is no model.
-pub enum Ending {
-    Model,
-    NoModel,
 }

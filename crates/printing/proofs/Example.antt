@@ -1,10 +1,10 @@
 -- Document 01, "The printing program": what its example prints.
 use mathlib.Core.List.{[], _∷_, _++_}
 use lib.Dec.{lit≤}
-use Rattle.meaning.specs.Starred.{small, printed}
-use Rattle.verdict.proofs.Starred.{starred-checks}
-use Rattle.printing.specs.Decimal.{digits, decimal}
-use Rattle.printing.specs.Text.{word, answerLine, entryLine, entryLines}
+use Rattle.plans.specs.Starred.{small, printed}
+use Rattle.plans.proofs.StarredChecks.{starred-checks}
+use Rattle.text.specs.Decimal.{digits, decimal}
+use Rattle.entries.specs.Text.{word, answerLine, entryLine, entryLines}
 use Rattle.printing.specs.Prints.{misframed, blank, Prints, checked}
 
 pub example-prints : Prints (0x00 ∷ 0x39 ∷ printed ++ small 0 (small 1 (small 1 []))) (word "unfounded 2 1\nmost 1 0\nmost 2 0\nwhen 0 <= 0\n")

@@ -16,12 +16,12 @@ use Rattle.verdict.specs.Demands.{variableAt, markAt, numberAt, Shows, Demands}
 use Rattle.verdict.proofs.Demanded.{checks-demands}
 use Rattle.verdict.proofs.Determined.{checks-unique}
 use Rattle.verdict.proofs.Total.{checks-total}
-use Rattle.printing.specs.Decimal.{decimal, number}
-use Rattle.printing.specs.Output.{Holds, Appends}
-use Rattle.printing.specs.Text.{word, line, answerLine, entryLine, entriesOf, textOf, firstMost, entryMost}
+use Rattle.text.specs.Decimal.{decimal, number}
+use Rattle.text.specs.Output.{Holds, Appends}
+use Rattle.entries.specs.Text.{word, line, answerLine, entryLine, entriesOf, textOf, firstMost, entryMost}
 use Rattle.printing.specs.Prints.{maxInput, announced, fileIn, assignmentIn, misframed, reportBytes, blank, Prints, bad-frame, checked, room, Told, Printed}
-use Rattle.printing.proofs.OutputLaws.{holds-none}
-use Rattle.printing.proofs.TextLaws.{most-line, at-most-line, at-least-line, no-entries}
+use Rattle.text.proofs.OutputLaws.{holds-none}
+use Rattle.entries.proofs.TextLaws.{most-line, at-most-line, at-least-line, no-entries}
 
 -- ---- the framing
 

@@ -1,4 +1,1 @@
-pub mod Decimal
-pub mod Output
-pub mod Text
 pub mod Prints

@@ -8,8 +8,8 @@ use Rattle.format.specs.Limits.{maxVariables}
 use Rattle.format.specs.Numbers.{unsignedAt}
 use Rattle.meaning.specs.Calls.{checkBytes}
 use Rattle.verdict.specs.Checks.{Answer, refusal, Checks}
-use Rattle.printing.specs.Text.{textOf, firstMost, entryMost}
-use Rattle.printing.specs.Output.{Holds}
+use Rattle.entries.specs.Text.{textOf, firstMost, entryMost}
+use Rattle.text.specs.Output.{Holds}
 
 -- "over 61,000 in all"
 abbrev pub maxInput : ℕ

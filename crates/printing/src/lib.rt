@@ -1,16 +1,11 @@
 // The printing program's text: the answer of the check, and its report's entries, in lines.
 ghost use mathlib.Core.Path.{_≡_};
 ghost use Rattle.printing.specs.Prints.{maxInput, misframed, reportBytes, room, Told, Printed};
-
-pub mod answers;
-pub mod lines;
-pub mod writing;
-
-use answers::put_answer;
-use answers::put_two;
+use calls::Call;
+use checker::call::check;
 use format::Format;
-use meaning::refusals::Call;
-use verdict::call::check;
+use lines::put_answer;
+use lines::put_two;
 
 pub struct Printing {}
 

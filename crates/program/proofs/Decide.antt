@@ -9,11 +9,10 @@ use lib.ListN.{length}
 use lib.Dec.{eqb}
 use borrow.Author.Tests.{eqb-true, eq-eqb}
 use Rattle.program.specs.Tables.{anyBelow}
-use Rattle.sets.specs.Walk.{Walk, edge, step}
+use Rattle.walks.specs.Walk.{Walk, edge, step}
 use Rattle.program.specs.Program.{Program, Rule, ruleIn, termIn, program}
 use Rattle.program.specs.Directions.{direction, isMixed}
-use Rattle.program.specs.Components.{draws, Reaches, Share, Offends}
-use Rattle.program.specs.Components.{edge as drawn}
+use Rattle.program.specs.Components.{draws, Reaches, Share, Offends, edge as drawn}
 use Rattle.program.specs.Reading.{Passed}
 use Rattle.program.proofs.Conditions.{never, both, some-below, below-some, last-or}
 use Rattle.program.proofs.Promises.{passed-rule}

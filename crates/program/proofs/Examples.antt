@@ -1,6 +1,6 @@
--- Document 01's small examples, shown of the specification; and two wrong readers that it rules out.
+-- Document 01's small examples, shown of the specification; and wrong readers that it rules out.
 use Prim.Native.Nat.{ℕ}
-use mathlib.Core.Path.{_≡_, refl, sym, _∙_}
+use mathlib.Core.Path.{_≡_, refl, sym, ap, _∙_}
 use mathlib.Core.Logic.{inr}
 use mathlib.Core.List.{List, [], _∷_}
 use mathlib.Core.Bool.{Bool, false}
@@ -8,7 +8,7 @@ use lib.Dec.{lit<, lit≤}
 use lib.ListN.{length}
 use native.Mathlib.Omega.{arith}
 use Rattle.format.specs.Numbers.{beyond}
-use Rattle.sets.specs.Walk as walk
+use Rattle.walks.specs.Walk as walk
 use Rattle.program.specs.Tables.{anyBelow}
 use Rattle.program.specs.Fields.{place, tagBefore}
 use Rattle.program.specs.Program.{Program, program, termsOf, ruleIn}
@@ -78,7 +78,10 @@ unfolding computes
 row-10 = bad-field {k = 0} (passed-none _ (lit≤ tt)) (lit< tt) (lit< tt)
 
 -- a ≥ 2·b - b
-pub row-11 : Reads (variable 1 (variable 1 (2 ∷ 0 ∷ 12 ∷ 1 ∷ 0 ∷ 0 ∷ 0 ∷ 1 ∷ 0 ∷ 0 ∷ 2 ∷ 1 ∷ 0 ∷ 255 ∷ 255 ∷ []))) (refused 11 16)
+abbrev repeated : List ℕ
+repeated = variable 1 (variable 1 (2 ∷ 0 ∷ 12 ∷ 1 ∷ 0 ∷ 0 ∷ 0 ∷ 1 ∷ 0 ∷ 0 ∷ 2 ∷ 1 ∷ 0 ∷ 255 ∷ 255 ∷ []))
+
+pub row-11 : Reads repeated (refused 11 16)
 unfolding computes
 row-11 = bad-field {k = 2} (passed-more (passed-more (passed-none _ (lit≤ tt)) (lit< tt) refl) (lit< tt) refl) (lit< tt) (lit< tt)
 
@@ -111,10 +114,42 @@ row-13-from-zero =
     (record { passed = passed-more (passed-more (passed-more (passed-more (passed-none _ (lit≤ tt)) (lit< tt) refl) (lit< tt) refl) (lit< tt) refl) (lit< tt) refl; ended = lit≤ tt })
     (none-mixed _ refl)
 
--- a reader whose every answer is the specification's turns some file down and accepts some file
+-- ---- a reader whose every answer is the specification's
+
+-- a wrong answer, beside the specification's
+accepted-not : (a b c n at : ℕ) → accepted a b c ≡ refused n at → ⊥
+accepted-not a b c n at e = let z : _≡_ {A = ℕ} 0 1 = cc in omega arith
+
+abbrev place-of : Answer → ℕ
+place-of (accepted a b c) = 0
+place-of (refused n at) = at
+
 module _ (read : List ℕ → Answer) (right : (s : List ℕ) → Reads s (read s)) where
+  answers : (s : List ℕ) {r r′ : Answer} → Reads s r → read s ≡ r′ → r ≡ r′
+  answers s h e = reads-unique h (right s) ∙ e
+
+  -- it turns some file down and accepts some file
   pub not-refusing : (n at : ℕ) → read [] ≡ refused n at → ⊥
-  not-refusing n at e = let q : refused n at ≡ accepted 0 0 0 = sym e ∙ reads-unique (right []) empty in let z : _≡_ {A = ℕ} 0 1 = cc in omega arith
+  not-refusing n at e = accepted-not 0 0 0 n at (answers [] empty e)
 
   pub not-accepting : (a b c : ℕ) → read (0x09 ∷ []) ≡ accepted a b c → ⊥
-  not-accepting a b c e = let q : accepted a b c ≡ refused 2 0 = sym e ∙ reads-unique (right _) cut-header in let z : _≡_ {A = ℕ} 0 1 = cc in omega arith
+  not-accepting a b c e = accepted-not a b c 2 0 (sym (answers _ cut-header e))
+
+  -- it compares a variable with that at the first place of the body: one that leaves this place out accepts `a ≥ 2·b - b`
+  pub not-first-place-left-out : (a b c : ℕ) → read repeated ≡ accepted a b c → ⊥
+  not-first-place-left-out a b c e = accepted-not a b c 11 16 (sym (answers _ row-11 e))
+
+  -- it looks at the first rule: one that passes it over accepts row 13's file
+  pub not-first-rule-passed-over : (a b c : ℕ) → read (sized 255 246) ≡ accepted a b c → ⊥
+  not-first-rule-passed-over a b c e = accepted-not a b c 13 16 (sym (answers _ row-13 e))
+
+  -- it gives the place of that rule's tag, at 16, and not that of its value
+  pub not-place-of-the-value : read (sized 255 246) ≡ refused 13 19 → ⊥
+  not-place-of-the-value e = let q = ap place-of (answers _ row-13 e) in omega arith
+
+  -- it takes two fields of one tag, here at 0 and 8, and a field that ends with the file, here at 27
+  pub not-equal-tags : read (sized 0 0) ≡ refused 4 8 → ⊥
+  not-equal-tags e = accepted-not 2 2 0 4 8 (answers _ row-13-from-zero e)
+
+  pub not-field-at-the-end : read (sized 0 0) ≡ refused 2 27 → ⊥
+  not-field-at-the-end e = accepted-not 2 2 0 2 27 (answers _ row-13-from-zero e)

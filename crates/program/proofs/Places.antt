@@ -12,8 +12,7 @@ use borrow.Author.Tests.{ltb-false, leb-true, leb-false, eqb-true, not-false}
 use Rattle.format.specs.Limits.{maxFile, maxVariables, maxRules, maxConstraints, maxTerms}
 use Rattle.program.specs.Tables.{Condition, _when_, firstOf}
 use Rattle.program.specs.Fields.{tagAt, lengthAt, valueAt, nextAt, place, tagBefore}
-use Rattle.program.specs.Program.{Variable, Program, Item, variable, rule, constraint, none}
-use Rattle.program.specs.Program.{variableOf, ruleOf, constraintOf, termsOf, with, itemOf, item, program, variableIn, ruleIn, constraintIn, noVariable, noRule, noConstraint, variablesAt}
+use Rattle.program.specs.Program.{Variable, Program, Item, variable, rule, constraint, none, variableOf, ruleOf, constraintOf, termsOf, with, itemOf, item, program, variableIn, ruleIn, constraintIn, noVariable, noRule, noConstraint, variablesAt}
 use Rattle.program.specs.Refusals.{cutShort, unknownTag, tagBelow, oneTooMany, notTerms, wrongLength, undeclared, negativeProduct, itemRefusal, valueRefusal, fieldRefusal}
 use Rattle.program.specs.Reading.{Passed, Whole, RuleField}
 use Rattle.program.proofs.Bodies.{terms-length}

@@ -12,18 +12,13 @@ use lib.Seq.{take-add, take-all, take-append-seam, append-snoc, drop-append-add,
 use Rattle.format.specs.Limits.{maxFile, maxVariables, maxRules, maxConstraints, maxTerms}
 use Rattle.format.specs.Numbers.{bytesOf}
 use Rattle.program.specs.Fields.{tagAt, lengthAt, valueAt, nextAt, place, tagBefore}
-use Rattle.program.specs.Program.{Variable, Rule, Constraint, Program, Item, variable, rule, constraint}
-use Rattle.program.specs.Program.{with, itemOf, program, noVariable, noRule, noConstraint}
+use Rattle.program.specs.Program.{Variable, Rule, Constraint, Program, Item, variable, rule, constraint, with, itemOf, program, noVariable, noRule, noConstraint}
 use Rattle.program.specs.Refusals.{cutShort, unknownTag, tagBelow, oneTooMany, wrongLength, notTerms, itemRefusal, valueRefusal, fieldRefusal}
 use Rattle.program.specs.Components.{Valid}
 use Rattle.program.specs.Reading.{Passed, Whole, Accepts}
 use Rattle.program.specs.Encode.{each, fieldBytes, variableBytes, ruleBytes, constraintBytes, encode, Bytes, All, Proper}
-use Rattle.program.proofs.Places.{Fine, Next, a-variable, a-rule, a-constraint, next-of, alone, length-snoc}
-use Rattle.program.proofs.Places.{place-start, program-start, before-start, place-next, program-next, before-next, place-suc, value-length}
-use Rattle.program.proofs.Places.{passed-less, passed-none, passed-more, passed-fine, counts, variable-stands, rule-at, constraint-at}
-use Rattle.program.proofs.Encoding.{variableValue, ruleValue, constraintValue, front, variable-written, rule-written, constraint-written}
-use Rattle.program.proofs.Encoding.{body-small, variable-read, rule-read, constraint-read, terms-size, value-bytes, bytes-each, bytes-append}
-use Rattle.program.proofs.Encoding.{all-of, all-map, variable-bytes, rule-bytes, constraint-bytes}
+use Rattle.program.proofs.Places.{Fine, Next, a-variable, a-rule, a-constraint, next-of, alone, length-snoc, place-start, program-start, before-start, place-next, program-next, before-next, place-suc, value-length, passed-less, passed-none, passed-more, passed-fine, counts, variable-stands, rule-at, constraint-at}
+use Rattle.program.proofs.Encoding.{variableValue, ruleValue, constraintValue, front, variable-written, rule-written, constraint-written, body-small, variable-read, rule-read, constraint-read, terms-size, value-bytes, bytes-each, bytes-append, all-of, all-map, variable-bytes, rule-bytes, constraint-bytes}
 use Rattle.program.proofs.Promises.{variable-promised, rule-promised, constraint-promised}
 use Rattle.program.proofs.Conditions.{below-some}
 

@@ -5,7 +5,7 @@ use mathlib.Core.Logic.{_⊎_}
 use mathlib.Core.Bool.{Bool, true, _||_, _&&_}
 use lib.ListN.{length}
 use lib.Dec.{eqb}
-use Rattle.sets.specs.Walk.{Walk}
+use Rattle.walks.specs.Walk.{Walk}
 use Rattle.program.specs.Tables.{anyBelow}
 use Rattle.program.specs.Program.{Program, Rule, ruleIn, termIn}
 use Rattle.program.specs.Directions.{direction, isRising, isMixed}

@@ -12,7 +12,7 @@ use Rattle.program.specs.Refusals.{bodyForm}
 use Rattle.program.specs.Reading.{Accepts, Whole}
 use Rattle.program.proofs.Places.{place-next, passed-fine, variables-stand, variable-stands, rule-at, constraint-at, rule-length, constraint-length}
 use Rattle.program.proofs.Promises.{RulePromise, CountPromise, ConstraintPromise, rule-promised, constraint-promised}
-use Rattle.evaluation.specs.Readings.{Evaluable, Satisfiable, fewest}
+use Rattle.bodies.specs.Readings.{Evaluable, Satisfiable, fewest}
 use Rattle.evaluation.proofs.Gives.{seven}
 use Rattle.reader.specs.Parts.{rulePlace, constraintPlace, RuleLies, ConstraintLies}
 

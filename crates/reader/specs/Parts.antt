@@ -5,7 +5,7 @@ use mathlib.Core.List.{List}
 use lib.ListN.{length}
 use Rattle.program.specs.Fields.{place, valueAt, nextAt}
 use Rattle.program.specs.Program.{Program, ruleOf, constraintOf, ruleIn, constraintIn}
-use Rattle.evaluation.specs.Readings.{Evaluable, Satisfiable}
+use Rattle.bodies.specs.Readings.{Evaluable, Satisfiable}
 
 -- the variables' fields stand first, then the rules', then the constraints'
 abbrev pub rulePlace : List ℕ → Program → ℕ → ℕ

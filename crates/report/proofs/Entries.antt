@@ -9,7 +9,7 @@ use native.Mathlib.Numerals.{add-one}
 use native.Mathlib.Omega.{arith}
 use lib.ListN.{length, length-append}
 use Rattle.format.specs.Numbers.{bytesOf}
-use Rattle.sets.specs.Bit.{one-if, countFrom}
+use Rattle.words.specs.Bit.{one-if, countFrom}
 use Rattle.sets.proofs.Counts.{count-split}
 use Rattle.meaning.specs.Founded.{Valuation}
 use Rattle.report.specs.Report.{Entry, entry, entryBytes, bytesIn, atMost, atLeast, ascending, only, boundsOf, conditionsOf}

@@ -1,6 +1,2 @@
-pub mod Entries
 pub mod WritingLaws
-pub mod MemberLaws
-pub mod ShortLaws
-pub mod AskLaws
-pub mod AskedLaws
+pub mod Entries

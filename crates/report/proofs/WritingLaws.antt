@@ -12,7 +12,7 @@ use mir.Syntax.{w16}
 use mir.Val.{ofZ}
 use Rattle.format.specs.Limits.{maxVariables}
 use Rattle.format.specs.Numbers.{bytesOf}
-use Rattle.sets.specs.Bit.{NoneIn, countFrom}
+use Rattle.words.specs.Bit.{NoneIn, countFrom}
 use Rattle.meaning.specs.Founded.{Valuation}
 use Rattle.report.specs.Report.{Entry, entry, bytesIn, bound, atMost, atLeast, ascending, only, boundsOf, conditionsOf}
 use Rattle.report.specs.Written.{markedOf, marked, Wrote, Begins}

@@ -1,4 +1,2 @@
 pub mod Report
 pub mod Written
-pub mod Shortfall
-pub mod Asking

@@ -5,14 +5,14 @@ ghost use Prim.Native.Nat.{_+_, _*_, _≤_};
 ghost use lib.IntN.{natAbs};
 ghost use lib.ListN.{length, drop};
 ghost use Rattle.format.specs.Limits.{maxVariables, maxNumber};
-ghost use Rattle.sets.specs.Bit.{has, countFrom};
-ghost use Rattle.evaluation.specs.Readings.{Small};
+ghost use Rattle.words.specs.Bit.{has, countFrom};
+ghost use Rattle.bodies.specs.Readings.{Small};
 ghost use Rattle.meaning.specs.Values.{valued};
 ghost use Rattle.report.specs.Report.{entry, bytesIn, bound, atMost, atLeast, ascending, only, boundsOf, conditionsOf};
 ghost use Rattle.report.specs.Written.{markedOf, marked, Wrote, Begins};
 use format::Format;
-use sets::Found;
 use sets::Set;
+use words::Found;
 
 pub struct Mark {}
 

@@ -1,39 +1,28 @@
-// Tries the reader of rule files, the calls least and check and the printing call on document 01's examples, and prints their answers.
-mod bodies;
-mod build;
-mod by_form;
-mod calls;
-mod chains;
-mod circles;
-mod forms;
-mod limits;
-mod models;
-mod numbers;
-mod order;
-mod prints;
-mod reduct;
-mod rings;
-mod rows;
-mod show;
-mod table;
-mod verdicts;
+// Tries the reader of rule files, the calls least and check and the printing call on the cases of a table, and prints their answers. The table is
+// standard input; its first lines say how a case is written. For a line that is written otherwise `bad line` and its number are printed.
+mod answers;
+mod lending;
+mod lines;
+mod pieces;
 
-use crate::calls::Call;
+use libc::STDIN_FILENO;
+use libc::STDOUT_FILENO;
+use printing::Printing;
+
+// The table has fewer bytes.
+const TABLE: usize = 65536;
+
+// Room for the bytes of one case: the longest input of the printing program, and one byte more.
+const BYTES: usize = Printing::MAX_INPUT + 1;
 
 fn main() {
-    rows::all();
-    limits::all();
-    numbers::all();
-    by_form::all();
-    bodies::all();
-    circles::all();
-    order::all();
-    models::all(Call::Least);
-    reduct::all(Call::Least);
-    chains::all();
-    models::all(Call::Check);
-    reduct::all(Call::Check);
-    verdicts::all();
-    rings::all();
-    prints::all();
+    let mut table = [0u8; TABLE];
+    let mut bytes = [0u8; BYTES];
+    let mut room = [0u8; Printing::ROOM];
+    let n = io::read_full(STDIN_FILENO, &mut table);
+    if n == TABLE {
+        io::write_all(STDOUT_FILENO, b"the table is too long\n");
+        return;
+    }
+    lines::each(&table[..n], &mut bytes, &mut room);
 }

@@ -14,8 +14,8 @@ use lib.Count.{ones, ones-step}
 use lib.ListN.{getD}
 use borrow.Author.Tests.{eq-eqb}
 use Rattle.format.specs.Limits.{maxVariables}
-use Rattle.sets.specs.Bit.{wordBits, bit, has, one-if, countFrom, sizeBelow}
-use Rattle.sets.proofs.Bits.{bit-suc, no-two}
+use Rattle.words.specs.Bit.{wordBits, bit, has, one-if, countFrom, sizeBelow}
+use Rattle.words.proofs.Bits.{bit-suc, no-two}
 
 move : (x i : ℕ) → suc x + i ≡ x + suc i
 move x i = omega arith

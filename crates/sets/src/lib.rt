@@ -1,45 +1,26 @@
 // A set of variables: one bit for each number.
-mod reach;
-pub mod words;
-
 use format::Format;
-pub use reach::Rows;
-pub use reach::close;
-pub use reach::join;
-pub use reach::mark;
-pub use reach::round;
-pub use reach::row_has;
+use words::Found;
+use words::Words;
 ghost use mathlib.Core.Path.{_≡_};
 ghost use mathlib.Core.Bool.{_||_, false};
 ghost use Prim.Native.Nat.{ℕ};
 ghost use lib.Dec.{eqb};
 ghost use Rattle.format.specs.Limits.{maxVariables};
-ghost use Rattle.sets.specs.Bit.{wordBits, wordCount, has, countFrom, NextIs};
-ghost use Rattle.sets.specs.Walk.{rowsLength};
+ghost use Rattle.words.specs.Bit.{wordCount, has, countFrom, NextIs};
 
 // The words' bits are the numbers in order, the lowest bit first.
 pub struct Set {
     pub words: [u64; Set::WORDS],
 }
 
-// A variable that was looked for, or that there is none.
-pub enum Found {
-    At(usize),
-    Nothing,
-}
-
 impl Set {
     // The words of a set.
     pub const WORDS: usize = 4;
 
-    // The bits of a word.
-    pub const BITS: usize = 64;
-
-    // The constants of the code are those of the specification.
+    // The constant of the code is that of the specification.
     pub fn quoted()
         ensures { λ _. do ⌜ (← ⟦Set::WORDS⟧ .entry) ≡ wordCount ⌝ }
-        ensures { λ _. do ⌜ (← ⟦Set::BITS⟧ .entry) ≡ wordBits ⌝ }
-        ensures { λ _. do ⌜ (← ⟦Rows::LENGTH⟧ .entry) ≡ rowsLength ⌝ }
     {}
 
     // The set that has nothing.
@@ -56,8 +37,8 @@ impl Set {
         ensures { λ r. ⌜ r ≡ has (self .words) v ⌝ }
     {
         let at = v as usize;
-        let w = self.words[at / Set::BITS];
-        (w >> (at % Set::BITS)) % 2 == 1
+        let w = self.words[at / Words::BITS];
+        (w >> (at % Words::BITS)) % 2 == 1
     }
 
     // The set takes in v.
@@ -65,8 +46,8 @@ impl Set {
         ensures { λ r. ⌜ ((i : ℕ) → has (r .words) i ≡ (eqb i v || has (self .words) i)) ⌝ }
     {
         let at = v as usize;
-        let k = at / Set::BITS;
-        let one = 1u64 << (at % Set::BITS);
+        let k = at / Words::BITS;
+        let one = 1u64 << (at % Words::BITS);
         self.words[k] = self.words[k] | one;
         self
     }
@@ -101,13 +82,13 @@ impl Set {
     {
         let mut at = from;
         while at < Format::MAX_VARIABLES {
-            let w = self.words[at / Set::BITS] >> (at % Set::BITS);
+            let w = self.words[at / Words::BITS] >> (at % Words::BITS);
             if w != 0 {
                 let zeros = u64::trailing_zeros(w) as usize;
                 let found = at + zeros;
                 return Found::At(found);
             }
-            at = (at / Set::BITS + 1) * Set::BITS;
+            at = (at / Words::BITS + 1) * Words::BITS;
         }
         Found::Nothing
     }

@@ -9,11 +9,12 @@ use lib.ListN.{length, getD, replicate}
 use lib.Dec.{eqb}
 use borrow.Author.Tests.{eq-eqb, eqb-true}
 use Rattle.format.specs.Limits.{maxVariables}
-use Rattle.sets.specs.Bit.{wordBits, wordCount, bit}
-use Rattle.sets.specs.Walk.{rowHas, Walk, Reached}
-use Rattle.sets.specs.Walk as walk
-use Rattle.sets.proofs.Bits.{bit-zero}
-use Rattle.sets.proofs.Walks.{stops-below}
+use Rattle.words.specs.Bit.{wordBits, wordCount, bit}
+use Rattle.reach.specs.Rows.{rowHas}
+use Rattle.walks.specs.Walk.{Walk, Reached}
+use Rattle.walks.specs.Walk as walk
+use Rattle.words.proofs.Bits.{bit-zero}
+use Rattle.walks.proofs.Walks.{stops-below}
 use Rattle.program.specs.Tables.{anyBelow}
 use Rattle.program.specs.Program.{Variable, Rule, Program, program, ruleIn, termIn}
 use Rattle.program.specs.Components as components
@@ -25,7 +26,8 @@ use Rattle.program.proofs.Places.{variables-length}
 use Rattle.program.proofs.Promises.{Promises, passed-promises}
 use Rattle.fields.specs.Scanning.{Counted}
 use Rattle.validity.specs.Judging.{Judges}
-use Rattle.validity.specs.Marks.{Grown, anyMixed, drawsAt, drawsIn, shareIn, offendsAt, offendsIn, mixedRule, edgeIn, offendsRule, JudgedBy}
+use Rattle.edges.specs.Edges.{Grown, anyMixed, drawsAt, drawsIn, shareIn, offendsAt, offendsIn}
+use Rattle.validity.specs.Marks.{mixedRule, edgeIn, offendsRule, JudgedBy}
 use Rattle.validity.specs.declared.Judged.{Judged}
 use Rattle.validity.specs.declared.Judged.the-variants.{Valid, Offending}
 use Rattle.validity.proofs.RuleLaws.{counted-variables, variables-few, rule-stands, rule-is, rule-promise}

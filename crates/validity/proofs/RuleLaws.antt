@@ -15,10 +15,11 @@ use Rattle.program.specs.declared.Counts.{Counts}
 use Rattle.program.proofs.Conditions.{last-or}
 use Rattle.program.proofs.Places.{RuleStands, Fine, variablesTo, variables-length, variables-stand, rule-at, rule-length, passed-fine, place-next, counts}
 use Rattle.program.proofs.Promises.{RulePromise, passed-rule}
-use Rattle.evaluation.proofs.Bytes.{place-variable}
+use Rattle.parts.proofs.Bytes.{place-variable}
 use Rattle.fields.specs.Scanning.{Counted}
-use Rattle.validity.specs.Marks.{Standing, Spans, Grown, anyMixed, drawsIn, ruleAt, mixedRule, edgeIn}
-use Rattle.validity.proofs.PlaceLaws.{grown-done}
+use Rattle.edges.specs.Edges.{Standing, Grown, anyMixed, drawsIn}
+use Rattle.validity.specs.Marks.{Spans, ruleAt, mixedRule, edgeIn}
+use Rattle.edges.proofs.PlaceLaws.{grown-done}
 
 -- the value of a field, as a part of the file
 pub value-part : (s : List ℕ) (j at : ℕ) {start len next : ℕ} → at ≡ place s j → Spans s at start len next

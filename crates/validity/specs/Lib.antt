@@ -1,2 +1,2 @@
-pub mod Judging
 pub mod Marks
+pub mod Judging

@@ -1,11 +1,9 @@
 // Whether a file is valid: no rule has a mixed variable in its head's component.
-mod edges;
-mod places;
 mod rules;
 
 use program::Counts;
-use sets::Rows;
-use sets::close;
+use reach::Rows;
+use reach::close;
 ghost use Prim.Native.Nat.{ℕ};
 ghost use Rattle.program.specs.Reading.{Whole};
 ghost use Rattle.fields.specs.Scanning.{Counted};

@@ -3,16 +3,16 @@ ghost use mathlib.Core.Path.{_≡_};
 ghost use Prim.Native.Nat.{_≤_};
 ghost use lib.ListN.{length};
 ghost use Rattle.program.specs.Fields.{nextAt};
-ghost use Rattle.sets.specs.Walk.{rowsLength, rowHas};
+ghost use Rattle.reach.specs.Rows.{rowsLength, rowHas};
 ghost use Rattle.fields.specs.Scanning.{Counted};
-ghost use Rattle.validity.specs.Marks.{Grown, Spans, mixedRule, edgeIn, JudgedBy};
+ghost use Rattle.edges.specs.Edges.{Grown};
+ghost use Rattle.validity.specs.Marks.{Spans, mixedRule, edgeIn, JudgedBy};
 use crate::Judged;
-use crate::edges;
-use crate::places;
+use edges::places;
 use fields::cursor;
 use fields::cursor::Extent;
 use program::Counts;
-use sets::Rows;
+use reach::Rows;
 
 // The extent of a field that is not cut short, which ends within the file.
 fn extent(file: &[u8], at: usize) -> Extent

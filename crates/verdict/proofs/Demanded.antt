@@ -19,8 +19,7 @@ use Rattle.meaning.proofs.Monotone.{laws}
 use Rattle.meaning.proofs.InRanges.{within-inside}
 use Rattle.meaning.proofs.Determined.{same-refusal, refused-or-called}
 use Rattle.report.specs.Report.{shown}
-use Rattle.verdict.specs.Checks.{Answer, refusal, range, rule, constraint, unfounded, stable, Judged, outside, rule-unmet, constraint-unmet, not-founded, founded}
-use Rattle.verdict.specs.Checks.{Checks, turned-down, judged}
+use Rattle.verdict.specs.Checks.{Answer, refusal, range, rule, constraint, unfounded, stable, Judged, outside, rule-unmet, constraint-unmet, not-founded, founded, Checks, turned-down, judged}
 use Rattle.verdict.specs.Demands.{HasUnfounded, Shows, NotRefused, Demands}
 use Rattle.verdict.proofs.Shown.{report-shows}
 

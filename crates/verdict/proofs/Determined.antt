@@ -14,8 +14,7 @@ use Rattle.meaning.proofs.Theory.{least-unique}
 use Rattle.meaning.proofs.Monotone.{laws}
 use Rattle.meaning.proofs.Determined.{same-outside, same-refusal, refused-or-called}
 use Rattle.report.specs.Report.{bounds, conditions, reported}
-use Rattle.verdict.specs.Checks.{Answer, range, rule, constraint, unfounded, FirstUnmet}
-use Rattle.verdict.specs.Checks.{Judged, outside, rule-unmet, constraint-unmet, not-founded, founded, Checks, turned-down, judged}
+use Rattle.verdict.specs.Checks.{Answer, range, rule, constraint, unfounded, FirstUnmet, Judged, outside, rule-unmet, constraint-unmet, not-founded, founded, Checks, turned-down, judged}
 use Rattle.verdict.proofs.Demanded.{never-outside, none-short}
 
 same-unmet : {Met : ℕ → Type 0} {n i j : ℕ} → FirstUnmet Met n i → FirstUnmet Met n j → i ≡ j

@@ -1,11 +1,5 @@
+pub mod Determined
+pub mod Total
 pub mod Listed
 pub mod Shown
 pub mod Demanded
-pub mod Determined
-pub mod Total
-pub mod Starred
-pub mod Wrong
-pub mod MetLaws
-pub mod ReportLaws
-pub mod FoundedLaws
-pub mod CheckLaws

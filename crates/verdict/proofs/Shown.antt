@@ -25,13 +25,11 @@ use Rattle.meaning.specs.Unfounded.{over, Unfounded, Condition, Conditions}
 use Rattle.meaning.proofs.Tests.{cases, is-true, is-test, and-left}
 use Rattle.meaning.proofs.Theory.{self-model, inside-short, short-unfounded, bounded}
 use Rattle.meaning.proofs.Monotone.{laws}
-use Rattle.meaning.proofs.InRanges.{founded-declared}
-use Rattle.meaning.proofs.SolveLaws.{value-small}
-use Rattle.report.specs.Report.{Entry, entry, bytesIn, asksMost, asksLeast, askedBy, asked, shown, bounds, conditions}
+use Rattle.meaning.proofs.InRanges.{founded-declared, value-small}
+use Rattle.report.specs.Report.{Entry, bytesIn, asksMost, asksLeast, askedBy, asked, shown, bounds, conditions}
 use Rattle.report.proofs.Entries.{bytes-length}
 use Rattle.verdict.specs.Demands.{variableAt, markAt, numberAt, isShown, shownBound, Met, ConditionsMet, Shows}
-use Rattle.verdict.proofs.Listed.{entryIn, Listed, left-is, right-is, both-length, once-by-key, bounds-every, bounds-listed, bounds-sorted}
-use Rattle.verdict.proofs.Listed.{conditions-every, most-listed, least-listed, conditions-sorted, variable-at, mark-at, number-at}
+use Rattle.verdict.proofs.Listed.{entryIn, Listed, left-is, right-is, both-length, once-by-key, bounds-every, bounds-listed, bounds-sorted, conditions-every, most-listed, least-listed, conditions-sorted, variable-at, mark-at, number-at}
 
 -- ---- tests
 

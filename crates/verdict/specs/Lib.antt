@@ -1,4 +1,2 @@
 pub mod Checks
 pub mod Demands
-pub mod Starred
-pub mod Met

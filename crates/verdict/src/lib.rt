@@ -1,10 +1,4 @@
-// The check of an assignment.
-pub mod call;
-pub mod constraints;
-pub mod founded;
-pub mod reporting;
-pub mod rules;
-
+// What the check answers, and the mission's three demands. The definitions stand in specs/, the laws about them in proofs/.
 use meaning::Denied;
 
 // What the call check answers.

@@ -1,4 +1,4 @@
-use Rattle.founded.proofs.Bounds.{check-fits}
+use Rattle.packing.proofs.Bounds.{check-fits}
 use Rattle.founded.proofs.Exported.{exported-check}
 use borrow.Author.Needs.{needs}
 use Rattle.founded.proofs.founded_check.Statement.{statement}

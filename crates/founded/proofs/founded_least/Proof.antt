@@ -1,4 +1,4 @@
-use Rattle.founded.proofs.Bounds.{least-fits}
+use Rattle.packing.proofs.Bounds.{least-fits}
 use Rattle.founded.proofs.Exported.{exported-least}
 use borrow.Author.Needs.{needs}
 use Rattle.founded.proofs.founded_least.Statement.{statement}

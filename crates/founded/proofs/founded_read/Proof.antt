@@ -1,4 +1,4 @@
-use Rattle.founded.proofs.Bounds.{read-fits}
+use Rattle.packing.proofs.Bounds.{read-fits}
 use Rattle.founded.proofs.Exported.{exported-read}
 use borrow.Author.Needs.{needs}
 use Rattle.founded.proofs.founded_read.Statement.{statement}

@@ -3,7 +3,7 @@ use mathlib.Core.Bool.{false}
 use Prim.Native.Nat.{ℕ, _+_, _≤_}
 use native.Mathlib.Omega.{arith}
 use lib.ListN.{length}
-use Rattle.printing.specs.Text.{answerLine}
+use Rattle.entries.specs.Text.{answerLine}
 use Rattle.printing.specs.Prints.{announced, misframed}
 use Rattle.printing.proofs.PrintLaws.{framed, printed-refusal, printed-told}
 use borrow.Author.Needs.{needs}

@@ -1,7 +1,7 @@
 use native.Mathlib.Omega.{arith}
 use mathlib.Core.Path.{sym, _∙_}
 use borrow.Author.Tests.{not-true}
-use Rattle.sets.specs.Walk.{rowsLength}
+use Rattle.reach.specs.Rows.{rowsLength}
 use Rattle.validity.proofs.RuleLaws.{variables-few}
 use Rattle.validity.proofs.ComponentLaws.{rows-none, judged-none, judged}
 use borrow.Author.Needs.{needs}

@@ -10,8 +10,8 @@ use Rattle.format.specs.Limits.{maxNumber}
 use Rattle.program.specs.Program.{termsOf}
 use Rattle.program.specs.Evaluate.{sumBelow, onlyIf}
 use Rattle.program.specs.declared.Given.the-variants.{Value}
-use Rattle.evaluation.specs.Readings.{readingOf, weighted}
-use Rattle.evaluation.proofs.Loops.{reading-small, product-small, largest-small, smallest-small}
+use Rattle.bodies.specs.Readings.{readingOf, weighted}
+use Rattle.bodies.proofs.Loops.{reading-small, product-small, largest-small, smallest-small}
 use Rattle.evaluation.proofs.Gives.{seven, enough-of, gives-sum, gives-largest, gives-smallest, gives-product, gives-size, gives-literals, gives-carried}
 use borrow.Author.Needs.{needs}
 use Rattle.evaluation.proofs.rules.evaluated.Statement.{statement}

@@ -13,16 +13,16 @@ is-unknown-tag-requires : tie.Need-is-unknown-tag-requires
 is-unknown-tag-requires c κs = search needs
 
 returns : tie.Need-returns
-returns c = λ P d. whole-unknown P _ _ _ (cc)
+returns c = λ P d. whole-unknown P _ _ _ (sym (c .before .is-unknown-tag .ensures) ∙ c .if1 .taken)
 
 returns-2 : tie.Need-returns-2
-returns-2 c = λ P d. whole-below P _ _ _ (cc) (omega arith)
+returns-2 c = λ P d. whole-below P _ _ _ (sym (c .before .before .is-unknown-tag .ensures) ∙ c .before .if1 .left) (omega arith)
 
 is-one-too-many-requires : tie.Need-is-one-too-many-requires
 is-one-too-many-requires c κs = search needs
 
 returns-3 : tie.Need-returns-3
-returns-3 c = λ P d. whole-many P _ _ _ (cc) (omega arith) (sym (c .before .is-one-too-many .ensures P (ap (λ (l : List Variable). length l) (d .variables-are) ∙ variables-length _ _) (d .rules-are) (d .constraints-are)) ∙ c .if3 .taken)
+returns-3 c = λ P d. whole-many P _ _ _ (sym (c .before .before .before .before .is-unknown-tag .ensures) ∙ c .before .before .before .if1 .left) (omega arith) (sym (c .before .is-one-too-many .ensures P (ap (λ (l : List Variable). length l) (d .variables-are) ∙ variables-length _ _) (d .rules-are) (d .constraints-are)) ∙ c .if3 .taken)
 
 check-value-requires : tie.Need-check-value-requires
 check-value-requires c κs = (omega arith, sym (c .before .before .before .before .is-unknown-tag .ensures) ∙ c .before .before .before .if1 .left)

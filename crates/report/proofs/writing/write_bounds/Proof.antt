@@ -2,7 +2,7 @@ use mathlib.Core.Path.{ap}
 use native.Mathlib.Omega.{arith}
 use lib.ListN.{length}
 use Rattle.format.specs.Limits.{maxVariables}
-use Rattle.sets.specs.Bit.{has}
+use Rattle.words.specs.Bit.{has}
 use Rattle.meaning.specs.Values.{valued}
 use Rattle.report.proofs.Entries.{bounds-count}
 use Rattle.report.proofs.WritingLaws.{marked-bounds, bounds-begun}

@@ -1,5 +1,5 @@
 use native.Mathlib.Omega.{arith}
-use Rattle.sets.specs.Bit.{has}
+use Rattle.words.specs.Bit.{has}
 use Rattle.meaning.specs.Values.{valued}
 use Rattle.report.proofs.Entries.{marked-count}
 use Rattle.report.proofs.WritingLaws.{conditions-begun}

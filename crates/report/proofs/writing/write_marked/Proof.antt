@@ -5,9 +5,9 @@ use native.Mathlib.Omega.{arith}
 use borrow.Author.Needs.{needs}
 use lib.ListN.{length}
 use Rattle.format.specs.Limits.{maxVariables}
-use Rattle.sets.specs.Bit.{has, NoneIn, LeastFrom}
+use Rattle.words.specs.Bit.{has, NoneIn, LeastFrom}
 use Rattle.meaning.specs.Values.{valued}
-use Rattle.meaning.proofs.StepLaws.{next-at, next-none}
+use Rattle.words.proofs.Nexts.{next-at, next-none}
 use Rattle.report.specs.Report.{Entry, ascending}
 use Rattle.report.specs.Written.{markedOf, Wrote}
 use Rattle.report.proofs.WritingLaws.{wrote-start, wrote-room, wrote-next, wrote-end, neither}

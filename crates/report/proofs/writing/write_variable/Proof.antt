@@ -4,7 +4,7 @@ use lib.IntN.{pos, natAbs}
 use lib.ListN.{getD}
 use mir.Syntax.{w64}
 use mir.Val.{toZ, ofZ}
-use Rattle.sets.specs.Bit.{has}
+use Rattle.words.specs.Bit.{has}
 use Rattle.meaning.specs.Values.{valued}
 use Rattle.report.proofs.WritingLaws.{first-room, second-room, wrote-variable}
 use borrow.Author.Needs.{needs}

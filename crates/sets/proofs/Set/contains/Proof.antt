@@ -1,5 +1,5 @@
 use mathlib.Core.Path.{refl}
-use Rattle.sets.specs.Bit.{bit, has}
+use Rattle.words.specs.Bit.{bit, has}
 use borrow.Author.Needs.{needs}
 use Rattle.sets.proofs.Set.contains.Statement.{statement}
 use Rattle.sets.proofs.Set.contains.Tie as tie

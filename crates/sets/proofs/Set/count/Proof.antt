@@ -4,7 +4,7 @@ use lib.Count.{ones, ones-le}
 use lib.ListN.{getD}
 use mir.Syntax.{w64}
 use mir.Val.{Fits}
-use Rattle.sets.specs.Bit.{wordBits}
+use Rattle.words.specs.Bit.{wordBits}
 use Rattle.sets.proofs.Counts.{count-set}
 use borrow.Author.Needs.{needs}
 use Rattle.sets.proofs.Set.count.Statement.{statement}

@@ -1,5 +1,5 @@
-use Rattle.sets.specs.Bit.{wordCount}
-use Rattle.sets.proofs.Bits.{none-in}
+use Rattle.words.specs.Bit.{wordCount}
+use Rattle.words.proofs.Bits.{none-in}
 use Rattle.sets.proofs.Set.empty.Statement.{statement}
 use Rattle.sets.proofs.Set.empty.Tie as tie
 use Rattle.sets.proofs.Set.empty.Reads as reads

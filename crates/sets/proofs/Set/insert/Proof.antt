@@ -2,8 +2,8 @@ use mathlib.Core.Path.{_≡_}
 use Prim.Native.Nat.{_<_, _/_, _%_}
 use lib.ListN.{length}
 use native.Mathlib.Omega.{arith}
-use Rattle.sets.specs.Bit.{wordBits, wordCount}
-use Rattle.sets.proofs.Bits.{has-insert, one-shl}
+use Rattle.words.specs.Bit.{wordBits, wordCount}
+use Rattle.words.proofs.Bits.{has-insert, one-shl}
 use borrow.Author.Needs.{needs}
 use Rattle.sets.proofs.Set.insert.Statement.{statement}
 use Rattle.sets.proofs.Set.insert.Tie as tie

@@ -6,8 +6,8 @@ use lib.ListN.{getD}
 use mir.Syntax.{w64}
 use mir.Val.{Fits}
 use Rattle.format.specs.Limits.{maxVariables}
-use Rattle.sets.specs.Bit.{wordBits, wordCount, has, NoneIn}
-use Rattle.sets.proofs.Nexts.{rest-at, none-at, further, found-in-word}
+use Rattle.words.specs.Bit.{wordBits, wordCount, has, NoneIn}
+use Rattle.words.proofs.Nexts.{rest-at, none-at, further, found-in-word}
 use Rattle.sets.proofs.Set.next.Statement.{statement}
 use Rattle.sets.proofs.Set.next.Tie as tie
 use Rattle.sets.proofs.Set.next.Reads as reads

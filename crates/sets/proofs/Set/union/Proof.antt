@@ -1,4 +1,4 @@
-use Rattle.sets.proofs.Bits.{has-union}
+use Rattle.words.proofs.Bits.{has-union}
 use borrow.Author.Needs.{needs}
 use Rattle.sets.proofs.Set.union.Statement.{statement}
 use Rattle.sets.proofs.Set.union.Tie as tie

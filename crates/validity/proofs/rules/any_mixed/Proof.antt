@@ -6,7 +6,8 @@ use Rattle.program.specs.Program.{variablesAt}
 use mathlib.Core.Path.{_≡_, ap, _∙_}
 use Rattle.program.specs.Tables.{anyBelow}
 use Rattle.program.proofs.Conditions.{any-none, any-more}
-use Rattle.validity.specs.Marks.{anyMixed, ruleAt}
+use Rattle.edges.specs.Edges.{anyMixed}
+use Rattle.validity.specs.Marks.{ruleAt}
 use Rattle.validity.proofs.RuleLaws.{variables-inside, first-rule, next-rule, rule-inside, standing-part, part-rule, mixed-all}
 use Rattle.validity.proofs.rules.any_mixed.Statement.{statement}
 use Rattle.validity.proofs.rules.any_mixed.Tie as tie

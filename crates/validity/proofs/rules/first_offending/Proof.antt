@@ -5,8 +5,9 @@ use Rattle.program.specs.Fields.{place}
 use Rattle.program.specs.Program.{variablesAt}
 use mathlib.Core.Path.{_≡_, sym, ap, _∙_}
 use mathlib.Core.Bool.{false}
-use Rattle.sets.specs.Walk.{rowHas}
-use Rattle.validity.specs.Marks.{offendsIn, ruleAt}
+use Rattle.reach.specs.Rows.{rowHas}
+use Rattle.edges.specs.Edges.{offendsIn}
+use Rattle.validity.specs.Marks.{ruleAt}
 use Rattle.validity.proofs.RuleLaws.{variables-inside, first-rule, next-rule, rule-inside, standing-part, part-rule, none-more}
 use Rattle.validity.proofs.rules.first_offending.Statement.{statement}
 use Rattle.validity.proofs.rules.first_offending.Tie as tie

@@ -6,9 +6,10 @@ use Rattle.program.specs.Program.{variablesAt}
 use mathlib.Core.Path.{_≡_, ap}
 use lib.ListN.{length}
 use Rattle.program.specs.Tables.{anyBelow}
-use Rattle.sets.specs.Walk.{rowsLength, rowHas}
-use Rattle.validity.specs.Marks.{Grown, drawsIn, ruleAt}
-use Rattle.validity.proofs.PlaceLaws.{grown-none, grown-more, grown-as}
+use Rattle.reach.specs.Rows.{rowsLength, rowHas}
+use Rattle.edges.specs.Edges.{Grown, drawsIn}
+use Rattle.validity.specs.Marks.{ruleAt}
+use Rattle.edges.proofs.PlaceLaws.{grown-none, grown-more, grown-as}
 use Rattle.validity.proofs.RuleLaws.{variables-inside, first-rule, next-rule, rule-inside, standing-part, part-rule, edges-all}
 use Rattle.validity.proofs.rules.mark_edges.Statement.{statement}
 use Rattle.validity.proofs.rules.mark_edges.Tie as tie

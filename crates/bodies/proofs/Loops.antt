@@ -1,0 +1,136 @@
+-- Readings by their size, and one more place of a body.
+use Prim.Native.Nat.{ℕ, zero, suc, _+_, _-_, _*_, _^_, _<_, _≤_}
+use mathlib.Core.Path.{_≡_, refl, ap, _∙_}
+use mathlib.Core.List.{List}
+use mathlib.Core.Bool.{Bool, true, false, cond, _&&_}
+use native.Mathlib.Nat.{mul-le-mul, lt-of-le-of-lt}
+use native.Mathlib.Numerals.{add-one}
+use native.Mathlib.Omega.{arith}
+use lib.Dec.{lit<}
+use lib.IntN.{ℤ, pos, natAbs, _+ℤ_, _*ℤ_}
+use lib.Signed.{ltZ}
+use lib.ListN.{length, getD}
+use Rattle.format.specs.Limits.{maxNumber, maxCoefficient}
+use Rattle.format.proofs.Ints.{abs-add, abs-mul-le}
+use Rattle.program.specs.Program.{Term, termIn}
+use Rattle.program.specs.Evaluate.{sumBelow, larger, smaller, largestTo, smallestTo, holds, allHold}
+use Rattle.bodies.specs.Readings.{bit, readAt, readingOf, weighted, literal, Small, Coefficients}
+
+-- ---- readings
+
+module _ (kept : ℕ) (first second : List ℤ) where
+  pub read-first : (i x : ℕ) → bit kept i ≡ true → getD first x (pos 0) ≡ readAt kept first second i x
+  read-first i x h = simp h
+
+  pub read-second : (i x : ℕ) → bit kept i ≡ false → getD second x (pos 0) ≡ readAt kept first second i x
+  read-second i x h = simp h
+
+  module _ (ts : List Term) (i : ℕ) where
+    -- the variable of term i, read at place i
+    pub reading-is : {x : ℕ} {v w : ℤ} → w ≡ v → v ≡ readAt kept first second i x → x ≡ termIn ts i .variable → w ≡ readingOf kept first second ts i
+    unfolding readingOf
+    reading-is p q e = p ∙ q ∙ ap (readAt kept first second i) e
+
+    pub reading-small : Small first → Small second → natAbs (readingOf kept first second ts i) ≤ maxNumber
+    unfolding readingOf
+    reading-small h k = go (bit kept i)
+      where
+        x : ℕ
+        x = termIn ts i .variable
+
+        go : (t : Bool) → natAbs (cond t (getD first x (pos 0)) (getD second x (pos 0))) ≤ maxNumber
+        go true = h x
+        go false = k x
+
+-- ---- what fits
+
+product-below : {a b m n : ℕ} → a ≤ m → b ≤ n → m * n < 2 ^ 63 → a * b < 2 ^ 63
+product-below h k l = lt-of-le-of-lt (mul-le-mul h k) l
+
+module _ (kept : ℕ) (first second : List ℤ) (ts : List Term) where
+  pub weigh-fits : (i : ℕ) {n v : ℤ} → n ≡ termIn ts i .number → v ≡ readingOf kept first second ts i
+      → natAbs (termIn ts i .number) ≤ maxCoefficient → Small first → Small second → natAbs n * natAbs v < 2 ^ 63
+  weigh-fits i e f w h k = rw (e, f) (product-below w (reading-small kept first second ts i h k) (lit< tt))
+
+  pub product-fit : (i j : ℕ) {a b : ℤ} → a ≡ readingOf kept first second ts i → b ≡ readingOf kept first second ts j
+      → Small first → Small second → natAbs a * natAbs b < 2 ^ 63
+  product-fit i j e f h k = rw (e, f) (product-below (reading-small kept first second ts i h k) (reading-small kept first second ts j h k) (lit< tt))
+
+pub product-small : (a b : ℤ) → natAbs a ≤ maxNumber → natAbs b ≤ maxNumber → natAbs (a *ℤ b) ≤ maxNumber * maxNumber
+product-small a b h k = abs-mul-le a b maxNumber maxNumber h k
+
+-- ---- sums
+
+pub sum-none : (f : ℕ → ℤ) → pos 0 ≡ sumBelow f 0
+unfolding sumBelow
+sum-none f = refl
+
+pub sum-more : (f : ℕ → ℤ) (n : ℕ) → sumBelow f n +ℤ f n ≡ sumBelow f (n + 1)
+unfolding sumBelow
+sum-more f n = rw add-one
+
+pub sum-small : (f : ℕ → ℤ) (m n : ℕ) → ((i : ℕ) → i < n → natAbs (f i) ≤ m) → natAbs (sumBelow f n) ≤ n * m
+unfolding sumBelow
+sum-small f m zero h = omega arith
+sum-small f m (suc n) h =
+    let a = sum-small f m n (λ i l. h i (omega arith)) in
+    let b : natAbs (f n) ≤ m = h n (omega arith) in
+    omega (arith, abs-add (sumBelow f n) (f n))
+
+module _ (kept : ℕ) (first second : List ℤ) (ts : List Term) (w : Coefficients ts) (h : Small first) (k : Small second) where
+  pub weighted-small : (i : ℕ) → i < length ts → natAbs (weighted ts (readingOf kept first second ts) i) ≤ maxCoefficient * maxNumber
+  weighted-small i l = abs-mul-le (termIn ts i .number) (readingOf kept first second ts i) maxCoefficient maxNumber (w i l) (reading-small kept first second ts i h k)
+
+  pub total-small : (n : ℕ) → n ≤ length ts → natAbs (sumBelow (weighted ts (readingOf kept first second ts)) n) ≤ n * (maxCoefficient * maxNumber)
+  total-small n l = sum-small (weighted ts (readingOf kept first second ts)) (maxCoefficient * maxNumber) n (λ i m. weighted-small i (omega arith))
+
+-- ---- the largest and the smallest
+
+picked-small : (t : Bool) (a b : ℤ) {m : ℕ} → natAbs a ≤ m → natAbs b ≤ m → natAbs (cond t b a) ≤ m
+picked-small true a b h k = k
+picked-small false a b h k = h
+
+-- the place before i, and i
+one-before : (i : ℕ) → 1 ≤ i → (i ≡ suc (i - 1)) × (suc (i - 1) ≡ i + 1 - 1)
+one-before i h = (omega arith, omega arith)
+
+module _ (f : ℕ → ℤ) where
+  pub largest-one : f 0 ≡ largestTo f 0
+  unfolding largestTo
+  largest-one = refl
+
+  pub smallest-one : f 0 ≡ smallestTo f 0
+  unfolding smallestTo
+  smallest-one = refl
+
+  pub largest-more : (i : ℕ) → 1 ≤ i → larger (largestTo f (i - 1)) (f i) ≡ largestTo f (i + 1 - 1)
+  unfolding largestTo
+  largest-more i h = ap (λ (n : ℕ). larger (largestTo f (i - 1)) (f n)) (one-before i h .0) ∙ ap (largestTo f) (one-before i h .1)
+
+  pub smallest-more : (i : ℕ) → 1 ≤ i → smaller (smallestTo f (i - 1)) (f i) ≡ smallestTo f (i + 1 - 1)
+  unfolding smallestTo
+  smallest-more i h = ap (λ (n : ℕ). smaller (smallestTo f (i - 1)) (f n)) (one-before i h .0) ∙ ap (smallestTo f) (one-before i h .1)
+
+  pub largest-small : (m : ℕ) → ((i : ℕ) → natAbs (f i) ≤ m) → (n : ℕ) → natAbs (largestTo f n) ≤ m
+  unfolding largestTo
+  largest-small m h zero = h 0
+  largest-small m h (suc n) = picked-small (ltZ (largestTo f n) (f (suc n))) (largestTo f n) (f (suc n)) (largest-small m h n) (h (suc n))
+
+  pub smallest-small : (m : ℕ) → ((i : ℕ) → natAbs (f i) ≤ m) → (n : ℕ) → natAbs (smallestTo f n) ≤ m
+  unfolding smallestTo
+  smallest-small m h zero = h 0
+  smallest-small m h (suc n) = picked-small (ltZ (f (suc n)) (smallestTo f n)) (smallestTo f n) (f (suc n)) (smallest-small m h n) (h (suc n))
+
+-- ---- literals
+
+pub hold-none : (ts : List Term) (at : ℕ → ℤ) → true ≡ allHold ts at 0
+unfolding allHold
+hold-none ts at = refl
+
+pub hold-more : (ts : List Term) (at : ℕ → ℤ) (n : ℕ) → (allHold ts at n && holds (termIn ts n) (at n)) ≡ allHold ts at (n + 1)
+unfolding allHold
+hold-more ts at n = rw add-one
+
+-- a literal by its op, number and value, and the literal that a term is
+pub met-is : (t : Term) {op : ℕ} {n a b : ℤ} → op ≡ t .op → n ≡ t .number → a ≡ b → literal op n a ≡ holds t b
+met-is t p q e = rw (p, q, e)

@@ -1,0 +1,46 @@
+use mathlib.Core.Path.{_≡_, refl}
+use Prim.Native.Nat.{_≤_, _-_, _/_}
+use native.Mathlib.Omega.{arith}
+use lib.ListN.{length}
+use Rattle.program.specs.Tables.{anyBelow}
+use Rattle.program.specs.Program.{termsOf, termIn}
+use Rattle.program.specs.Evaluate.{holds}
+use Rattle.program.proofs.Bodies.{terms-length}
+use Rattle.program.proofs.Conditions.{any-none, any-more}
+use Rattle.bodies.specs.Readings.{readingOf}
+use borrow.Author.Needs.{needs}
+use Rattle.bodies.proofs.any_holds.Statement.{statement}
+use Rattle.bodies.proofs.any_holds.Tie as tie
+
+abbrev Inv-loop : tie.InvT-loop
+Inv-loop body kept first second n any₀ place₀ any place =
+    (place ≤ n) × (n ≡ length body / 4) × (any ≡ anyBelow place (λ i. holds (termIn (termsOf body) i) (readingOf kept first second (termsOf body) i)))
+
+abbrev μ-loop : tie.MeasureT-loop
+μ-loop body kept first second n any₀ place₀ any place = n - place
+
+loop-holds : tie.Need-loop-holds Inv-loop μ-loop
+loop-holds c = (omega arith, refl, any-none _)
+
+is-met-requires : tie.Need-is-met-requires Inv-loop μ-loop
+is-met-requires c κs = (omega arith, omega arith)
+
+add-place : tie.Need-add-place Inv-loop μ-loop
+add-place c = search needs
+
+loop-less : tie.Need-loop-less Inv-loop μ-loop
+loop-less c = search needs
+
+loop-again : tie.Need-loop-again Inv-loop μ-loop
+loop-again c = (omega arith, refl, any-more _ _ _ _ (c .before .before .loop .inv .2) (c .is-met .ensures))
+
+returns : tie.Need-returns Inv-loop μ-loop
+returns c =
+    let a = c .before .before .before .args in
+    let e : c .before .loop .place ≡ length (termsOf (a .body .now)) = omega (arith, terms-length (a .body .now)) in
+    rw e at (c .before .loop .inv .2)
+
+pub any-holds-spec : {M : Type 1} → statement M
+any-holds-spec =
+    tie.close
+    (tie.spec Inv-loop μ-loop loop-holds is-met-requires add-place loop-less loop-again returns)

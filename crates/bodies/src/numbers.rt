@@ -1,0 +1,51 @@
+// Arithmetic of the values that rules give.
+ghost use mathlib.Core.Path.{_≡_};
+ghost use Prim.Native.Nat.{_+_, _*_, _^_, _<_};
+ghost use lib.IntN.{pos, natAbs, _+ℤ_, _*ℤ_};
+ghost use Rattle.program.specs.Evaluate.{larger, smaller};
+ghost use Rattle.bodies.specs.Readings.{literal};
+
+pub fn plus(a: i64, b: i64) -> i64
+    requires { ⌜ natAbs a + natAbs b < 2 ^ 63 ⌝ }
+    ensures { λ r. ⌜ r ≡ a +ℤ b ⌝ }
+{
+    a + b
+}
+
+pub fn times(a: i64, b: i64) -> i64
+    requires { ⌜ natAbs a * natAbs b < 2 ^ 63 ⌝ }
+    ensures { λ r. ⌜ r ≡ a *ℤ b ⌝ }
+{
+    a * b
+}
+
+pub fn larger(a: i64, b: i64) -> i64
+    ensures { λ r. ⌜ r ≡ larger a b ⌝ }
+{
+    if a < b { b } else { a }
+}
+
+pub fn smaller(a: i64, b: i64) -> i64
+    ensures { λ r. ⌜ r ≡ smaller a b ⌝ }
+{
+    if b < a { b } else { a }
+}
+
+// The absolute value.
+pub fn size(a: i64) -> i64
+    requires { ⌜ natAbs a < 2 ^ 63 ⌝ }
+    ensures { λ r. ⌜ r ≡ pos (natAbs a) ⌝ }
+{
+    if a < 0 { 0 - a } else { a }
+}
+
+// Whether a literal of this op and number holds at a value; a plain term asks nothing.
+pub fn holds(op: u8, number: i64, value: i64) -> bool
+    ensures { λ r. ⌜ r ≡ literal op number value ⌝ }
+{
+    match op {
+        1 => value >= number,
+        2 => value < number,
+        0 | 3..=255 => true,
+    }
+}

@@ -1,0 +1,24 @@
+use native.Mathlib.Omega.{arith}
+use native.Mathlib.Nat.{mul-le-mul}
+use Rattle.calls.proofs.Turned.{wrong-assignment, wrong-buffer}
+use borrow.Author.Needs.{needs}
+use Rattle.calls.proofs.fitted.Statement.{statement}
+use Rattle.calls.proofs.fitted.Tie as tie
+
+mul-if1 : tie.Need-mul-if1
+mul-if1 c = search needs
+
+returns : tie.Need-returns
+returns c = λ s b e r. wrong-assignment s (c .before .args .counts) r _ b _ (c .if1 .taken)
+
+mul-if2 : tie.Need-mul-if2
+mul-if2 c = omega (arith, mul-le-mul (c .before .pre .0) (c .before .pre .1))
+
+returns-2 : tie.Need-returns-2
+returns-2 c = λ s b e r. wrong-buffer s (c .before .before .args .counts) r _ b _ (omega arith) (omega arith)
+
+returns-3 : tie.Need-returns-3
+returns-3 c = λ s b e r. (r, omega arith, omega arith)
+
+pub fitted-spec : {M : Type 1} → statement M
+fitted-spec = tie.close (tie.spec mul-if1 returns mul-if2 returns-2 returns-3)

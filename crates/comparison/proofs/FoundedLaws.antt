@@ -1,0 +1,236 @@
+-- The least model compared with the assignment: what the code's sets and counts say.
+use Prim.Native.Nat.{ℕ, zero, suc, _+_, _*_, _<_, _≤_}
+use mathlib.Core.Path.{_≡_, refl, sym, ap, ap₂, subst, _∙_}
+use mathlib.Core.Bool.{Bool, true, false, not, _&&_}
+use mathlib.Core.List.{List, [], _++_}
+use native.Mathlib.Omega.{arith}
+use borrow.Author.Tests.{eqb-true}
+use lib.Dec.{T, eqb, not-T, ltb, ltb→lt, nltb→le}
+use lib.IntN.{ℤ, pos}
+use lib.ListN.{length, drop}
+use lib.Signed.{leZ}
+use Rattle.format.specs.Limits.{maxVariables}
+use Rattle.words.specs.Bit.{one-if, countFrom}
+use Rattle.program.specs.Program.{Program, Variable, ruleIn, variableIn, variablesAt}
+use Rattle.program.specs.Program as program
+use Rattle.program.specs.Reading.{Reads, accepted, Accepts}
+use Rattle.program.specs.Directions.{direction}
+use Rattle.program.specs.declared.Counts.{Counts}
+use Rattle.program.specs.declared.Direction.{Direction}
+use Rattle.program.proofs.Conditions.{never, both, some-below}
+use Rattle.program.proofs.Promises.{Promises, accepts-promises}
+use Rattle.program.proofs.Unique.{accepts-unique}
+use Rattle.bodies.specs.Readings.{Small}
+use Rattle.validity.proofs.RuleLaws.{variables-few}
+use Rattle.reader.proofs.Published as published
+use Rattle.meaning.specs.Founded.{Valuation, Model, Least}
+use Rattle.meaning.specs.Reduct.{placed, kept, system}
+use Rattle.meaning.specs.Stable.{Meets}
+use Rattle.meaning.specs.Calls.{checkBytes}
+use Rattle.run.specs.Running.{EndsWith}
+use Rattle.tables.specs.Laid.{Placed, Laid}
+use Rattle.meaning.specs.Values.{valued}
+use Rattle.run.specs.declared.Ending.{Ending}
+use Rattle.run.specs.declared.Ending.the-variants as ending
+use Rattle.meaning.proofs.Tests.{cases, is-true, is-test, and-left}
+use Rattle.meaning.proofs.InRanges.{founded-declared, past-zero, within-small}
+use Rattle.reader.proofs.Accepted.{accept, counted}
+use Rattle.meaning.proofs.Theory.{self-model, self-least-iff}
+use Rattle.meaning.proofs.Monotone.{laws}
+use Rattle.report.specs.Report.{bytesIn, ascending, boundsOf, conditionsOf, asksMost, asksLeast, askedBy, asked, shown, bounds, conditions, reported}
+use Rattle.report.proofs.Entries.{ascending-past, bounds-count, conditions-count}
+use Rattle.verdict.specs.Checks.{Answer, unfounded, stable, answerOf, Judged, not-founded, founded}
+use Rattle.comparison.specs.Shows.{ShowsSets}
+use Rattle.verdict.specs.declared.Verdict.{Verdict}
+use Rattle.tables.proofs.LaidLaws.{placed-in}
+
+-- ---- counts
+
+count-most : (p : ℕ → Bool) (a n : ℕ) → countFrom p a n ≤ n
+unfolding countFrom
+count-most p a zero = omega arith
+count-most p a (suc n) = cases (p a) (λ b. one-if b + countFrom p (suc a) n ≤ suc n) (λ t. omega (arith, count-most p (suc a) n)) (λ t. omega (arith, count-most p (suc a) n))
+
+pub count-some : (p : ℕ → Bool) (a n : ℕ) → (countFrom p a n ≡ 0 → ⊥) → (v : ℕ) × T (p v)
+unfolding countFrom
+count-some p a zero h = absurd (h refl)
+count-some p a (suc n) h = go (p a) refl (count-some p (suc a) n)
+  where
+    go : (b : Bool) → p a ≡ b → ((countFrom p (suc a) n ≡ 0 → ⊥) → (v : ℕ) × T (p v)) → (v : ℕ) × T (p v)
+    go true e later = (a, is-test e)
+    go false e later = later (λ q. h (ap (λ (b : Bool). one-if b + countFrom p (suc a) n) e ∙ (let z : 0 + countFrom p (suc a) n ≡ 0 = omega arith in z)))
+
+pub count-none : (p : ℕ → Bool) (a n : ℕ) → countFrom p a n ≡ 0 → (v : ℕ) → a ≤ v → v < a + n → p v ≡ false
+unfolding countFrom
+count-none p a zero e v h l = let f : ⊥ = omega arith in absurd f
+count-none p a (suc n) e v h l = go (p a) refl e (λ q k m. count-none p (suc a) n q v k m)
+  where
+    go : (b : Bool) → p a ≡ b → one-if b + countFrom p (suc a) n ≡ 0 → (countFrom p (suc a) n ≡ 0 → suc a ≤ v → v < suc a + n → p v ≡ false) → p v ≡ false
+    go true q e later = let f : ⊥ = omega arith in absurd f
+    go false q e later = cases (ltb a v) (λ b. p v ≡ false) (λ t. later (omega arith) (ltb→lt a v t) (omega arith))
+        (λ t. let s : v ≡ a = same (nltb→le a v t) in ap p s ∙ q)
+      where
+        same : v ≤ a → v ≡ a
+        same m = omega arith
+
+-- nothing past n counts
+module _ (p : ℕ → Bool) (n : ℕ) (past : (v : ℕ) → n ≤ v → p v ≡ false) (few : n ≤ maxVariables) where
+  none-past : (v : ℕ) → n ≤ v → boundsOf p (λ w. pos 0) v ≡ []
+  none-past v h = rw (past v h)
+
+  pub count-past : countFrom p 0 maxVariables ≡ countFrom p 0 n
+  count-past =
+      sym (bounds-count p (λ w. pos 0) maxVariables) ∙ ap length (ascending-past (boundsOf p (λ w. pos 0)) n maxVariables none-past few) ∙ bounds-count p (λ w. pos 0) n
+
+  pub count-few : countFrom p 0 maxVariables ≤ n
+  count-few = omega (arith, count-past, count-most p 0 n)
+
+-- ---- what is shown and asked is declared
+
+module _ {P : Program} (promised : Promises P) where
+  pub shown-past : (θ m : Valuation) (v : ℕ) → length (P .variables) ≤ v → shown P θ m v ≡ false
+  shown-past θ m v h = go (shown P θ m v) refl
+    where
+      go : (b : Bool) → shown P θ m v ≡ b → b ≡ false
+      go true e = let l = founded-declared (P .variables) v (and-left (system P .founded v) (not (leZ (θ v) (m v))) (is-test e)) in let f : ⊥ = omega arith in absurd f
+      go false e = refl
+
+  pub asked-past : (set : ℕ → Bool) (asks : Direction → Bool → Bool) (v : ℕ) → length (P .variables) ≤ v → asked P set asks v ≡ false
+  unfolding asked askedBy
+  asked-past set asks v h = go (asked P set asks v) refl
+    where
+      go : (b : Bool) → asked P set asks v ≡ b → b ≡ false
+      go false e = refl
+      go true e =
+          let i = some-below (length (P .rules)) (λ i. set (ruleIn (P .rules) i .head) && askedBy P set asks (ruleIn (P .rules) i) v) e in
+          let r = ruleIn (P .rules) (i .0) in
+          let q = both (set (r .head)) (askedBy P set asks r v) (i .2) in
+          let j = some-below (length (r .terms)) (λ j. asks (direction (P .variables) r j) (kept P r j && set (placed r j)) && eqb (placed r j) v) (q .1) in
+          let w = both (asks (direction (P .variables) r (j .0)) (kept P r (j .0) && set (placed r (j .0)))) (eqb (placed r (j .0)) v) (j .2) in
+          let l = promised .rules (i .0) (i .1) .body .terms (j .0) (j .1) .declared in
+          let f : ⊥ = omega (arith, eqb-true (placed r (j .0)) v (w .1)) in absurd f
+
+-- ---- the verdict
+
+-- the run ends in the least model
+pub ends-least : {P : Program} {θ m : Valuation} → Meets P θ → (r : Ending) → EndsWith P θ m r → Least (system P) θ m
+ends-least t ending.Model l = l
+ends-least {θ = θ} t ending.NoModel n = absurd (n θ (self-model (t .ranges) (t .rules)))
+
+module _ {P : Program} (promised : Promises P) (few : length (P .variables) ≤ maxVariables) {θ m : Valuation} (meets : Meets P θ) (least : Least (system P) θ m)
+    (set : ℕ → Bool) (is : (v : ℕ) → set v ≡ shown P θ m v) (b : List ℕ) where
+  same-set : set ≡ shown P θ m
+  same-set = λ i v. is v i
+
+  pub all-founded : countFrom set 0 maxVariables ≡ 0 → Judged P θ b stable b
+  all-founded e = founded (record { meets = meets; least = self-least-iff (laws promised) (self-model (meets .ranges) (meets .rules)) least .1 none })
+    where
+      none : (v : ℕ) → T (not (shown P θ m v))
+      none v = not-T (shown P θ m v) (λ t. never (is v ∙ is-true (shown P θ m v) t)
+          (count-none set 0 maxVariables e v (omega arith)
+          (let l = founded-declared (P .variables) v (and-left (system P .founded v) (not (leZ (θ v) (m v))) t) in omega arith)))
+
+  module _ (most lower : ℕ → Bool) (most-is : (v : ℕ) → most v ≡ asked P set asksMost v) (least-is : (v : ℕ) → lower v ≡ asked P set asksLeast v) where
+    same-most : most ≡ asked P (shown P θ m) asksMost
+    same-most = (λ i v. most-is v i) ∙ ap (λ (p : ℕ → Bool). asked P p asksMost) same-set
+
+    same-least : lower ≡ asked P (shown P θ m) asksLeast
+    same-least = (λ i v. least-is v i) ∙ ap (λ (p : ℕ → Bool). asked P p asksLeast) same-set
+
+    -- the report has room
+    pub room-enough : 12 * length (P .variables) ≤ length b → 4 * (countFrom set 0 maxVariables + (countFrom most 0 maxVariables + countFrom lower 0 maxVariables)) ≤ length b
+    room-enough h =
+        let x = count-few set (length (P .variables)) (λ v l. is v ∙ shown-past promised θ m v l) few in
+        let y = count-few most (length (P .variables)) (λ v l. most-is v ∙ asked-past promised set asksMost v l) few in
+        let z = count-few lower (length (P .variables)) (λ v l. least-is v ∙ asked-past promised set asksLeast v l) few in omega arith
+
+    abbrev n : ℕ
+    n = length (P .variables)
+
+    bounds-are : ascending (boundsOf (shown P θ m) m) maxVariables ≡ bounds P θ m
+    bounds-are = ascending-past (boundsOf (shown P θ m) m) n maxVariables (λ v h. rw (shown-past promised θ m v h)) few
+
+    conditions-are : ascending (conditionsOf (asked P (shown P θ m) asksMost) (asked P (shown P θ m) asksLeast) θ) maxVariables ≡ conditions P θ m
+    conditions-are = ascending-past (conditionsOf (asked P (shown P θ m) asksMost) (asked P (shown P θ m) asksLeast) θ) n maxVariables
+        (λ v h. rw (asked-past promised (shown P θ m) asksMost v h, asked-past promised (shown P θ m) asksLeast v h)) few
+
+    bounds-length : countFrom (shown P θ m) 0 maxVariables ≡ length (bounds P θ m)
+    bounds-length = sym (bounds-count (shown P θ m) m maxVariables) ∙ ap length bounds-are
+
+    conditions-length : countFrom (asked P (shown P θ m) asksMost) 0 maxVariables + countFrom (asked P (shown P θ m) asksLeast) 0 maxVariables ≡ length (conditions P θ m)
+    conditions-length = sym (conditions-count (asked P (shown P θ m) asksMost) (asked P (shown P θ m) asksLeast) θ maxVariables) ∙ ap length conditions-are
+
+    pub all-shown : (countFrom set 0 maxVariables ≡ 0 → ⊥) → (b′ : List ℕ) (r : Verdict) → ShowsSets set most lower m θ b b′ r → Judged P θ b (answerOf r) b′
+    all-shown some b′ r w =
+        subst (λ (x : List ℕ). Judged P θ b (answerOf r) x) (sym bytes)
+        (subst (λ (x : Answer). Judged P θ b x (reported P θ m b)) (sym answer)
+        (not-founded meets least (let v = count-some set 0 maxVariables some in (v .0, subst (λ (p : ℕ → Bool). T (p (v .0))) same-set (v .1)))))
+      where
+        shows : ShowsSets (shown P θ m) (asked P (shown P θ m) asksMost) (asked P (shown P θ m) asksLeast) m θ b b′ r
+        shows =
+            subst (λ (p : ℕ → Bool). ShowsSets p (asked P (shown P θ m) asksMost) (asked P (shown P θ m) asksLeast) m θ b b′ r) same-set
+            (subst (λ (p : ℕ → Bool). ShowsSets set p (asked P (shown P θ m) asksLeast) m θ b b′ r) same-most
+            (subst (λ (p : ℕ → Bool). ShowsSets set most p m θ b b′ r) same-least w))
+
+        answer : answerOf r ≡ unfounded (length (bounds P θ m)) (length (conditions P θ m))
+        answer = shows .answer ∙ ap₂ unfounded bounds-length conditions-length
+
+        bytes : b′ ≡ reported P θ m b
+        bytes = shows .bytes ∙ ap₂ _++_ (ap bytesIn (ap₂ _++_ bounds-are conditions-are)) (ap (λ (j : ℕ). drop (4 * j) b) (ap₂ _+_ bounds-length conditions-length))
+
+-- ---- a file with these counts, in which every program that it means is met by θ
+
+module _ (s : List ℕ) (k : Counts) (r : Reads s (accepted (k .variables) (k .rules) (k .constraints))) (θ : List ℤ)
+    (meets : (P : Program) → Accepts s P → Meets P (valued θ)) where
+  few-variables : k .variables ≤ maxVariables
+  few-variables = variables-few (counted s k r)
+
+  same-count : {P : Program} → Accepts s P → length (P .variables) ≡ k .variables
+  same-count x = let e = ap (λ (Q : Program). length (Q .variables)) (accepts-unique (accept s k r .accepts) x) in omega (arith, accept s k r .variables-are)
+
+  -- past the last variable the assignment is 0, as the model is before the run
+  pub starts-past : (m : Valuation) → ((v : ℕ) → m v ≡ pos 0) → (v : ℕ) → k .variables ≤ v → m v ≡ valued θ v
+  starts-past m z v h =
+      let x = accept s k r .accepts in
+      z v ∙ sym (past-zero (accept s k r .meant) (meets (accept s k r .meant) x .ranges) v (omega (arith, same-count x)))
+
+  pub assigned-small : Small θ
+  assigned-small = within-small (accepts-promises (accept s k r .accepts)) θ (meets (accept s k r .meant) (accept s k r .accepts) .ranges)
+
+  -- the run has ended in m
+  module _ (m : List ℤ) (e : Ending) (ends : (P : Program) → Accepts s P → EndsWith P (valued θ) (valued m) e) (b : List ℕ) where
+    least : (P : Program) (x : Accepts s P) → Least (system P) (valued θ) (valued m)
+    least P x = ends-least (meets P x) e (ends P x)
+
+    model-small : Small m
+    model-small = within-small (accepts-promises (accept s k r .accepts)) m (least (accept s k r .meant) (accept s k r .accepts) .model .within)
+
+    module _ (set : ℕ → Bool) (is : (v : ℕ) → set v ≡ (program.founded (variableIn (variablesAt s (k .variables)) v) && not (leZ (valued θ v) (valued m v)))) where
+      set-is : (P : Program) → Accepts s P → (v : ℕ) → set v ≡ shown P (valued θ) (valued m) v
+      set-is P x v =
+          is v ∙ ap (λ (vs : List Variable). program.founded (variableIn vs v) && not (leZ (valued θ v) (valued m v)))
+          (sym (published.variables-are x ∙ ap (variablesAt s) (same-count x)))
+
+      few-in : (P : Program) → Accepts s P → length (P .variables) ≤ maxVariables
+      few-in P x = omega (arith, same-count x, few-variables)
+
+      pub none-short : countFrom set 0 maxVariables ≡ 0 → (P : Program) → Accepts s P → Judged P (valued θ) b stable b
+      none-short q P x = all-founded (accepts-promises x) (few-in P x) (meets P x) (least P x) set (set-is P x) b q
+
+      module _ {ps ms : List ℕ} (l : Laid s k ps ms) (most lower : ℕ → Bool)
+          (most-is : (P : Program) → Placed s P ps ms → (v : ℕ) → most v ≡ asked P set asksMost v)
+          (least-is : (P : Program) → Placed s P ps ms → (v : ℕ) → lower v ≡ asked P set asksLeast v) where
+        pub shown-room : checkBytes * k .variables ≤ length b
+            → 4 * (countFrom set 0 maxVariables + (countFrom most 0 maxVariables + countFrom lower 0 maxVariables)) ≤ length b
+        shown-room h =
+            let x = accept s k r .accepts in let P = accept s k r .meant in
+            room-enough (accepts-promises x) (few-in P x) (meets P x) (least P x) set (set-is P x) b most lower (most-is P (placed-in l P x)) (least-is P (placed-in l P x))
+            (omega (arith, same-count x))
+
+        pub shown-small : Small m × Small θ
+        shown-small = (model-small, assigned-small)
+
+        pub some-short : (countFrom set 0 maxVariables ≡ 0 → ⊥) → (b′ : List ℕ) (v : Verdict) → ShowsSets set most lower (valued m) (valued θ) b b′ v
+            → (P : Program) → Accepts s P → Judged P (valued θ) b (answerOf v) b′
+        some-short q b′ v w P x =
+            all-shown (accepts-promises x) (few-in P x) (meets P x) (least P x) set (set-is P x) b most lower (most-is P (placed-in l P x)) (least-is P (placed-in l P x)) q b′ v w

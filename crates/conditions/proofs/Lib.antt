@@ -1,0 +1,4 @@
+pub mod MemberLaws
+pub mod ShortLaws
+pub mod AskLaws
+pub mod AskedLaws

@@ -1,0 +1,2 @@
+pub mod Shortfall
+pub mod Asking

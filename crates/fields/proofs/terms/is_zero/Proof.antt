@@ -1,9 +1,0 @@
-use Rattle.fields.proofs.TermLaws.{zero-bits}
-use Rattle.fields.proofs.terms.is_zero.Statement.{statement}
-use Rattle.fields.proofs.terms.is_zero.Tie as tie
-
-returns : tie.Need-returns
-returns c = zero-bits _ (c .fits .v)
-
-pub is-zero-spec : {M : Type 1} → statement M
-is-zero-spec = tie.close (tie.spec returns)

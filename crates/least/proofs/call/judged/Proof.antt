@@ -1,0 +1,96 @@
+use native.Mathlib.Omega.{arith}
+use mathlib.Core.Path.{refl, subst}
+use Rattle.validity.proofs.RuleLaws.{variables-few, variables-inside}
+use Rattle.reader.proofs.Accepted.{counted}
+use Rattle.reduct.proofs.AssignedLaws.{one-valuation, right-range}
+use Rattle.least.proofs.CallLaws.{wrong-range}
+use Rattle.reduct.proofs.Fills.{zeros, loaded-whole}
+use Rattle.meaning.specs.Values.{valued}
+use Rattle.reduct.specs.Filling.{OutsideIs}
+use Rattle.format.specs.Limits.{maxVariables}
+use Rattle.reduct.specs.declared.values.Outside.{Outside}
+use Rattle.program.specs.Program.{variablesAt}
+use borrow.Author.Needs.{needs}
+use Rattle.least.proofs.call.judged.Statement.{statement}
+use Rattle.least.proofs.call.judged.Tie as tie
+
+load-requires : tie.Need-load-requires
+load-requires c κs = let b = c .before .before .before .before in
+    let s = b .args .file .now in
+    let k = b .args .counts in
+    let a = b .args .assignment .now in
+    let w = b .args .buffer .now in
+    let r = b .pre .0 in
+    let e = b .pre .1 .0 in
+    let h = b .pre .1 .1 in
+    let c₀ = counted s k r in
+    let f = variables-few c₀ in
+    (omega arith, refl)
+
+first-outside-requires : tie.Need-first-outside-requires
+first-outside-requires c κs = let b = c .before .before .before .before .before .before in
+    let s = b .args .file .now in
+    let k = b .args .counts in
+    let a = b .args .assignment .now in
+    let w = b .args .buffer .now in
+    let r = b .pre .0 in
+    let e = b .pre .1 .0 in
+    let h = b .pre .1 .1 in
+    let c₀ = counted s k r in
+    let f = variables-few c₀ in
+    (variables-inside c₀, f)
+
+enum-known-outside : tie.Need-enum-known-outside
+enum-known-outside c = search needs
+
+enum-told : tie.Need-enum-told
+enum-told c = search needs
+
+solved-requires : tie.Need-solved-requires
+solved-requires c κs = let b = c .before .before .before .before .before .before .before .before .before .before .before in
+    let s = b .args .file .now in
+    let k = b .args .counts in
+    let a = b .args .assignment .now in
+    let w = b .args .buffer .now in
+    let r = b .pre .0 in
+    let e = b .pre .1 .0 in
+    let h = b .pre .1 .1 in
+    let c₀ = counted s k r in
+    let f = variables-few c₀ in
+    let l = loaded-whole a (k .variables) e (c .before .before .before .before .before .before .load .ensures .1) (zeros maxVariables) in
+    let o = subst (λ (q : Outside). OutsideIs (variablesAt s (k .variables)) (valued (c .before .before .before .before .before .before .load .last .1 .0)) (k .variables) q) (c .before .before .enum-told .given .1) (c .before .before .before .before .first-outside .ensures) in
+    (r, ((e, h), (l, right-range s k r a _ (one-valuation _ _ l) o)))
+
+returns : tie.Need-returns
+returns c = let b = c .before .before .before .before .before .before .before .before .before .before in
+    let s = b .args .file .now in
+    let k = b .args .counts in
+    let a = b .args .assignment .now in
+    let w = b .args .buffer .now in
+    let r = b .pre .0 in
+    let e = b .pre .1 .0 in
+    let h = b .pre .1 .1 in
+    let c₀ = counted s k r in
+    let f = variables-few c₀ in
+    let l = loaded-whole a (k .variables) e (c .before .before .before .before .before .load .ensures .1) (zeros maxVariables) in
+    let o = subst (λ (q : Outside). OutsideIs (variablesAt s (k .variables)) (valued (c .before .before .before .before .before .load .last .1 .0)) (k .variables) q) (c .before .outside .given .1) (c .before .before .before .first-outside .ensures) in
+    wrong-range s k r a w e h _ _ (one-valuation _ _ l) o
+
+same-length : tie.Need-same-length
+same-length c = search needs
+
+returns-2 : tie.Need-returns-2
+returns-2 c = search needs
+
+pub judged-spec : {M : Type 1} → statement M
+judged-spec =
+    tie.close
+    (tie.spec
+    load-requires
+    first-outside-requires
+    enum-known-outside
+    enum-told
+    solved-requires
+    returns
+    same-length
+    returns-2)

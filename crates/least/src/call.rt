@@ -1,0 +1,78 @@
+// The call least.
+ghost use mathlib.Core.Path.{_≡_};
+ghost use Prim.Native.Nat.{ℕ, _*_, _≤_};
+ghost use lib.ListN.{length};
+ghost use Rattle.program.specs.Program.{Program};
+ghost use Rattle.program.specs.Reading.{Reads, accepted, Accepts};
+ghost use Rattle.meaning.specs.Values.{valued};
+ghost use Rattle.meaning.specs.Stable.{assigned};
+ghost use Rattle.meaning.specs.LeastCall.{LeastCall, AllInside, answerOf};
+use crate::writing::write_values;
+use calls::Call;
+use calls::open;
+use format::Format;
+use meaning::Opening;
+use meaning::Solved;
+use program::Counts;
+use reduct::values;
+use reduct::values::Outside;
+use run::Ending;
+use run::solve::run;
+use tables::Tables;
+use tables::fill_tables;
+
+// An assignment that lies in its ranges: the least model is written, or there is none.
+fn solved(
+    file: &[u8],
+    assignment: &[u8],
+    buffer: &mut [u8],
+    counts: Counts,
+    values: &[i64; Format::MAX_VARIABLES],
+) -> Solved
+    requires { ⌜ Reads (now file) (accepted (counts .variables) (counts .rules) (counts .constraints)) ⌝ }
+    requires { ⌜ (length (now assignment) ≡ 2 * counts .variables) × (2 * counts .variables ≤ length (now buffer)) ⌝ }
+    requires { ⌜ ((v : ℕ) → valued (now values) v ≡ assigned (now assignment) v) ⌝ }
+    requires { ⌜ ((P : Program) → Accepts (now file) P → AllInside P (assigned (now assignment))) ⌝ }
+    ensures { λ r. ⌜ LeastCall (now (file .entry)) (now (assignment .entry)) (now (buffer .entry)) (answerOf r) (now (buffer .exit)) ⌝ }
+{
+    let n = counts.variables;
+    let mut places = [0usize; Format::MAX_RULES];
+    let mut masks = [0u32; Format::MAX_RULES];
+    let mut readers = [0u64; Tables::READERS];
+    let mut model = [0i64; Format::MAX_VARIABLES];
+    fill_tables(file, counts, &mut places, &mut masks, &mut readers);
+    let ending = run(file, counts, &places, &masks, &readers, values, &mut model);
+    match ending {
+        Ending::Model => {
+            write_values(&model, n, buffer);
+            Solved::Found
+        }
+        Ending::NoModel => Solved::Nothing,
+    }
+}
+
+// A call that is not turned down.
+fn judged(file: &[u8], assignment: &[u8], buffer: &mut [u8], counts: Counts) -> Solved
+    requires { ⌜ Reads (now file) (accepted (counts .variables) (counts .rules) (counts .constraints)) ⌝ }
+    requires { ⌜ (length (now assignment) ≡ 2 * counts .variables) × (2 * counts .variables ≤ length (now buffer)) ⌝ }
+    ensures { λ r. ⌜ LeastCall (now (file .entry)) (now (assignment .entry)) (now (buffer .entry)) (answerOf r) (now (buffer .exit)) ⌝ }
+{
+    let n = counts.variables;
+    let mut loaded = [0i64; Format::MAX_VARIABLES];
+    values::load(assignment, &mut loaded);
+    let outside = values::first_outside(file, n, &loaded);
+    match outside {
+        Outside::At(v) => Solved::Range(v),
+        Outside::Nowhere => solved(file, assignment, buffer, counts, &loaded),
+    }
+}
+
+// The least model of the assignment's reduct, written from the buffer's first byte on, for every file, assignment and buffer.
+pub fn least(file: &[u8], assignment: &[u8], buffer: &mut [u8]) -> Solved
+    ensures { λ r. ⌜ LeastCall (now (file .entry)) (now (assignment .entry)) (now (buffer .entry)) (answerOf r) (now (buffer .exit)) ⌝ }
+{
+    match open(file, assignment, buffer.len(), Call::LEAST) {
+        Opening::Closed(why) => Solved::Refused(why),
+        Opening::Open(counts) => judged(file, assignment, buffer, counts),
+    }
+}

@@ -1,0 +1,3 @@
+// The call least.
+pub mod call;
+pub mod writing;

@@ -1,0 +1,26 @@
+use native.Mathlib.Omega.{arith}
+use Rattle.text.proofs.OutputLaws.{appends-both}
+use borrow.Author.Needs.{needs}
+use Rattle.lines.proofs.put_one.Statement.{statement}
+use Rattle.lines.proofs.put_one.Tie as tie
+
+put-word-requires : tie.Need-put-word-requires
+put-word-requires c κs = search needs
+
+put-decimal-requires : tie.Need-put-decimal-requires
+put-decimal-requires c κs = search needs
+
+put-requires : tie.Need-put-requires
+put-requires c κs = search needs
+
+same-length : tie.Need-same-length
+same-length c = search needs
+
+returns : tie.Need-returns
+returns c =
+    let w = appends-both (appends-both (c .before .before .before .before .before .before .before .before .before .before .put-word .ensures) (c .before .before .before .before .before .before .put-decimal .ensures .0)) (c .before .before .put .ensures) in
+    (w, omega (arith, c .before .before .before .before .before .before .before .before .before .before .put-word .ensures .next, c .before .before .before .before .before .before .put-decimal .ensures .1, c .before .before .put .ensures .next, c .before .before .before .before .before .before .before .before .before .before .before .before .before .before .pre))
+
+pub put-one-spec : {M : Type 1} → statement M
+put-one-spec =
+    tie.close (tie.spec put-word-requires put-decimal-requires put-requires same-length returns)

@@ -1,0 +1,44 @@
+use native.Mathlib.Omega.{arith}
+use Rattle.text.proofs.OutputLaws.{appends-both}
+use borrow.Author.Needs.{needs}
+use Rattle.lines.proofs.put_two.Statement.{statement}
+use Rattle.lines.proofs.put_two.Tie as tie
+
+put-word-requires : tie.Need-put-word-requires
+put-word-requires c κs = search needs
+
+put-decimal-requires : tie.Need-put-decimal-requires
+put-decimal-requires c κs = search needs
+
+put-requires : tie.Need-put-requires
+put-requires c κs = search needs
+
+put-decimal-requires-2 : tie.Need-put-decimal-requires-2
+put-decimal-requires-2 c κs = search needs
+
+put-requires-2 : tie.Need-put-requires-2
+put-requires-2 c κs = search needs
+
+same-length : tie.Need-same-length
+same-length c = search needs
+
+returns : tie.Need-returns
+returns c =
+    let a = c .before .before .before .before .before .before .before .before .before .before .before .before .before .before .before .before .before .before .put-word .ensures in
+    let d = c .before .before .before .before .before .before .before .before .before .before .before .before .before .before .put-decimal .ensures in
+    let p = c .before .before .before .before .before .before .before .before .before .before .put .ensures in
+    let e = c .before .before .before .before .before .before .put-decimal2 .ensures in
+    let q = c .before .before .put2 .ensures in
+    (appends-both (appends-both (appends-both (appends-both a (d .0)) p) (e .0)) q, omega (arith, a .next, d .1, p .next, e .1, q .next, c .before .before .before .before .before .before .before .before .before .before .before .before .before .before .before .before .before .before .before .before .before .before .pre))
+
+pub put-two-spec : {M : Type 1} → statement M
+put-two-spec =
+    tie.close
+    (tie.spec
+    put-word-requires
+    put-decimal-requires
+    put-requires
+    put-decimal-requires-2
+    put-requires-2
+    same-length
+    returns)

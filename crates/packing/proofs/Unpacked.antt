@@ -1,0 +1,122 @@
+-- Unpacking a packed answer gives its word and numbers back, so two answers of a call that are packed in the same number are the same.
+use Prim.Native.Nat.{ℕ, _/_, _%_, _<_}
+use mathlib.Core.Path.{_≡_, refl, sym, ap, _∙_}
+use mathlib.Core.List.{List, [], _∷_}
+use native.Mathlib.Omega.{arith}
+use Rattle.program.specs.Tables.{_⇒_, select}
+use Rattle.program.specs.Reading.{Reads}
+use Rattle.program.specs.Reading as read
+use Rattle.meaning.specs.LeastCall.{LeastCall}
+use Rattle.meaning.specs.LeastCall as least
+use Rattle.verdict.specs.Checks.{Checks}
+use Rattle.verdict.specs.Checks as check
+use Rattle.packing.specs.declared.Parts.{Parts}
+use Rattle.packing.specs.Packing.{Fits, packed, unpacked, readParts, leastParts, checkParts}
+use Rattle.packing.proofs.Bounds.{read-fits, least-fits, check-fits}
+
+module _ (p : Parts) (f : Fits p) where
+  same-word : packed p % 256 ≡ p .word
+  unfolding packed
+  same-word = omega arith
+
+  same-first : packed p / 256 % 65536 ≡ p .first
+  unfolding packed
+  same-first = omega arith
+
+  same-second : packed p / 16777216 % 65536 ≡ p .second
+  unfolding packed
+  same-second = omega arith
+
+  same-third : packed p / 1099511627776 % 65536 ≡ p .third
+  unfolding packed
+  same-third = omega arith
+
+  pub unpack : unpacked (packed p) ≡ p
+  unfolding unpacked
+  unpack = rw (same-word, same-first, same-second, same-third)
+
+pub read-unpacks : {s : List ℕ} {x : read.Answer} → Reads s x → unpacked (packed (readParts x)) ≡ readParts x
+read-unpacks r = unpack _ (read-fits r)
+
+pub least-unpacks : {s a b b′ : List ℕ} {x : least.Answer} → LeastCall s a b x b′ → unpacked (packed (leastParts x)) ≡ leastParts x
+least-unpacks r = unpack _ (least-fits r)
+
+pub check-unpacks : {s a b b′ : List ℕ} {x : check.Answer} → Checks s a b x b′ → unpacked (packed (checkParts x)) ≡ checkParts x
+check-unpacks r = unpack _ (check-fits r)
+
+-- ---- the answer of a word and numbers; the last of each definition stands for every other word
+
+abbrev readOf : Parts → read.Answer
+readOf p = select (p .word) ((7 ⇒ read.accepted (p .first) (p .second) (p .third)) ∷ []) (read.refused (p .first) (p .second))
+
+abbrev leastOf : Parts → least.Answer
+leastOf p =
+    select (p .word) ((5 ⇒ least.range (p .first)) ∷ (6 ⇒ least.refusal (p .first) (p .second)) ∷ (8 ⇒ least.found) ∷ []) least.none
+
+abbrev checkOf : Parts → check.Answer
+checkOf p =
+    select (p .word)
+    ((2 ⇒ check.unfounded (p .first) (p .second))
+    ∷ (3 ⇒ check.constraint (p .first))
+    ∷ (4 ⇒ check.rule (p .first))
+    ∷ (5 ⇒ check.range (p .first))
+    ∷ (6 ⇒ check.refusal (p .first) (p .second))
+    ∷ [])
+    check.stable
+
+read-back : (x : read.Answer) → readOf (readParts x) ≡ x
+read-back (read.accepted v r c) = refl
+read-back (read.refused n at) = refl
+
+least-back : (x : least.Answer) → leastOf (leastParts x) ≡ x
+least-back (least.refusal n at) = refl
+least-back (least.range v) = refl
+least-back least.none = refl
+least-back least.found = refl
+
+check-back : (x : check.Answer) → checkOf (checkParts x) ≡ x
+check-back (check.refusal n at) = refl
+check-back (check.range v) = refl
+check-back (check.rule i) = refl
+check-back (check.constraint i) = refl
+check-back (check.unfounded n k) = refl
+check-back check.stable = refl
+
+-- ---- no two answers of a call are packed in the same number, whatever the inputs
+
+pub read-injective : {s t : List ℕ} {x y : read.Answer} → Reads s x → Reads t y → packed (readParts x) ≡ packed (readParts y) → x ≡ y
+read-injective {x = x} {y} r q e =
+    sym (read-back x) ∙ ap readOf (sym (read-unpacks r) ∙ ap unpacked e ∙ read-unpacks q) ∙ read-back y
+
+pub least-injective : {s a b b′ t c d d′ : List ℕ} {x y : least.Answer} → LeastCall s a b x b′ → LeastCall t c d y d′
+    → packed (leastParts x) ≡ packed (leastParts y) → x ≡ y
+least-injective {x = x} {y} r q e =
+    sym (least-back x) ∙ ap leastOf (sym (least-unpacks r) ∙ ap unpacked e ∙ least-unpacks q) ∙ least-back y
+
+pub check-injective : {s a b b′ t c d d′ : List ℕ} {x y : check.Answer} → Checks s a b x b′ → Checks t c d y d′
+    → packed (checkParts x) ≡ packed (checkParts y) → x ≡ y
+check-injective {x = x} {y} r q e =
+    sym (check-back x) ∙ ap checkOf (sym (check-unpacks r) ∙ ap unpacked e ∙ check-unpacks q) ∙ check-back y
+
+-- ---- no answer is 0
+
+pub read-some : (x : read.Answer) → 0 < packed (readParts x)
+unfolding packed
+read-some (read.accepted v r c) = omega arith
+read-some (read.refused n at) = omega arith
+
+pub least-some : (x : least.Answer) → 0 < packed (leastParts x)
+unfolding packed
+least-some (least.refusal n at) = omega arith
+least-some (least.range v) = omega arith
+least-some least.none = omega arith
+least-some least.found = omega arith
+
+pub check-some : (x : check.Answer) → 0 < packed (checkParts x)
+unfolding packed
+check-some (check.refusal n at) = omega arith
+check-some (check.range v) = omega arith
+check-some (check.rule i) = omega arith
+check-some (check.constraint i) = omega arith
+check-some (check.unfounded n k) = omega arith
+check-some check.stable = omega arith

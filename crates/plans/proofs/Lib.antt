@@ -1,0 +1,4 @@
+pub mod Starred
+pub mod StarredChecks
+pub mod WrongChecks
+pub mod WrongLeast

@@ -1,0 +1,271 @@
+-- Document 01's starred sample plans: each is computed, and laws say what the computed tests mean.
+use Prim.Native.Nat.{ℕ, _*_, _<_, _≤_}
+use mathlib.Core.Path.{_≡_, refl, subst}
+use mathlib.Core.List.{List, [], _∷_}
+use mathlib.Core.Bool.{Bool, true, false, not, _||_}
+use native.Mathlib.Omega.{arith}
+use borrow.Author.Tests.{leb-false, eqb-true, not-false}
+use lib.Dec.{T, lit<, lit≤, eqb, leb, ltb, ltb→lt, nltb→le}
+use lib.IntN.{ℤ, pos, negℤ}
+use lib.Signed.{leZ}
+use lib.ListN.{length}
+use Rattle.format.proofs.Int.{int}
+use Rattle.format.specs.Limits.{maxFile}
+use Rattle.format.specs.Numbers.{beyond}
+use Rattle.program.specs.Tables.{anyBelow}
+use Rattle.program.specs.Fields.{place, tagBefore}
+use Rattle.program.specs.Program.{Program, program, termsOf, variableIn, ruleIn}
+use Rattle.program.specs.Refusals.{cutShort, unknownTag, tagBelow, oneTooMany, notTerms, wrongLength, literalPlace, wrongOp, mustBeZero, wrongTerm, unknownForm, wrongConstraint, wrongForm, outsideTerm, outsideRange, undeclaredTerm, wrongHead, undeclared, wrongCountOf, wrongCount, repeatedTerm, variableTwice, negativeTerm, negativeProduct, itemRefusal, valueRefusal, fieldRefusal}
+use Rattle.program.specs.Directions.{direction, isMixed}
+use Rattle.program.specs.Components.{Valid}
+use Rattle.program.specs.Reading.{Accepts}
+use Rattle.program.specs.declared.Given.{Given}
+use Rattle.program.specs.declared.Given.the-variants.{Nothing, Value}
+use Rattle.program.proofs.Conditions.{never, neither, none-below}
+use Rattle.program.proofs.Promises.{accepts-promises}
+use Rattle.meaning.specs.Founded.{Valuation, Reaches, Model, Least}
+use Rattle.meaning.specs.Reduct.{gives, system}
+use Rattle.meaning.specs.Stable.{assigned, RuleMet, Meets}
+use Rattle.meaning.specs.LeastCall.{inRange, AllInside}
+use Rattle.meaning.specs.Search.{found, search}
+use Rattle.meaning.specs.Values.{valued}
+use Rattle.plans.specs.Starred.{Plan, StablePlan, UnfoundedPlan, UnmetPlan, small, printed, example2, example1, example4, contrary, StarredPlans}
+use Rattle.meaning.proofs.Tests.{cases, is-true}
+use Rattle.meaning.proofs.InRanges.{past-zero, assigned-within}
+use Rattle.meaning.proofs.Search as searching
+use Rattle.meaning.proofs.Search.{Right, search-right}
+
+-- ---- the tests
+
+-- one of the first k fields does not stand in the file or meets a refusal
+unfoldable unfit : List ℕ → ℕ → Bool
+unfit s k = anyBelow k (λ j. leb (length s) (place s j) || not (eqb (fieldRefusal s j) 0))
+
+-- some rule has a mixed place
+unfoldable mixed-in : Program → Bool
+mixed-in P = anyBelow (length (P .rules)) (λ i. anyBelow (length (ruleIn (P .rules) i .terms)) (λ j. isMixed (direction (P .variables) (ruleIn (P .rules) i) j)))
+
+-- some variable is outside its range
+unfoldable outside-in : Program → Valuation → Bool
+outside-in P θ = anyBelow (length (P .variables)) (λ v. not (inRange (variableIn (P .variables) v) θ v))
+
+abbrev met : Given → ℤ → Bool
+met Nothing b = true
+met (Value a) b = leZ a b
+
+abbrev rule-met : Program → Valuation → ℕ → Bool
+rule-met P θ i = met (gives P (ruleIn (P .rules) i) θ θ) (θ (ruleIn (P .rules) i .head))
+
+-- one of the first n rules is not met
+unfoldable unmet-in : Program → Valuation → ℕ → Bool
+unmet-in P θ n = anyBelow n (λ i. not (rule-met P θ i))
+
+-- one of the variables is above m
+unfoldable above-in : Program → Valuation → Valuation → Bool
+above-in P θ m = anyBelow (length (P .variables)) (λ v. not (leZ (θ v) (m v)))
+
+-- unfolding these unfolds the reading of a file
+fields-compute : Unit {0}
+unfolding beyond anyBelow place tagBefore program termsOf cutShort unknownTag tagBelow oneTooMany notTerms wrongLength itemRefusal valueRefusal fieldRefusal
+fields-compute = tt
+
+items-compute : Unit {0}
+unfolding literalPlace wrongOp mustBeZero wrongTerm unknownForm wrongConstraint wrongForm outsideTerm outsideRange undeclaredTerm wrongHead undeclared wrongCountOf
+items-compute = tt
+
+bodies-compute : Unit {0}
+unfolding wrongCount repeatedTerm variableTwice negativeTerm negativeProduct
+bodies-compute = tt
+
+-- and this also the tests and the search
+unfoldable pub computes : Unit {0}
+unfolding fields-compute items-compute bodies-compute searching.computes unfit mixed-in outside-in unmet-in above-in
+computes = tt
+
+-- ---- what they mean
+
+none-mixed : (P : Program) → mixed-in P ≡ false → Valid P
+unfolding mixed-in
+none-mixed P e i o = never (o .pushes) (none-below _ _ (none-below _ _ e i (o .among)) (o .at) (o .inside))
+
+read : (s : List ℕ) (k : ℕ) → length s ≤ maxFile → unfit s k ≡ false → length s ≤ place s k → mixed-in (program s k) ≡ false → Accepts s (program s k)
+unfolding unfit
+read s k short fit ended valid = record {
+  fields = k;
+  whole = record {
+    passed = record {
+      short = short;
+      stands = λ j h. leb-false (length s) (place s j) (at j h .0);
+      fine = λ j h. eqb-true (fieldRefusal s j) 0 (not-false (eqb (fieldRefusal s j) 0) (at j h .1));
+    };
+    ended = ended;
+  };
+  means = refl;
+  valid = none-mixed (program s k) valid;
+}
+  where
+    at : (j : ℕ) → j < k → (leb (length s) (place s j) ≡ false) × (not (eqb (fieldRefusal s j) 0) ≡ false)
+    at j h = neither (leb (length s) (place s j)) (not (eqb (fieldRefusal s j) 0)) (none-below k _ fit j h)
+
+all-inside : (P : Program) (θ : Valuation) → outside-in P θ ≡ false → AllInside P θ
+unfolding outside-in
+all-inside P θ e v h = not-false (inRange (variableIn (P .variables) v) θ v) (none-below (length (P .variables)) _ e v h)
+
+met-reaches : (P : Program) (v : ℕ) (g : Given) (b : ℤ) → met g b ≡ true → Reaches (system P) v g b
+met-reaches P v Nothing b e = tt
+met-reaches P v (Value a) b e = record { le = rw e tt }
+
+reaches-met : (P : Program) (v : ℕ) (g : Given) (b : ℤ) → met g b ≡ false → Reaches (system P) v g b → ⊥
+reaches-met P v Nothing b e r = never refl e
+reaches-met P v (Value a) b e r = never (is-true (leZ a b) (r .le)) e
+
+rules-met : (P : Program) (θ : Valuation) (n : ℕ) → unmet-in P θ n ≡ false → (i : ℕ) → i < n → RuleMet P θ i
+unfolding unmet-in
+rules-met P θ n e i h =
+    let r = ruleIn (P .rules) i in
+    met-reaches P (r .head) (gives P r θ θ) (θ (r .head)) (not-false (rule-met P θ i) (none-below n _ e i h))
+
+-- ---- plans
+
+module _ {s a : List ℕ} {P : Program} (p : Plan s a P) where
+  -- a search that ends in m has found the least model
+  pub search-least : (k : ℕ) (m : List ℤ) → search k P (assigned a) ≡ found m → Least (system P) (assigned a) (valued m)
+  search-least k m e = subst (λ o. Right P (assigned a) o) e (search-right (accepts-promises (p .accepts)) (p .ranges) k)
+
+  -- an assignment that meets every rule and is nowhere above the least model is the least model
+  self-least : {m : Valuation} → unmet-in P (assigned a) (length (P .rules)) ≡ false → Least (system P) (assigned a) m
+      → above-in P (assigned a) m ≡ false → Least (system P) (assigned a) (assigned a)
+  unfolding above-in
+  self-least {m} r l e = record {
+    model = record { standard = λ v n. refl; within = p .ranges; rules = rules-met P (assigned a) (length (P .rules)) r };
+    floor = record { under = λ m′ k v. record { le = under m′ k v } };
+  }
+    where
+      under : (m′ : Valuation) → Model (system P) (assigned a) m′ → (v : ℕ) → T (leZ (assigned a v) (m′ v))
+      under m′ k v = cases (ltb v (length (P .variables))) (λ b. T (leZ (assigned a v) (m′ v)))
+          (λ t. let e₁ = not-false (leZ (assigned a v) (m v)) (none-below (length (P .variables)) _ e v (ltb→lt v (length (P .variables)) t)) in
+          let h : T (leZ (assigned a v) (m v)) = rw e₁ tt in
+          let h′ : T (leZ (m v) (m′ v)) = l .floor .under m′ k v .le in
+          omega int)
+          (λ n. let h = nltb→le v (length (P .variables)) n in
+          rw (past-zero P (p .ranges) v h, past-zero P (k .within) v h) tt)
+
+  all-met : unmet-in P (assigned a) (length (P .rules)) ≡ false → length (P .constraints) ≡ 0 → Meets P (assigned a)
+  all-met r c = record {
+    ranges = p .ranges;
+    rules = rules-met P (assigned a) (length (P .rules)) r;
+    constraints = λ i h. let z : ⊥ = omega arith in absurd z;
+  }
+
+  stable-plan : (k : ℕ) (m : List ℤ) → search k P (assigned a) ≡ found m → above-in P (assigned a) (valued m) ≡ false
+      → unmet-in P (assigned a) (length (P .rules)) ≡ false → length (P .constraints) ≡ 0 → StablePlan s a
+  stable-plan k m e f r c = record {
+    means = P;
+    plan = p;
+    stable = record { meets = all-met r c; least = self-least r (search-least k m e) f };
+  }
+
+  -- the least model is below the assignment at v
+  unfounded-plan : (k : ℕ) (m : List ℤ) → search k P (assigned a) ≡ found m → unmet-in P (assigned a) (length (P .rules)) ≡ false
+      → length (P .constraints) ≡ 0 → (v : ℕ) → leZ (assigned a v) (valued m v) ≡ false → UnfoundedPlan s a m
+  unfounded-plan k m e r c v f = record {
+    means = P;
+    plan = p;
+    meets = all-met r c;
+    least = search-least k m e;
+    not-stable = λ st. never (is-true (leZ (assigned a v) (valued m v)) (st .least .floor .under (valued m) (search-least k m e .model) v .le)) f;
+  }
+
+  unmet-plan : (i : ℕ) → i < length (P .rules) → rule-met P (assigned a) i ≡ false → unmet-in P (assigned a) i ≡ false → UnmetPlan s a i
+  unmet-plan i h e f = record {
+    means = P;
+    plan = p;
+    among = h;
+    unmet = let r = ruleIn (P .rules) i in reaches-met P (r .head) (gives P r (assigned a) (assigned a)) (assigned a (r .head)) e;
+    first = rules-met P (assigned a) i f;
+  }
+
+plan-of : {s : List ℕ} {P : Program} (a : List ℕ) → Accepts s P → length a ≡ 2 * length (P .variables) → outside-in P (assigned a) ≡ false → Plan s a P
+plan-of {s} {P} a r l o = record { accepts = r; long = l; ranges = assigned-within P a (omega arith) (all-inside P (assigned a) o) }
+
+-- ---- the samples
+
+empty-stable : StablePlan [] []
+unfolding computes
+empty-stable = stable-plan (plan-of [] (read [] 0 (lit≤ tt) refl (lit≤ tt) refl) refl refl) 1 [] refl refl refl refl
+
+pub printed-read : Accepts printed (program printed 6)
+unfolding computes
+printed-read = read printed 6 (lit≤ tt) refl (lit≤ tt) refl
+
+printed-stable : StablePlan printed (small 1 (small 1 (small 1 [])))
+unfolding computes
+printed-stable = stable-plan (plan-of _ printed-read refl refl) 9 (pos 1 ∷ pos 1 ∷ pos 1 ∷ []) refl refl refl refl
+
+printed-least : UnfoundedPlan printed (small 0 (small 1 (small 1 []))) (pos 0 ∷ pos 0 ∷ pos 0 ∷ [])
+unfolding computes
+printed-least = unfounded-plan (plan-of _ printed-read refl refl) 9 _ refl refl refl 1 refl
+
+pub example2-read : Accepts example2 (program example2 5)
+unfolding computes
+example2-read = read example2 5 (lit≤ tt) refl (lit≤ tt) refl
+
+example2-stable : StablePlan example2 (0xFF ∷ 0xF8 ∷ 0xFF ∷ 0xF6 ∷ small 5 [])
+unfolding computes
+example2-stable = stable-plan (plan-of _ example2-read refl refl) 9 (negℤ (pos 8) ∷ negℤ (pos 10) ∷ pos 5 ∷ []) refl refl refl refl
+
+example2-least : UnfoundedPlan example2 (0xFF ∷ 0xF9 ∷ 0xFF ∷ 0xF6 ∷ small 5 []) (negℤ (pos 8) ∷ negℤ (pos 10) ∷ pos 5 ∷ [])
+unfolding computes
+example2-least = unfounded-plan (plan-of _ example2-read refl refl) 9 _ refl refl refl 0 refl
+
+pub example1-read : Accepts example1 (program example1 8)
+unfolding computes
+example1-read = read example1 8 (lit≤ tt) refl (lit≤ tt) refl
+
+example1-stable : StablePlan example1 (small 17 (small 8 (small 9 (small 1 (small 0 [])))))
+unfolding computes
+example1-stable = stable-plan (plan-of _ example1-read refl refl) 9 (pos 17 ∷ pos 8 ∷ pos 9 ∷ pos 1 ∷ pos 0 ∷ []) refl refl refl refl
+
+example1-least : UnfoundedPlan example1 (small 17 (small 8 (small 3 (small 1 (small 0 []))))) (pos 3 ∷ pos 0 ∷ pos 3 ∷ pos 0 ∷ pos 0 ∷ [])
+unfolding computes
+example1-least = unfounded-plan (plan-of _ example1-read refl refl) 9 _ refl refl refl 0 refl
+
+pub example4-read : Accepts example4 (program example4 7)
+unfolding computes
+example4-read = read example4 7 (lit≤ tt) refl (lit≤ tt) refl
+
+example4-stable : StablePlan example4 (small 3 (small 4 (small 5 [])))
+unfolding computes
+example4-stable = stable-plan (plan-of _ example4-read refl refl) 9 (pos 3 ∷ pos 4 ∷ pos 5 ∷ []) refl refl refl refl
+
+example4-least : UnfoundedPlan example4 (small 4 (small 5 (small 6 []))) (pos 3 ∷ pos 4 ∷ pos 5 ∷ [])
+unfolding computes
+example4-least = unfounded-plan (plan-of _ example4-read refl refl) 9 _ refl refl refl 0 refl
+
+pub contrary-read : Accepts contrary (program contrary 2)
+unfolding computes
+contrary-read = read contrary 2 (lit≤ tt) refl (lit≤ tt) refl
+
+contrary-unmet : UnmetPlan contrary (small 0 []) 0
+unfolding computes
+contrary-unmet = unmet-plan (plan-of _ contrary-read refl refl) 0 (lit< tt) refl refl
+
+contrary-least : UnfoundedPlan contrary (small 1 []) (pos 0 ∷ [])
+unfolding computes
+contrary-least = unfounded-plan (plan-of _ contrary-read refl refl) 9 _ refl refl refl 0 refl
+
+-- the joint theorem
+pub starred-plans : StarredPlans
+starred-plans = record {
+  empty-stable = empty-stable;
+  printed-stable = printed-stable;
+  printed-least = printed-least;
+  example2-stable = example2-stable;
+  example2-least = example2-least;
+  example1-stable = example1-stable;
+  example1-least = example1-least;
+  example4-stable = example4-stable;
+  example4-least = example4-least;
+  contrary-unmet = contrary-unmet;
+  contrary-least = contrary-least;
+}

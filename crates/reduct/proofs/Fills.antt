@@ -1,0 +1,51 @@
+-- A list whose first values are replaced, one after the other.
+use Prim.Native.Nat.{ℕ, zero, suc, _+_, _*_, _/_, _<_, _≤_}
+use mathlib.Core.Path.{_≡_, refl, sym, ap₂, _∙_}
+use mathlib.Core.List.{List}
+use mathlib.Core.Bool.{Bool, true, false}
+use native.Mathlib.Omega.{arith}
+use lib.Dec.{ltb}
+use borrow.Author.Tests.{ltb-true, ltb-false}
+use borrow.Author.Count.{below-more}
+use lib.IntN.{ℤ, pos}
+use lib.ListN.{length, getD, set, replicate, List·getD-eq-default}
+use lib.Seq.{getD-set-same, getD-set-other}
+use Rattle.format.specs.Numbers.{signed}
+use Rattle.meaning.specs.Founded.{Valuation}
+use Rattle.meaning.specs.Stable.{assigned}
+use Rattle.meaning.specs.Values.{valued}
+use Rattle.reduct.specs.Filling.{Filled}
+
+pub filled-none : (m : Valuation) (ms : List ℤ) → Filled m 0 ms ms
+filled-none m ms = record { below = λ v l. absurd (omega arith); past = λ v l. refl }
+
+pub filled-more : {m : Valuation} {n : ℕ} {ms ms′ : List ℤ} (a : ℤ) → n < length ms′ → Filled m n ms ms′ → a ≡ m n → Filled m (n + 1) ms (set ms′ n a)
+filled-more {m} {n} {ms} {ms′} a h f e = record {
+  below = below-more (λ (v : ℕ). valued (set ms′ n a) v ≡ m v) n (λ v l. getD-set-other ms′ n v a (pos 0) (λ q. omega arith) ∙ f .below v l)
+      (getD-set-same ms′ n a (pos 0) h ∙ e);
+  past = λ v l. getD-set-other ms′ n v a (pos 0) (λ q. omega arith) ∙ f .past v (omega arith);
+}
+
+pub filled-done : {m : Valuation} {n k : ℕ} {ms ms′ : List ℤ} → k ≡ n → Filled m k ms ms′ → Filled m n ms ms′
+filled-done e f = rw e at f
+
+-- an assignment of n variables that is loaded over zeros is read from the list at every variable
+pub loaded-whole : (a : List ℕ) (n : ℕ) {ms ms′ : List ℤ} → length a ≡ 2 * n → Filled (assigned a) (length a / 2) ms ms′
+    → ((v : ℕ) → valued ms v ≡ pos 0) → (v : ℕ) → valued ms′ v ≡ assigned a v
+loaded-whole a n {ms} {ms′} e f z v = go (ltb v n) refl
+  where
+    past : n ≤ v → pos 0 ≡ assigned a v
+    past l =
+        let p : getD a (2 * v) 0 ≡ 0 = List·getD-eq-default a 0 (omega arith) in
+        let q : getD a (2 * v + 1) 0 ≡ 0 = List·getD-eq-default a 0 (omega arith) in
+        sym (ap₂ signed p q)
+
+    go : (t : Bool) → ltb v n ≡ t → valued ms′ v ≡ assigned a v
+    go true q = f .below v (omega (arith, ltb-true v n q))
+    go false q = let l : n ≤ v = ltb-false v n q in f .past v (omega arith) ∙ z v ∙ past l
+
+-- a list of zeros
+pub zeros : (n v : ℕ) → valued (replicate n (pos 0)) v ≡ pos 0
+zeros zero v = refl
+zeros (suc n) zero = refl
+zeros (suc n) (suc v) = zeros n v

@@ -1,0 +1,97 @@
+-- The waiting set, and the rule that leaves it.
+use Prim.Native.Nat.{ℕ, _*_, _<_, _≤_}
+use mathlib.Core.Path.{_≡_, sym, ap, _∙_, subst}
+use mathlib.Core.Bool.{Bool, true, false, not, _&&_, true≢false}
+use mathlib.Core.List.{List}
+use native.Mathlib.Decide.{ℕ-discrete}
+use native.Mathlib.Omega.{arith}
+use lib.Dec.{eqb}
+use lib.IntN.{ℤ}
+use lib.ListN.{length, getD}
+use borrow.Author.Tests.{ne-eqb}
+use Rattle.format.specs.Limits.{maxRules}
+use Rattle.words.specs.Bit.{wordBits, has, sizeBelow, LeastFrom, NoneIn}
+use Rattle.sets.proofs.Counts.{count-drop}
+use Rattle.words.specs.declared.Found.{Found}
+use Rattle.words.specs.declared.Found.the-variants.{At, Nothing}
+use Rattle.program.specs.Program.{Program}
+use Rattle.program.specs.Reading.{Accepts}
+use Rattle.program.proofs.Places.{counts}
+use Rattle.program.proofs.Unique.{accepts-unique}
+use Rattle.meaning.specs.Founded.{Valuation}
+use Rattle.run.specs.Running.{MetOutside, Met, Exceeds, Demanded, Among, Inside, Taken, Empty, Takes, Ready, Raising}
+use Rattle.tables.specs.Laid.{Stands, Placed}
+use Rattle.tables.specs.Tabled.{rowWords}
+use Rattle.run.specs.declared.Demand.{Demand}
+use Rattle.run.specs.declared.Demand.the-variants.{More, Enough}
+
+-- ---- answers that are known
+
+module _ (old new : ℕ → Bool) {r : Found} (h : Takes old new r) where
+  pub takes-at : {i : ℕ} → r ≡ At i → Taken old new i
+  takes-at e = rw e at h
+
+  pub takes-none : r ≡ Nothing → Empty old new
+  takes-none e = rw e at h
+
+module _ (P : Program) (θ m : Valuation) (i : ℕ) {d : Demand} (h : Demanded P θ m i d) where
+  pub demands-more : {a : ℤ} → d ≡ More a → Exceeds P θ m i a
+  demands-more e = rw e at h
+
+  pub demands-enough : d ≡ Enough → Met P θ m i
+  demands-enough e = rw e at h
+
+-- ---- the set
+
+pub few-rules : {s : List ℕ} {P : Program} → Accepts s P → length (P .rules) ≤ maxRules
+few-rules a = rw (a .means) at (counts (a .whole .passed) .few-rules)
+
+-- a file has one program
+pub among-any : {s places masks waiting : List ℕ} {P : Program} → Ready s places masks waiting → Placed s P places masks → Among P (has waiting)
+among-any {waiting = waiting} r p = subst (λ (Q : Program). Among Q (has waiting)) (accepts-unique (r .placed .accepts) (p .accepts)) (r .rules)
+
+-- the search of the words is that of the rules
+pub lowest-taken : {old new : ℕ → Bool} {i n : ℕ} → n ≡ rowWords → LeastFrom old 0 (wordBits * n) i → ((j : ℕ) → new j ≡ (not (eqb j i) && old j)) → Taken old new i
+lowest-taken e f d = record { lowest = record { above = f .above; below = omega (arith, f .below); member = f .member; first = f .first }; dropped = d }
+
+pub none-taken : {old : ℕ → Bool} {n : ℕ} → n ≡ rowWords → NoneIn old 0 (wordBits * n) → Empty old old
+none-taken e f = record { none = λ i l h. f i l (omega arith); inside = λ j h. h }
+
+-- nothing waits: every rule is met
+pub none-waiting : {s : List ℕ} (P : Program) (θ m : Valuation) {old new : ℕ → Bool} → Accepts s P → MetOutside P θ m old → Empty old new
+    → (i : ℕ) → i < length (P .rules) → Met P θ m i
+none-waiting P θ m a o n i l = o i l (n .none i (omega arith) (omega (arith, few-rules a)))
+
+-- the lowest of the set leaves it
+module _ {old new : ℕ → Bool} {i : ℕ} (k : Taken old new i) where
+  pub taken-inside : Inside new old
+  taken-inside j e = go (eqb j i) (sym (k .dropped j) ∙ e)
+    where
+      go : (b : Bool) → (not b && old j) ≡ true → old j ≡ true
+      go true q = absurd (true≢false (sym q))
+      go false q = q
+
+  pub taken-less : sizeBelow new maxRules < sizeBelow old maxRules
+  taken-less = count-drop new old i maxRules (k .lowest .below) (k .lowest .member) (k .dropped)
+
+  module _ (P : Program) (θ m : Valuation) (o : MetOutside P θ m old) where
+    other : (j : ℕ) → j < length (P .rules) → new j ≡ false → (j ≡ i → ⊥) → Met P θ m j
+    other j l e n = o j l (sym (k .dropped j ∙ ap (λ (b : Bool). not b && old j) (ne-eqb j i n)) ∙ e)
+
+    pub taken-met : Met P θ m i → MetOutside P θ m new
+    taken-met h j l e = go (ℕ-discrete j i)
+      where
+        go : Dec (j ≡ i) → Met P θ m j
+        go (yes q) = rw q h
+        go (no n) = other j l e n
+
+    pub taken-raise : {a : ℤ} → i < length (P .rules) → Exceeds P θ m i a → Raising P θ m new i a
+    taken-raise l x = record { among = l; exceeds = x; below = λ j h. o j (omega arith) (k .lowest .first j (omega arith) h); outside = other }
+
+  -- a rule of the set stands in the tables
+  module _ {s places masks waiting : List ℕ} (r : Ready s places masks waiting) (n : Inside old (has waiting)) where
+    pub taken-stands : Stands s (getD places i 0) (getD masks i 0)
+    taken-stands = record { program = r .program; rule = i; here = r .placed .stands i (r .rules i (k .lowest .below) (n i (k .lowest .member))) }
+
+    pub taken-rule : {P : Program} → Placed s P places masks → i < length (P .rules)
+    taken-rule p = among-any r p i (k .lowest .below) (n i (k .lowest .member))

@@ -1,0 +1,35 @@
+use mir.Syntax.{w64}
+use mir.Val.{toZ, ofZ}
+use mathlib.Core.Path.{_≡_}
+use Rattle.run.proofs.RunLaws.{nothing-given, value-more, value-enough}
+use borrow.Author.Needs.{needs}
+use Rattle.run.proofs.demands.exceeds.Statement.{statement}
+use Rattle.run.proofs.demands.exceeds.Tie as tie
+
+enum-known-given : tie.Need-enum-known-given
+enum-known-given c = search needs
+
+enum-told : tie.Need-enum-told
+enum-told c = search needs
+
+returns : tie.Need-returns
+returns c = nothing-given _ (c .enum-told .given .1)
+
+returns-2 : tie.Need-returns-2
+returns-2 c =
+    let g = c .before .before .given .given in
+    let s = c .before .before .before .before in
+    let z : toZ w64 (ofZ w64 (g .0 .0)) ≡ g .0 .0 = search needs in
+    let y : toZ w64 (ofZ w64 (s .args .value)) ≡ s .args .value = search needs in
+    rw z (value-more (s .args .value) (g .0 .0) (g .1) (simp (z, y) at (c .if1 .taken)))
+
+returns-3 : tie.Need-returns-3
+returns-3 c =
+    let g = c .before .before .given .given in
+    let s = c .before .before .before .before in
+    let z : toZ w64 (ofZ w64 (g .0 .0)) ≡ g .0 .0 = search needs in
+    let y : toZ w64 (ofZ w64 (s .args .value)) ≡ s .args .value = search needs in
+    value-enough (s .args .value) (g .0 .0) (g .1) (simp (z, y) at (c .if1 .left))
+
+pub exceeds-spec : {M : Type 1} → statement M
+exceeds-spec = tie.close (tie.spec enum-known-given enum-told returns returns-2 returns-3)

@@ -1,0 +1,67 @@
+use Prim.Native.Nat.{ℕ}
+use mathlib.Core.Path.{_≡_, sym, ap, _∙_}
+use lib.IntN.{ℤ, pos}
+use lib.ListN.{getD}
+use mir.Syntax.{w64}
+use mir.Val.{toZ, ofZ}
+use Rattle.run.specs.Running.{headOf}
+use Rattle.run.proofs.RunLaws.{head-inside, here-head, demanded}
+use borrow.Author.Needs.{needs}
+use Rattle.run.proofs.demands.look.Statement.{statement}
+use Rattle.run.proofs.demands.look.Tie as tie
+
+mul-at : tie.Need-mul-at
+mul-at c = search needs
+
+element-copy-out-at : tie.Need-element-copy-out-at
+element-copy-out-at c = search needs
+
+mul-mask : tie.Need-mul-mask
+mul-mask c = search needs
+
+element-copy-out-mask : tie.Need-element-copy-out-mask
+element-copy-out-mask c = search needs
+
+demand-requires : tie.Need-demand-requires
+demand-requires c κs = search needs
+
+head-of-requires : tie.Need-head-of-requires
+head-of-requires c κs =
+    let s = c .before .before .before .before in (s .pre .0, head-inside (s .pre .1 .0 .here))
+
+wide-requires : tie.Need-wide-requires
+wide-requires c κs = search needs
+
+mul-value : tie.Need-mul-value
+mul-value c = search needs
+
+element-copy-out-value : tie.Need-element-copy-out-value
+element-copy-out-value c = search needs
+
+exceeds-requires : tie.Need-exceeds-requires
+exceeds-requires c κs = search needs
+
+returns : tie.Need-returns
+returns c =
+    let a = c .before .before .before .before .before .before .before .before .args in
+    let x = c .before .before .wide in
+    let v : ℤ = getD (a .model .now) (x .result) (pos 0) in
+    let z : toZ w64 (ofZ w64 v) ≡ v = search needs in λ P h.
+    let e : x .result ≡ headOf P (a .i) = x .ensures .0 ∙ c .before .before .before .head-of .ensures ∙ sym (here-head h) in
+    demanded P _ _ (a .i) (c .exceeds .ensures) (c .before .before .before .before .demand .ensures P (a .i) h) (z ∙ ap (λ (k : ℕ). getD (a .model .now) k (pos 0)) e)
+
+pub look-spec : {M : Type 1} → statement M
+look-spec =
+    tie.close
+    (tie.spec
+    mul-at
+    element-copy-out-at
+    mul-mask
+    element-copy-out-mask
+    demand-requires
+    head-of-requires
+    wide-requires
+    mul-value
+    element-copy-out-value
+    exceeds-requires
+    returns)

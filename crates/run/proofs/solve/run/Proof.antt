@@ -1,0 +1,37 @@
+use Rattle.tables.specs.Tabled.{rowWords}
+use Rattle.words.proofs.Bits.{none-in}
+use Rattle.validity.proofs.RuleLaws.{variables-few, variables-inside}
+use Rattle.tables.proofs.TableLaws.{rules-few}
+use Rattle.reader.proofs.Accepted.{counted}
+use Rattle.run.proofs.StartLaws.{begun}
+use borrow.Author.Needs.{needs}
+use Rattle.run.proofs.solve.run.Statement.{statement}
+use Rattle.run.proofs.solve.run.Tie as tie
+
+start-values-requires : tie.Need-start-values-requires
+start-values-requires c κs = let b = c .before .before in let k = counted _ _ (b .pre .0) in ((variables-inside k, variables-few k), b .pre .1 .1 .1 .1)
+
+slice-aggregate-fill-bits : tie.Need-slice-aggregate-fill-bits
+slice-aggregate-fill-bits c = search needs
+
+fill-bits-requires : tie.Need-fill-bits-requires
+fill-bits-requires c κs = rules-few (counted _ _ (c .before .before .before .before .pre .0))
+
+solve-requires : tie.Need-solve-requires
+solve-requires c κs = let b = c .before .before .before .before .before .before .before .before in (
+  begun _ _ (b .pre .0) _ _ _ _ _ _ _ _ (b .pre .1 .1 .0) (b .pre .1 .0) (b .pre .1 .1 .1 .0) (c .before .before .before .before .before .start-values .ensures .1) (none-in rowWords) (c .before .before .before .fill-bits .ensures .1),
+  (c .before .before .before .before .before .start-values .ensures .0, c .before .before .before .fill-bits .ensures .0),
+)
+
+returns : tie.Need-returns
+returns c = search needs
+
+pub run-spec : {M : Type 1} → statement M
+run-spec =
+    tie.close
+    (tie.spec
+    start-values-requires
+    slice-aggregate-fill-bits
+    fill-bits-requires
+    solve-requires
+    returns)

@@ -1,0 +1,145 @@
+-- What holds on the way to the least model, for the program P of a file s, θ being the assignment and m the values reached.
+use Prim.Native.Nat.{ℕ, _+_, _*_, _<_}
+use mathlib.Core.Path.{_≡_}
+use mathlib.Core.Bool.{Bool, true, false, not, cond, _||_, _&&_}
+use mathlib.Core.List.{List}
+use lib.Dec.{T, eqb}
+use lib.IntN.{ℤ}
+use lib.ListN.{length, set, drop}
+use lib.Signed.{leZ, ltZ}
+use Rattle.format.specs.Limits.{maxRules}
+use Rattle.words.specs.Bit.{has, LeastFrom, NoneIn}
+use Rattle.words.specs.declared.Found.{Found}
+use Rattle.words.specs.declared.Found.the-variants.{At}
+use Rattle.words.specs.declared.Found.the-variants as found
+use Rattle.program.specs.Program.{Program, ruleIn, variableIn, variableOf, founded}
+use Rattle.program.specs.Reading.{Accepts}
+use Rattle.program.specs.declared.Given.{Given}
+use Rattle.program.specs.declared.Given.the-variants.{Nothing, Value}
+use Rattle.meaning.specs.Founded.{Valuation, Reaches, Short, Within, Floor, Model, Least}
+use Rattle.meaning.specs.Reduct.{gives, system}
+use Rattle.tables.specs.Tabled.{Tabled}
+use Rattle.tables.specs.Laid.{Placed}
+use Rattle.meaning.specs.Values.{valued}
+use Rattle.run.specs.declared.Demand.{Demand}
+use Rattle.run.specs.declared.Demand.the-variants.{More, Enough}
+use Rattle.run.specs.declared.Step.{Step}
+use Rattle.run.specs.declared.Step.the-variants.{Raise, Done}
+use Rattle.run.specs.declared.Ending.{Ending}
+use Rattle.run.specs.declared.Ending.the-variants as ending
+
+-- the head of rule i, and what the rule gives
+abbrev pub headOf : Program → ℕ → ℕ
+headOf P i = ruleIn (P .rules) i .head
+
+abbrev pub givenBy : Program → Valuation → Valuation → ℕ → Given
+givenBy P θ m i = gives P (ruleIn (P .rules) i) m θ
+
+-- rule i gives no more than its head has
+abbrev pub Met : Program → Valuation → Valuation → ℕ → Type 0
+Met P θ m i = Reaches (system P) (headOf P i) (givenBy P θ m i) (m (headOf P i))
+
+-- rule i gives a, which is more than its head has
+pub record Exceeds (P : Program) (θ m : Valuation) (i : ℕ) (a : ℤ) : Type 0 where
+  pub gives-it : givenBy P θ m i ≡ Value a
+  pub more : Short (system P) (headOf P i) (m (headOf P i)) a
+
+-- ---- one rule
+
+-- what is given, against what the head has
+unfoldable pub demandOf : Given → ℤ → Demand
+demandOf Nothing z = Enough
+demandOf (Value a) z = cond (ltZ z a) (More a) Enough
+
+-- the answer for rule i is right
+abbrev pub Demanded : Program → Valuation → Valuation → ℕ → Demand → Type 0
+Demanded P θ m i (More a) = Exceeds P θ m i a
+Demanded P θ m i Enough = Met P θ m i
+
+-- ---- one step
+
+-- every rule outside the set is met
+abbrev pub MetOutside : Program → Valuation → Valuation → (ℕ → Bool) → Type 0
+MetOutside P θ m waiting =
+    (i : ℕ) → i < length (P .rules) → waiting i ≡ false → Reaches (system P) (ruleIn (P .rules) i .head) (gives P (ruleIn (P .rules) i) m θ) (m (ruleIn (P .rules) i .head))
+
+-- the set has rules alone
+abbrev pub Among : Program → (ℕ → Bool) → Type 0
+Among P waiting = (i : ℕ) → i < maxRules → waiting i ≡ true → i < length (P .rules)
+
+-- a set within another
+abbrev pub Inside : (ℕ → Bool) → (ℕ → Bool) → Type 0
+Inside new old = (j : ℕ) → new j ≡ true → old j ≡ true
+
+-- rule i is the lowest of the set, and leaves it
+pub record Taken (old new : ℕ → Bool) (i : ℕ) : Type 0 where
+  pub lowest : LeastFrom old 0 maxRules i
+  pub dropped : (j : ℕ) → new j ≡ (not (eqb j i) && old j)
+
+-- no rule is in the set, and none joins it
+pub record Empty (old new : ℕ → Bool) : Type 0 where
+  pub none : NoneIn old 0 maxRules
+  pub inside : Inside new old
+
+-- the lowest rule that left the set, or that there is none
+abbrev pub Takes : (ℕ → Bool) → (ℕ → Bool) → Found → Type 0
+Takes old new (At i) = Taken old new i
+Takes old new found.Nothing = Empty old new
+
+-- what a step needs of the tables and of the set
+pub record Ready (s places masks waiting : List ℕ) : Type 0 where
+  pub program : Program
+  pub placed : Placed s program places masks
+  pub rules : Among program (has waiting)
+
+-- rule i is the lowest that exceeds its head, and every other rule outside the set is met
+pub record Raising (P : Program) (θ m : Valuation) (waiting : ℕ → Bool) (i : ℕ) (a : ℤ) : Type 0 where
+  pub among : i < length (P .rules)
+  pub exceeds : Exceeds P θ m i a
+  pub below : (j : ℕ) → j < i → Met P θ m j
+  pub outside : (j : ℕ) → j < length (P .rules) → waiting j ≡ false → (j ≡ i → ⊥) → Met P θ m j
+
+-- what a step answers: the raise to make, or that every rule is met
+abbrev pub Stepped : Program → Valuation → Valuation → (ℕ → Bool) → Step → Type 0
+Stepped P θ m waiting (Raise i a) = Raising P θ m waiting i a
+Stepped P θ m waiting Done = (i : ℕ) → i < length (P .rules) → Met P θ m i
+
+-- ---- one raise
+
+-- the value a is stored at x, and the readers of x join the set
+pub record RaisedTo (readers : List ℕ) (x : ℕ) (a : ℤ) (model model⁺ : List ℤ) (waiting waiting⁺ : List ℕ) : Type 0 where
+  pub model-is : model⁺ ≡ set model x a
+  pub waiting-is : (i : ℕ) → i < maxRules → has waiting⁺ i ≡ (has waiting i || has readers (maxRules * x + i))
+
+-- nothing has changed
+pub record Unchanged (model model⁺ : List ℤ) (waiting waiting⁺ : List ℕ) : Type 0 where
+  pub model-is : model⁺ ≡ model
+  pub waiting-is : waiting⁺ ≡ waiting
+
+-- the highest value of variable x of a file
+abbrev pub highAt : List ℕ → ℕ → ℤ
+highAt s x = variableOf (drop (8 * x + 3) s) .high
+
+-- what a raise answers: done, or beyond the range
+abbrev pub Lifted : List ℕ → List ℕ → ℕ → ℤ → List ℤ → List ℤ → List ℕ → List ℕ → Bool → Type 0
+Lifted s readers x a model model⁺ waiting waiting⁺ true = T (leZ a (highAt s x)) × RaisedTo readers x a model model⁺ waiting waiting⁺
+Lifted s readers x a model model⁺ waiting waiting⁺ false = T (not (leZ a (highAt s x))) × Unchanged model model⁺ waiting waiting⁺
+
+-- ---- the run
+
+-- the values lie in their ranges, standard ones as assigned, at or below every model; and every rule outside the set is met
+pub record Running (s places masks readers : List ℕ) (θ m : List ℤ) (waiting : List ℕ) : Type 0 where
+  pub program : Program
+  pub accepts : Accepts s program
+  pub tabled : Tabled s program (length (program .rules)) places masks readers
+  pub assigned : Within (system program) (valued θ)
+  pub standard : (v : ℕ) → T (not (founded (variableIn (program .variables) v))) → valued m v ≡ valued θ v
+  pub within : Within (system program) (valued m)
+  pub floor : Floor (system program) (valued θ) (valued m)
+  pub outside : MetOutside program (valued θ) (valued m) (has waiting)
+  pub rules : Among program (has waiting)
+
+-- the least model, or no model
+abbrev pub EndsWith : Program → Valuation → Valuation → Ending → Type 0
+EndsWith P θ m ending.Model = Least (system P) θ m
+EndsWith P θ m ending.NoModel = (m′ : Valuation) → Model (system P) θ m′ → ⊥

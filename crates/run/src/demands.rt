@@ -1,0 +1,124 @@
+// One step on the way to the least model: the lowest rule that demands more than its head has.
+ghost use mathlib.Core.Path.{_≡_};
+ghost use Prim.Native.Nat.{ℕ, _+_, _<_};
+ghost use lib.ListN.{length, getD};
+ghost use Rattle.program.specs.Program.{Program};
+ghost use Rattle.words.specs.Bit.{has};
+ghost use Rattle.format.specs.Limits.{maxRules};
+ghost use Rattle.bodies.specs.Readings.{Small};
+ghost use Rattle.run.specs.Running.{MetOutside, givenBy, demandOf, Demanded, Inside, Takes, Ready, Stepped};
+ghost use Rattle.meaning.specs.Values.{valued};
+ghost use Rattle.tables.specs.Laid.{RuleAt, Stands, Placed};
+ghost use Rattle.tables.specs.Tabled.{rowWords};
+use crate::Demand;
+use crate::Step;
+use evaluation::rules;
+use fields::cursor;
+use format::Format;
+use program::Given;
+use tables::Tables;
+use words::Found;
+
+// What the rule whose field stands at `at` gives, its kept places read in the model.
+pub fn demand(
+    file: &[u8],
+    at: usize,
+    mask: u32,
+    model: &[i64; Format::MAX_VARIABLES],
+    assigned: &[i64; Format::MAX_VARIABLES],
+) -> Given
+    requires { ⌜ Stands (now file) at mask ⌝ }
+    requires { ⌜ Small (now model) × Small (now assigned) ⌝ }
+    ensures { λ r. ⌜ ((P : Program) (i : ℕ) → RuleAt (now (file .entry)) P i at mask → r ≡ givenBy P (valued (now (assigned .entry))) (valued (now (model .entry))) i) ⌝ }
+{
+    let e = cursor::extent_at(file, at);
+    let start = e.start;
+    let len = e.len;
+    rules::gives(&file[start..start + len], mask, model, assigned)
+}
+
+// The head of rule i.
+pub fn head_of(file: &[u8], places: &[usize; Format::MAX_RULES], i: usize) -> u8
+    requires { ⌜ i < maxRules ⌝ }
+    requires { ⌜ getD (now places) i 0 + 4 < length (now file) ⌝ }
+    ensures { λ r. ⌜ r ≡ getD (now (file .entry)) (getD (now (places .entry)) i 0 + 4) 0 ⌝ }
+{
+    let at = places[i];
+    file[at + 4]
+}
+
+// Whether what is given is more than a value.
+fn exceeds(given: Given, value: i64) -> Demand
+    ensures { λ r. ⌜ r ≡ demandOf given value ⌝ }
+{
+    let Given::Value(a) = given else {
+        return Demand::Enough;
+    };
+    if value < a {
+        Demand::More(a)
+    } else {
+        Demand::Enough
+    }
+}
+
+// Whether rule i demands more than its head has.
+pub fn look(
+    file: &[u8],
+    places: &[usize; Format::MAX_RULES],
+    masks: &[u32; Format::MAX_RULES],
+    i: usize,
+    model: &[i64; Format::MAX_VARIABLES],
+    assigned: &[i64; Format::MAX_VARIABLES],
+) -> Demand
+    requires { ⌜ i < maxRules ⌝ }
+    requires { ⌜ Stands (now file) (getD (now places) i 0) (getD (now masks) i 0) ⌝ }
+    requires { ⌜ Small (now model) × Small (now assigned) ⌝ }
+    ensures { λ r. ⌜ ((P : Program) → RuleAt (now (file .entry)) P i (getD (now (places .entry)) i 0) (getD (now (masks .entry)) i 0) → Demanded P (valued (now (assigned .entry))) (valued (now (model .entry))) i r) ⌝ }
+{
+    let at = places[i];
+    let mask = masks[i];
+    let given = demand(file, at, mask, model, assigned);
+    let head = format::wide(head_of(file, places, i));
+    let value = model[head];
+    exceeds(given, value)
+}
+
+// The lowest rule of the set leaves it.
+fn take_lowest(waiting: &mut [u64; Tables::ROW]) -> Found
+    requires { ⌜ length (now waiting) ≡ rowWords ⌝ }
+    ensures { λ _. ⌜ length (now (waiting .exit)) ≡ rowWords ⌝ }
+    ensures { λ r. ⌜ Takes (has (now (waiting .entry))) (has (now (waiting .exit))) r ⌝ }
+{
+    let Found::At(i) = words::next_bit(waiting, 0) else {
+        return Found::Nothing;
+    };
+    words::drop_bit(waiting, i);
+    Found::At(i)
+}
+
+// The lowest rule of the waiting set that demands more than its head has; it and those below it leave the set.
+pub fn step(
+    file: &[u8],
+    places: &[usize; Format::MAX_RULES],
+    masks: &[u32; Format::MAX_RULES],
+    model: &[i64; Format::MAX_VARIABLES],
+    assigned: &[i64; Format::MAX_VARIABLES],
+    waiting: &mut [u64; Tables::ROW],
+) -> Step
+    requires { ⌜ Ready (now file) (now places) (now masks) (now waiting) ⌝ }
+    requires { ⌜ Small (now model) × Small (now assigned) ⌝ }
+    requires { ⌜ length (now waiting) ≡ rowWords ⌝ }
+    ensures { λ _. ⌜ length (now (waiting .exit)) ≡ rowWords ⌝ }
+    ensures { λ _. ⌜ Inside (has (now (waiting .exit))) (has (now (waiting .entry))) ⌝ }
+    ensures { λ r. ⌜ ((P : Program) → Placed (now (file .entry)) P (now (places .entry)) (now (masks .entry)) → MetOutside P (valued (now (assigned .entry))) (valued (now (model .entry))) (has (now (waiting .entry))) → Stepped P (valued (now (assigned .entry))) (valued (now (model .entry))) (has (now (waiting .exit))) r) ⌝ }
+{
+    loop {
+        let Found::At(i) = take_lowest(waiting) else {
+            return Step::Done;
+        };
+        let found = look(file, places, masks, i, model, assigned);
+        if let Demand::More(a) = found {
+            return Step::Raise(i, a);
+        }
+    }
+}

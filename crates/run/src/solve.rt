@@ -1,0 +1,114 @@
+// The least model, reached by raising one head after the other.
+ghost use mathlib.Core.Path.{_≡_};
+ghost use mathlib.Core.Bool.{_||_};
+ghost use Prim.Native.Nat.{ℕ, _+_, _*_, _<_, _≤_};
+ghost use lib.ListN.{length};
+ghost use Rattle.format.specs.Limits.{maxVariables, maxRules};
+ghost use Rattle.words.specs.Bit.{has};
+ghost use Rattle.program.specs.Program.{Program, program};
+ghost use Rattle.program.specs.Reading.{Reads, accepted, Accepts, Whole};
+ghost use Rattle.meaning.specs.Founded.{Within};
+ghost use Rattle.meaning.specs.Reduct.{system};
+ghost use Rattle.meaning.specs.Values.{valued};
+ghost use Rattle.run.specs.Running.{Lifted, Running, EndsWith};
+ghost use Rattle.tables.specs.Tabled.{readersWords, rowWords, Tabled};
+use crate::Ending;
+use crate::Step;
+use crate::demands;
+use format::Format;
+use parts::variables;
+use program::Counts;
+use reduct::values;
+use tables::Tables;
+
+// The set takes in the rules that read x at a kept place.
+fn join_readers(waiting: &mut [u64; Tables::ROW], readers: &[u64], x: usize)
+    requires { ⌜ length (now waiting) ≡ rowWords ⌝ }
+    requires { ⌜ length (now readers) ≡ readersWords ⌝ }
+    requires { ⌜ x < maxVariables ⌝ }
+    ensures { λ _. ⌜ length (now (waiting .exit)) ≡ rowWords ⌝ }
+    ensures { λ _. ⌜ ((i : ℕ) → i < maxRules → has (now (waiting .exit)) i ≡ (has (now (waiting .entry)) i || has (now (readers .entry)) (maxRules * x + i))) ⌝ }
+{
+    let start = x * Tables::ROW;
+    words::join_bits(waiting, &readers[start..start + Tables::ROW]);
+}
+
+// The head gets the value a, and the rules that read it at a kept place join the set; or a is beyond its range, and nothing changes.
+pub fn raise(
+    file: &[u8],
+    readers: &[u64; Tables::READERS],
+    head: u8,
+    a: i64,
+    model: &mut [i64; Format::MAX_VARIABLES],
+    waiting: &mut [u64; Tables::ROW],
+) -> bool
+    requires { ⌜ 8 * head + 8 ≤ length (now file) ⌝ }
+    requires { ⌜ length (now model) ≡ maxVariables ⌝ }
+    requires { ⌜ length (now waiting) ≡ rowWords ⌝ }
+    ensures { λ _. ⌜ length (now (model .exit)) ≡ maxVariables ⌝ }
+    ensures { λ _. ⌜ length (now (waiting .exit)) ≡ rowWords ⌝ }
+    ensures { λ r. ⌜ Lifted (now (file .entry)) (now (readers .entry)) head a (now (model .entry)) (now (model .exit)) (now (waiting .entry)) (now (waiting .exit)) r ⌝ }
+{
+    if variables::high(file, head) < a {
+        return false;
+    }
+    let x = format::wide(head);
+    model[x] = a;
+    join_readers(waiting, readers, x);
+    true
+}
+
+// The values reach the least model, or some rule asks for more than its head's range has.
+pub fn solve(
+    file: &[u8],
+    places: &[usize; Format::MAX_RULES],
+    masks: &[u32; Format::MAX_RULES],
+    readers: &[u64; Tables::READERS],
+    model: &mut [i64; Format::MAX_VARIABLES],
+    assigned: &[i64; Format::MAX_VARIABLES],
+    waiting: &mut [u64; Tables::ROW],
+) -> Ending
+    requires { ⌜ Running (now file) (now places) (now masks) (now readers) (now assigned) (now model) (now waiting) ⌝ }
+    requires { ⌜ length (now model) ≡ maxVariables ⌝ }
+    requires { ⌜ length (now waiting) ≡ rowWords ⌝ }
+    ensures { λ _. ⌜ length (now (model .exit)) ≡ maxVariables ⌝ }
+    ensures { λ _. ⌜ length (now (waiting .exit)) ≡ rowWords ⌝ }
+    ensures { λ r. ⌜ ((P : Program) → Accepts (now (file .entry)) P → EndsWith P (valued (now (assigned .entry))) (valued (now (model .exit))) r) ⌝ }
+{
+    loop {
+        let next = demands::step(file, places, masks, model, assigned, waiting);
+        let Step::Raise(i, a) = next else {
+            return Ending::Model;
+        };
+        let head = demands::head_of(file, places, i);
+        if !raise(file, readers, head, a, model, waiting) {
+            return Ending::NoModel;
+        }
+    }
+}
+
+// From the starting ends to the least model.
+pub fn run(
+    file: &[u8],
+    counts: Counts,
+    places: &[usize; Format::MAX_RULES],
+    masks: &[u32; Format::MAX_RULES],
+    readers: &[u64; Tables::READERS],
+    assigned: &[i64; Format::MAX_VARIABLES],
+    model: &mut [i64; Format::MAX_VARIABLES],
+) -> Ending
+    requires { ⌜ Reads (now file) (accepted (counts .variables) (counts .rules) (counts .constraints)) ⌝ }
+    requires { ⌜ ((k : ℕ) → Whole (now file) k → Tabled (now file) (program (now file) k) (counts .rules) (now places) (now masks) (now readers)) ⌝ }
+    requires { ⌜ ((P : Program) → Accepts (now file) P → Within (system P) (valued (now assigned))) ⌝ }
+    requires { ⌜ ((v : ℕ) → counts .variables ≤ v → valued (now model) v ≡ valued (now assigned) v) ⌝ }
+    requires { ⌜ length (now model) ≡ maxVariables ⌝ }
+    ensures { λ _. ⌜ length (now (model .exit)) ≡ maxVariables ⌝ }
+    ensures { λ r. ⌜ ((P : Program) → Accepts (now (file .entry)) P → EndsWith P (valued (now (assigned .entry))) (valued (now (model .exit))) r) ⌝ }
+{
+    let n = counts.variables;
+    let rules = counts.rules;
+    let mut waiting = [0u64; Tables::ROW];
+    values::start_values(file, n, assigned, model);
+    words::fill_bits(&mut waiting, rules);
+    solve(file, places, masks, readers, model, assigned, &mut waiting)
+}

@@ -1,0 +1,35 @@
+-- Where the rules of a file stand, by the tables of a run.
+use Prim.Native.Nat.{ℕ, _<_}
+use mathlib.Core.Path.{_≡_}
+use mathlib.Core.List.{List}
+use lib.ListN.{length, getD}
+use Rattle.program.specs.Program.{Program, ruleIn}
+use Rattle.program.specs.Reading.{Accepts}
+use Rattle.program.specs.declared.Counts.{Counts}
+use Rattle.reader.specs.Parts.{rulePlace}
+use Rattle.tables.specs.Tabled.{MaskOf}
+
+-- rule i stands at this place and has this mask
+pub record RuleAt (s : List ℕ) (P : Program) (i at mask : ℕ) : Type 0 where
+  pub accepts : Accepts s P
+  pub among : i < length (P .rules)
+  pub placed : at ≡ rulePlace s P i
+  pub masked : MaskOf P (ruleIn (P .rules) i) mask
+
+-- some rule of the file stands there
+pub record Stands (s : List ℕ) (at mask : ℕ) : Type 0 where
+  pub program : Program
+  pub rule : ℕ
+  pub here : RuleAt s program rule at mask
+
+-- the tables have the place and the mask of each rule
+pub record Placed (s : List ℕ) (P : Program) (places masks : List ℕ) : Type 0 where
+  pub accepts : Accepts s P
+  pub stands : (i : ℕ) → i < length (P .rules) → RuleAt s P i (getD places i 0) (getD masks i 0)
+
+-- the tables are those of a file with these counts
+pub record Laid (s : List ℕ) (k : Counts) (places masks : List ℕ) : Type 0 where
+  pub program : Program
+  pub placed : Placed s program places masks
+  pub variables-are : length (program .variables) ≡ k .variables
+  pub rules-are : length (program .rules) ≡ k .rules

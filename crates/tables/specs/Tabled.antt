@@ -1,0 +1,35 @@
+-- The tables of a run: where each rule stands, which of its places are kept, and which rules read a variable at a kept place.
+use Prim.Native.Nat.{ℕ, _+_, _*_, _/_, _<_}
+use mathlib.Core.Path.{_≡_}
+use mathlib.Core.Bool.{Bool, _&&_, _||_}
+use mathlib.Core.List.{List}
+use lib.Dec.{ltb, eqb}
+use lib.ListN.{length, getD}
+use Rattle.format.specs.Limits.{maxVariables, maxRules}
+use Rattle.words.specs.Bit.{wordBits, has}
+use Rattle.program.specs.Program.{Program, Rule, ruleIn}
+use Rattle.bodies.specs.Readings.{bit}
+use Rattle.reader.specs.Parts.{rulePlace}
+use Rattle.meaning.specs.Reduct.{kept}
+use Rattle.meaning.specs.Reads.{readsKept}
+
+-- the words of a set of rules, and of one for each variable
+abbrev pub rowWords : ℕ
+rowWords = maxRules / wordBits
+
+abbrev pub readersWords : ℕ
+readersWords = maxVariables * rowWords
+
+-- the readers after rule k was entered at one place, or at several: e x says whether it reads x there
+abbrev pub Entered : List ℕ → List ℕ → ℕ → (ℕ → Bool) → Type 0
+Entered ws ws′ k e = (x i : ℕ) → x < maxVariables → i < maxRules → has ws′ (maxRules * x + i) ≡ (has ws (maxRules * x + i) || (eqb i k && e x))
+
+-- bit j is set exactly where place j of the rule is kept
+abbrev pub MaskOf : Program → Rule → ℕ → Type 0
+MaskOf P r w = (j : ℕ) → j < length (r .terms) → bit w j ≡ kept P r j
+
+-- the first n rules are in the tables; the rules that read x stand in one row of bits, from number maxRules * x on
+pub record Tabled (s : List ℕ) (P : Program) (n : ℕ) (places masks readers : List ℕ) : Type 0 where
+  pub place-is : (i : ℕ) → i < n → getD places i 0 ≡ rulePlace s P i
+  pub mask-is : (i : ℕ) → i < n → MaskOf P (ruleIn (P .rules) i) (getD masks i 0)
+  pub reader-is : (x i : ℕ) → x < maxVariables → i < maxRules → has readers (maxRules * x + i) ≡ (ltb i n && readsKept P (ruleIn (P .rules) i) x)

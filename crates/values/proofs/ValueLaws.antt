@@ -1,0 +1,283 @@
+-- The values of fields, case by case.
+use Prim.Native.Nat.{ℕ, suc, _+_, _*_, _-_, _/_, _%_, _<_, _≤_}
+use mathlib.Core.Path.{_≡_, refl, sym, ap, ap₂, _∙_}
+use mathlib.Core.List.{List, [], _∷_}
+use mathlib.Core.Bool.{Bool, true, false, not, cond, _||_}
+use lib.Dec.{eqb, ltb, leb}
+use lib.IntN.{ℤ, natAbs}
+use lib.ListN.{length, getD, take, drop}
+use lib.Signed.{ltZ}
+use native.Mathlib.Omega.{arith}
+use borrow.Author.Tests.{eq-eqb, ne-eqb, eqb-true, lt-ltb, le-ltb, le-leb, lt-leb, ltb-false, leb-false, leb-true}
+use Rattle.format.specs.Limits.{maxNumber, maxTerms}
+use Rattle.format.specs.Numbers.{signedAt, beyond}
+use Rattle.program.specs.Tables.{_when_, firstOf, anyBelow}
+use Rattle.program.specs.Program.{Variable, variable, rule, constraint, variableOf, ruleOf, constraintOf, termsOf, termIn, variablesAt}
+use Rattle.program.specs.Refusals.{wrongLength, notTerms, wrongForm, outsideRange, undeclared, wrongCount, variableTwice, negativeProduct, itemRefusal, unknownForm, wrongHead, wrongCountOf, wrongConstraint, bodyForm, wrongTerm, outsideTerm, undeclaredTerm, repeatedTerm, negativeTerm, notFrom}
+use Rattle.program.proofs.Bodies.{terms-length}
+use Rattle.program.proofs.Conditions.{below-none, none-below, never}
+use Rattle.program.proofs.Places.{variables-length, variable-at, sized-terms}
+use Rattle.parts.proofs.Bytes.{rest as part-rest}
+use Rattle.faults.specs.Faults.{FaultsBelow, faultsNumber}
+use Rattle.values.specs.Lengths.{lengthRefusal}
+use Rattle.faults.specs.declared.Faults.{Faults}
+use Rattle.faults.proofs.TermLaws.{negative-other}
+
+-- ---- variables
+
+module _ (v : List ℕ) where
+  pub range-outside : (a b d : Bool) → a ≡ beyond maxNumber (signedAt v 1) → b ≡ beyond maxNumber (signedAt v 3) → d ≡ ltZ (signedAt v 3) (signedAt v 1)
+      → ((a || b) || d) ≡ outsideRange (variable (variableOf v))
+  unfolding outsideRange
+  range-outside a b d e f g = rw (e, f, g)
+
+  module _ (vs : List Variable) where
+    pub variable-length : (length v ≡ 5 → ⊥) → 6 ≡ lengthRefusal vs 1 v
+    unfolding lengthRefusal wrongLength
+    variable-length h = simp (ne-eqb (length v) 5 h)
+
+    pub variable-kind : length v ≡ 5 → 1 < getD v 0 0 → 7 ≡ lengthRefusal vs 1 v
+    unfolding lengthRefusal wrongLength itemRefusal wrongForm
+    variable-kind h k = simp (eq-eqb (length v) 5 h, lt-ltb 1 (getD v 0 0) k)
+
+    module _ (h : length v ≡ 5) (k : getD v 0 0 ≤ 1) where
+      pub variable-range : outsideRange (variable (variableOf v)) ≡ true → 8 ≡ lengthRefusal vs 1 v
+      unfolding lengthRefusal wrongLength itemRefusal wrongForm
+      variable-range e = simp (eq-eqb (length v) 5 h, le-ltb 1 (getD v 0 0) k, e)
+
+      pub variable-fine : outsideRange (variable (variableOf v)) ≡ false → 0 ≡ lengthRefusal vs 1 v
+      unfolding lengthRefusal wrongLength itemRefusal wrongForm undeclared wrongCount variableTwice negativeProduct
+      variable-fine e = simp (eq-eqb (length v) 5 h, le-ltb 1 (getD v 0 0) k, e)
+
+-- ---- lengths
+
+module _ (header len : ℕ) where
+  abbrev is-terms : ℕ → Bool
+  is-terms n = eqb len (header + 4 * n)
+
+  none-right : ((n : ℕ) → n < maxTerms + 1 → len ≡ header + 4 * n → ⊥) → true ≡ notTerms header len
+  unfolding notTerms
+  none-right h = sym (ap not (below-none (maxTerms + 1) is-terms (λ n k. ne-eqb len (header + 4 * n) (h n k))))
+
+  pub terms-short : len < header → true ≡ notTerms header len
+  terms-short h = none-right (λ n k e. omega arith)
+
+  pub terms-uneven : header ≤ len → ((len - header) % 4 ≡ 0 → ⊥) → true ≡ notTerms header len
+  terms-uneven h u = none-right (λ n k e. u (omega arith))
+
+  pub terms-even : header ≤ len → (len - header) % 4 ≡ 0 → ltb maxTerms ((len - header) / 4) ≡ notTerms header len
+  unfolding notTerms
+  terms-even h u = go (ltb maxTerms ((len - header) / 4)) refl
+    where
+      at-least-one : (b : Bool) → anyBelow (maxTerms + 1) is-terms ≡ b → (len - header) / 4 < maxTerms + 1 → false ≡ not b
+      at-least-one true e k = refl
+      at-least-one false e k =
+          absurd (never (eq-eqb len (header + 4 * ((len - header) / 4)) (omega arith)) (none-below (maxTerms + 1) is-terms e ((len - header) / 4) k))
+
+      go : (t : Bool) → ltb maxTerms ((len - header) / 4) ≡ t → t ≡ notTerms header len
+      go true e = none-right (λ n k q. let m = lt-of e in omega arith)
+        where
+          lt-of : ltb maxTerms ((len - header) / 4) ≡ true → maxTerms < (len - header) / 4
+          lt-of e = leb-true (suc maxTerms) ((len - header) / 4) e
+      go false e = at-least-one (anyBelow (maxTerms + 1) is-terms) refl (let m = ltb-false maxTerms ((len - header) / 4) e in omega arith)
+
+  -- a right length has the header
+  pub terms-header : notTerms header len ≡ false → header ≤ len
+  terms-header e = let w = sized-terms header len e in omega arith
+
+-- ---- forms and counts
+
+pub form-known : (form : ℕ) → 1 ≤ form → form ≤ 7 → false ≡ unknownForm form
+unfolding unknownForm
+form-known form h k = simp (le-leb 1 form h, le-leb form 7 k)
+
+pub form-zero : (form : ℕ) → form ≡ 0 → true ≡ unknownForm form
+unfolding unknownForm
+form-zero form h = rw h
+
+pub form-above : (form : ℕ) → 7 < form → true ≡ unknownForm form
+unfolding unknownForm
+form-above form h = simp (le-leb 1 form (omega arith), lt-leb form 7 h)
+
+pub count-in : (least most n : ℕ) → least ≤ n → n ≤ most → false ≡ notFrom least most n
+count-in least most n h k = simp (le-ltb n least h, le-ltb most n k)
+
+pub count-out : (least most n : ℕ) → (least ≤ n → n ≤ most → ⊥) → true ≡ notFrom least most n
+count-out least most n h = go (ltb n least) (ltb most n) refl refl
+  where
+    go : (a b : Bool) → ltb n least ≡ a → ltb most n ≡ b → true ≡ (a || b)
+    go true b p q = refl
+    go false true p q = refl
+    go false false p q = absurd (h (ltb-false n least p) (ltb-false most n q))
+
+pub count-only : (k n : ℕ) → not (eqb n k) ≡ notFrom k k n
+count-only k n = go (eqb n k) refl
+  where
+    go : (t : Bool) → eqb n k ≡ t → not t ≡ notFrom k k n
+    go true e = let h = eqb-true n k e in count-in k k n (omega arith) (omega arith)
+    go false e = count-out k k n (λ a b. never (eq-eqb n k (omega arith)) e)
+
+-- a count, by the form
+pub count-form : (form k n : ℕ) (b : Bool) → form ≡ k → b ≡ wrongCountOf k n → b ≡ wrongCountOf form n
+count-form form k n b h e = rw h e
+
+module _ (n : ℕ) where
+  pub count-sum : notFrom 0 maxTerms n ≡ wrongCountOf 1 n
+  unfolding wrongCountOf
+  count-sum = refl
+
+  pub count-max : notFrom 1 maxTerms n ≡ wrongCountOf 2 n
+  unfolding wrongCountOf
+  count-max = refl
+
+  pub count-min : notFrom 1 maxTerms n ≡ wrongCountOf 3 n
+  unfolding wrongCountOf
+  count-min = refl
+
+  pub count-product : not (eqb n 2) ≡ wrongCountOf 4 n
+  unfolding wrongCountOf
+  count-product = count-only 2 n
+
+  pub count-size : not (eqb n 1) ≡ wrongCountOf 5 n
+  unfolding wrongCountOf
+  count-size = count-only 1 n
+
+  pub count-if : notFrom 1 maxTerms n ≡ wrongCountOf 6 n
+  unfolding wrongCountOf
+  count-if = refl
+
+  pub count-carry : notFrom 2 maxTerms n ≡ wrongCountOf 7 n
+  unfolding wrongCountOf
+  count-carry = refl
+
+pub count-unknown : (form n : ℕ) → (form ≡ 1 → ⊥) → (form ≡ 2 → ⊥) → (form ≡ 3 → ⊥) → (form ≡ 4 → ⊥) → (form ≡ 5 → ⊥) → (form ≡ 6 → ⊥) → (form ≡ 7 → ⊥)
+    → false ≡ wrongCountOf form n
+unfolding wrongCountOf
+count-unknown form n a b c d e f g =
+    simp (ne-eqb form 1 a, ne-eqb form 2 b, ne-eqb form 3 c, ne-eqb form 4 d, ne-eqb form 5 e, ne-eqb form 6 f, ne-eqb form 7 g)
+
+-- ---- heads
+
+module _ (s : List ℕ) (n head : ℕ) where
+  pub head-undeclared : leb n head ≡ true → true ≡ wrongHead (variablesAt s n) head
+  unfolding wrongHead
+  head-undeclared e = simp (variables-length, e)
+
+  pub head-kind : (kind : ℕ) → leb n head ≡ false → kind ≡ variableOf (drop (8 * head + 3) s) .kind → not (eqb kind 1) ≡ wrongHead (variablesAt s n) head
+  unfolding wrongHead
+  head-kind kind e k = simp (variables-length, e, variable-at s n head (leb-false n head e), k)
+
+-- ---- constraints
+
+pub body-sum : (form : ℕ) → form ≡ 1 → 1 ≡ bodyForm form
+body-sum form h = rw h
+
+pub body-literals : (form : ℕ) → form ≡ 2 → 6 ≡ bodyForm form
+body-literals form h = rw h
+
+pub body-unknown : (form : ℕ) → (form ≡ 1 → ⊥) → (form ≡ 2 → ⊥) → 0 ≡ bodyForm form
+body-unknown form h k = simp (ne-eqb form 1 h, ne-eqb form 2 k)
+
+pub constraint-sum : (form : ℕ) (c : ℤ) → form ≡ 1 → false ≡ wrongConstraint form c
+unfolding wrongConstraint
+constraint-sum form c h = rw h
+
+pub constraint-literals : (form : ℕ) (c : ℤ) (b : Bool) → b ≡ eqb (natAbs c) 0 → form ≡ 2 → not b ≡ wrongConstraint form c
+unfolding wrongConstraint
+constraint-literals form c b e h = rw (h, e)
+
+pub constraint-unknown : (form : ℕ) (c : ℤ) → (form ≡ 1 → ⊥) → (form ≡ 2 → ⊥) → true ≡ wrongConstraint form c
+unfolding wrongConstraint
+constraint-unknown form c h k = simp (ne-eqb form 1 h, ne-eqb form 2 k)
+
+-- ---- bodies
+
+first-six : {a a′ b b′ c c′ d d′ e e′ f f′ : Bool} → a ≡ a′ → b ≡ b′ → c ≡ c′ → d ≡ d′ → e ≡ e′ → f ≡ f′
+    → firstOf ((7 when a) ∷ (8 when b) ∷ (9 when c) ∷ (10 when d) ∷ (11 when e) ∷ (12 when f) ∷ [])
+    ≡ firstOf ((7 when a′) ∷ (8 when b′) ∷ (9 when c′) ∷ (10 when d′) ∷ (11 when e′) ∷ (12 when f′) ∷ [])
+first-six p q r s t u = λ i. firstOf ((7 when p i) ∷ (8 when q i) ∷ (9 when r i) ∷ (10 when s i) ∷ (11 when t i) ∷ (12 when u i) ∷ [])
+
+abbrev joined-is : Faults → Faults → Faults → Type 0
+joined-is all own terms =
+    (all .form ≡ (own .form || terms .form)) × (all .range ≡ (own .range || terms .range)) × (all .variable ≡ (own .variable || terms .variable))
+    × (all .repeated ≡ (own .repeated || terms .repeated)) × (all .negative ≡ (own .negative || terms .negative))
+
+-- the faults of a field's own parts and of its body, in order
+module _ (vs : List Variable) (v : List ℕ) (h form : ℕ) where
+  abbrev rest : List ℕ
+  rest = take (length v - h) (drop h v)
+
+  pub body-refusal : (terms own all : Faults) (count : Bool) {a b c : Bool}
+      → FaultsBelow vs form (termsOf rest) (length rest / 4) terms
+      → own .form ≡ a → own .range ≡ b → own .variable ≡ c → own .repeated ≡ false → own .negative ≡ false
+      → joined-is all own terms
+      → count ≡ wrongCountOf form (length rest / 4)
+      → faultsNumber all count
+      ≡ firstOf
+      ((7 when a || anyBelow (length (termsOf (drop h v))) (λ i. wrongTerm form i (termIn (termsOf (drop h v)) i)))
+      ∷ (8 when b || anyBelow (length (termsOf (drop h v))) (λ i. outsideTerm form i (termIn (termsOf (drop h v)) i)))
+      ∷ (9 when c || anyBelow (length (termsOf (drop h v))) (λ i. undeclaredTerm vs (termIn (termsOf (drop h v)) i)))
+      ∷ (10 when wrongCountOf form (length (termsOf (drop h v))))
+      ∷ (11 when anyBelow (length (termsOf (drop h v))) (λ i. repeatedTerm (termsOf (drop h v)) i))
+      ∷ (12 when anyBelow (length (termsOf (drop h v))) (λ i. negativeTerm vs form (termIn (termsOf (drop h v)) i)))
+      ∷ [])
+  body-refusal terms own all count f a b c d n e k =
+      let g = rw (part-rest h v, ← terms-length (drop h v)) at f in
+      first-six
+      (e .0 ∙ ap₂ _||_ a (g .form-is))
+      (e .1 ∙ ap₂ _||_ b (g .range-is))
+      (e .2 ∙ ap₂ _||_ c (g .variable-is))
+      (rw (part-rest h v, ← terms-length (drop h v)) at k)
+      (e .3 ∙ ap₂ _||_ d (g .repeated-is))
+      (e .4 ∙ ap₂ _||_ n (g .negative-is))
+
+module _ (vs : List Variable) (v : List ℕ) (n : ℕ) where
+  pub rule-refusal : n ≡ firstOf
+      ((7 when unknownForm (getD v 0 0) || anyBelow (length (termsOf (drop 4 v))) (λ i. wrongTerm (getD v 0 0) i (termIn (termsOf (drop 4 v)) i)))
+      ∷ (8 when beyond maxNumber (signedAt v 2) || anyBelow (length (termsOf (drop 4 v))) (λ i. outsideTerm (getD v 0 0) i (termIn (termsOf (drop 4 v)) i)))
+      ∷ (9 when wrongHead vs (getD v 1 0) || anyBelow (length (termsOf (drop 4 v))) (λ i. undeclaredTerm vs (termIn (termsOf (drop 4 v)) i)))
+      ∷ (10 when wrongCountOf (getD v 0 0) (length (termsOf (drop 4 v))))
+      ∷ (11 when anyBelow (length (termsOf (drop 4 v))) (λ i. repeatedTerm (termsOf (drop 4 v)) i))
+      ∷ (12 when anyBelow (length (termsOf (drop 4 v))) (λ i. negativeTerm vs (getD v 0 0) (termIn (termsOf (drop 4 v)) i)))
+      ∷ [])
+      → n ≡ itemRefusal vs (rule (ruleOf v))
+  unfolding itemRefusal wrongForm outsideRange undeclared wrongCount variableTwice negativeProduct
+  rule-refusal e = e
+
+  no-product : (form : ℕ) → form ≡ bodyForm (getD v 0 0) → form ≡ 4 → ⊥
+  no-product form e q = go (eqb (getD v 0 0) 1) (eqb (getD v 0 0) 2) (sym e ∙ q)
+    where
+      go : (a b : Bool) → _≡_ {A = ℕ} (cond a 1 (cond b 6 0)) 4 → ⊥
+      go true b w = omega arith
+      go false true w = omega arith
+      go false false w = omega arith
+
+  pub constraint-refusal : (form : ℕ) → form ≡ bodyForm (getD v 0 0) → n ≡ firstOf
+      ((7 when wrongConstraint (getD v 0 0) (signedAt v 1) || anyBelow (length (termsOf (drop 3 v))) (λ i. wrongTerm form i (termIn (termsOf (drop 3 v)) i)))
+      ∷ (8 when beyond maxNumber (signedAt v 1) || anyBelow (length (termsOf (drop 3 v))) (λ i. outsideTerm form i (termIn (termsOf (drop 3 v)) i)))
+      ∷ (9 when false || anyBelow (length (termsOf (drop 3 v))) (λ i. undeclaredTerm vs (termIn (termsOf (drop 3 v)) i)))
+      ∷ (10 when wrongCountOf form (length (termsOf (drop 3 v))))
+      ∷ (11 when anyBelow (length (termsOf (drop 3 v))) (λ i. repeatedTerm (termsOf (drop 3 v)) i))
+      ∷ (12 when anyBelow (length (termsOf (drop 3 v))) (λ i. negativeTerm vs form (termIn (termsOf (drop 3 v)) i)))
+      ∷ [])
+      → n ≡ itemRefusal vs (constraint (constraintOf v))
+  unfolding itemRefusal wrongForm outsideRange undeclared wrongCount variableTwice negativeProduct
+  constraint-refusal form h e =
+      let z = below-none (length (termsOf (drop 3 v))) (λ i. negativeTerm vs form (termIn (termsOf (drop 3 v)) i)) (λ i k. sym (negative-other vs form (termIn (termsOf (drop 3 v)) i) (no-product form h))) in
+      rw (z, h) at e
+
+  pub rule-length : notTerms 4 (length v) ≡ true → 6 ≡ lengthRefusal vs 2 v
+  unfolding lengthRefusal wrongLength
+  rule-length h = simp h
+
+  pub rule-rest : notTerms 4 (length v) ≡ false → n ≡ itemRefusal vs (rule (ruleOf v)) → n ≡ lengthRefusal vs 2 v
+  unfolding lengthRefusal wrongLength
+  rule-rest h e = simp h e
+
+  pub constraint-length : notTerms 3 (length v) ≡ true → 6 ≡ lengthRefusal vs 3 v
+  unfolding lengthRefusal wrongLength
+  constraint-length h = simp h
+
+  pub constraint-rest : notTerms 3 (length v) ≡ false → n ≡ itemRefusal vs (constraint (constraintOf v)) → n ≡ lengthRefusal vs 3 v
+  unfolding lengthRefusal wrongLength
+  constraint-rest h e = simp h e

@@ -1,0 +1,217 @@
+// The values of fields: variables, rules and constraints.
+ghost use mathlib.Core.Path.{_≡_};
+ghost use mathlib.Core.List.{List};
+ghost use Prim.Native.Nat.{_*_, _<_, _≤_};
+ghost use lib.ListN.{length};
+ghost use lib.Signed.{ltZ};
+ghost use Rattle.format.specs.Limits.{maxTerms};
+ghost use Rattle.program.specs.Program.{Variable, Item, variableOf, ruleOf, constraintOf, variablesAt};
+ghost use Rattle.program.specs.Refusals.{outsideRange, notTerms, unknownForm, wrongHead, wrongCountOf, wrongConstraint, bodyForm, notFrom, itemRefusal};
+ghost use Rattle.faults.specs.Faults.{checkedNumber};
+ghost use Rattle.values.specs.Lengths.{lengthRefusal};
+use faults::Checked;
+use faults::Faults;
+use faults::by_form;
+use format::Format;
+use program::Refusal;
+
+pub fn is_below(a: i64, b: i64) -> bool
+    ensures { λ r. ⌜ r ≡ ltZ a b ⌝ }
+{
+    a < b
+}
+
+// Whether an end of a variable's range is outside its own, or low is above high.
+pub fn is_range_outside(value: &[u8]) -> bool
+    requires { ⌜ length (now value) ≡ 5 ⌝ }
+    ensures { λ r. ⌜ r ≡ outsideRange (Item.variable (variableOf (now (value .entry)))) ⌝ }
+{
+    let low = format::signed_at(value, 1);
+    let high = format::signed_at(value, 3);
+    let a = format::is_number_beyond(low);
+    let b = format::is_number_beyond(high);
+    a | b | is_below(high, low)
+}
+
+// A variable: kind (1), low (2), high (2).
+pub fn check_variable(value: &[u8]) -> Checked
+    ensures { λ r. ⌜ ((vs : List Variable) → checkedNumber r ≡ lengthRefusal vs 1 (now (value .entry))) ⌝ }
+{
+    if value.len() != 5 {
+        return Checked::Bad(Refusal::WrongLength);
+    }
+    let kind = value[0];
+    match kind {
+        0 | 1 => {}
+        2..=255 => {
+            return Checked::Bad(Refusal::WrongForm);
+        }
+    }
+    if is_range_outside(value) {
+        return Checked::Bad(Refusal::OutsideRange);
+    }
+    Checked::Fine
+}
+
+// Whether a length is not that of a header and of as many terms as a body may have.
+pub fn is_not_terms(len: usize, header: usize) -> bool
+    ensures { λ r. ⌜ r ≡ notTerms header len ⌝ }
+{
+    if len < header {
+        return true;
+    }
+    let rest = len - header;
+    if rest % 4 != 0 {
+        return true;
+    }
+    Format::MAX_TERMS < rest / 4
+}
+
+pub fn is_unknown_form(form: u8) -> bool
+    ensures { λ r. ⌜ r ≡ unknownForm form ⌝ }
+{
+    match form {
+        1..=7 => false,
+        0 | 8..=255 => true,
+    }
+}
+
+// Whether a head is not declared or not founded.
+pub fn is_wrong_head(file: &[u8], variables: usize, head: u8) -> bool
+    requires { ⌜ 8 * variables ≤ length (now file) ⌝ }
+    ensures { λ r. ⌜ r ≡ wrongHead (variablesAt (now (file .entry)) variables) head ⌝ }
+{
+    if faults::is_undeclared(variables, head) {
+        return true;
+    }
+    let kind = parts::variables::kind(file, head);
+    kind != 1
+}
+
+// Whether a body has more terms than a body may have.
+fn is_not_any(n: usize) -> bool
+    ensures { λ r. ⌜ r ≡ notFrom 0 maxTerms n ⌝ }
+{
+    match n {
+        0..=Format::MAX_TERMS => false,
+        _ => true,
+    }
+}
+
+// Whether it has none, or more than a body may have.
+fn is_not_some(n: usize) -> bool
+    ensures { λ r. ⌜ r ≡ notFrom 1 maxTerms n ⌝ }
+{
+    match n {
+        1..=Format::MAX_TERMS => false,
+        _ => true,
+    }
+}
+
+// Whether it has fewer than two, or more than a body may have.
+fn is_not_several(n: usize) -> bool
+    ensures { λ r. ⌜ r ≡ notFrom 2 maxTerms n ⌝ }
+{
+    match n {
+        2..=Format::MAX_TERMS => false,
+        _ => true,
+    }
+}
+
+// Whether a body of this form may not have n terms.
+pub fn is_wrong_count(form: u8, n: usize) -> bool
+    ensures { λ r. ⌜ r ≡ wrongCountOf form n ⌝ }
+{
+    match form {
+        1 => is_not_any(n),
+        2 => is_not_some(n),
+        3 => is_not_some(n),
+        4 => n != 2,
+        5 => n != 1,
+        6 => is_not_some(n),
+        7 => is_not_several(n),
+        0 | 8..=255 => false,
+    }
+}
+
+// A rule of a right length: form (1), head (1), c (2), terms.
+pub fn check_rule_parts(file: &[u8], variables: usize, value: &[u8]) -> Checked
+    requires { ⌜ (8 * variables ≤ length (now file)) × (4 ≤ length (now value)) ⌝ }
+    ensures { λ r. ⌜ checkedNumber r ≡ itemRefusal (variablesAt (now (file .entry)) variables) (Item.rule (ruleOf (now (value .entry)))) ⌝ }
+{
+    let form = value[0];
+    let head = value[1];
+    let c = format::signed_at(value, 2);
+    let body = &value[4..];
+    let own = Faults {
+        form: is_unknown_form(form),
+        range: format::is_number_beyond(c),
+        variable: is_wrong_head(file, variables, head),
+        repeated: false,
+        negative: false,
+    };
+    let all = own.with(faults::body_faults(file, variables, body, form));
+    all.first(is_wrong_count(form, body.len() / 4))
+}
+
+pub fn check_rule(file: &[u8], variables: usize, value: &[u8]) -> Checked
+    requires { ⌜ 8 * variables ≤ length (now file) ⌝ }
+    ensures { λ r. ⌜ checkedNumber r ≡ lengthRefusal (variablesAt (now (file .entry)) variables) 2 (now (value .entry)) ⌝ }
+{
+    if is_not_terms(value.len(), 4) {
+        return Checked::Bad(Refusal::WrongLength);
+    }
+    check_rule_parts(file, variables, value)
+}
+
+// The rule form whose terms a constraint's form has.
+pub fn body_form(form: u8) -> u8
+    ensures { λ r. ⌜ r ≡ bodyForm form ⌝ }
+{
+    match form {
+        1 => 1,
+        2 => 6,
+        0 | 3..=255 => 0,
+    }
+}
+
+// Whether a constraint's form is unknown, or its c must be 0 and is not.
+pub fn is_wrong_constraint(form: u8, c: i64) -> bool
+    ensures { λ r. ⌜ r ≡ wrongConstraint form c ⌝ }
+{
+    match form {
+        1 => false,
+        2 => !by_form::is_zero(c),
+        0 | 3..=255 => true,
+    }
+}
+
+// A constraint of a right length: form (1), c (2), terms.
+pub fn check_constraint_parts(file: &[u8], variables: usize, value: &[u8]) -> Checked
+    requires { ⌜ (8 * variables ≤ length (now file)) × (3 ≤ length (now value)) ⌝ }
+    ensures { λ r. ⌜ checkedNumber r ≡ itemRefusal (variablesAt (now (file .entry)) variables) (Item.constraint (constraintOf (now (value .entry)))) ⌝ }
+{
+    let kind = value[0];
+    let form = body_form(kind);
+    let c = format::signed_at(value, 1);
+    let body = &value[3..];
+    let own = Faults {
+        form: is_wrong_constraint(kind, c),
+        range: format::is_number_beyond(c),
+        variable: false,
+        repeated: false,
+        negative: false,
+    };
+    let all = own.with(faults::body_faults(file, variables, body, form));
+    all.first(is_wrong_count(form, body.len() / 4))
+}
+
+pub fn check_constraint(file: &[u8], variables: usize, value: &[u8]) -> Checked
+    requires { ⌜ 8 * variables ≤ length (now file) ⌝ }
+    ensures { λ r. ⌜ checkedNumber r ≡ lengthRefusal (variablesAt (now (file .entry)) variables) 3 (now (value .entry)) ⌝ }
+{
+    if is_not_terms(value.len(), 3) {
+        return Checked::Bad(Refusal::WrongLength);
+    }
+    check_constraint_parts(file, variables, value)
+}
