@@ -1,10 +1,5 @@
 // Tries the reader of rule files, the calls least and check and the printing call on the cases of a table, and prints their answers. The table is
 // standard input; its first lines say how a case is written. For a line that is written otherwise `bad line` and its number are printed.
-mod answers;
-mod lending;
-mod lines;
-mod pieces;
-
 use libc::STDIN_FILENO;
 use libc::STDOUT_FILENO;
 use printing::Printing;
@@ -24,5 +19,5 @@ fn main() {
         io::write_all(STDOUT_FILENO, b"the table is too long\n");
         return;
     }
-    lines::each(&table[..n], &mut bytes, &mut room);
+    cases::each(&table[..n], &mut bytes, &mut room);
 }

@@ -2,8 +2,8 @@ use mathlib.Core.Path.{_≡_}
 use Prim.Native.Nat.{_-_, _≤_}
 use lib.ListN.{length}
 use borrow.Author.Needs.{needs}
-use Rattle.samples.proofs.pieces.appended.Statement.{statement}
-use Rattle.samples.proofs.pieces.appended.Tie as tie
+use Rattle.pieces.proofs.appended.Statement.{statement}
+use Rattle.pieces.proofs.appended.Tie as tie
 
 abbrev Inv-loop : tie.InvT-loop
 Inv-loop bytes₀ n text m₀ at₀ bytes m at = (length bytes ≡ length bytes₀) × (at ≤ length text)

@@ -2,8 +2,8 @@ use mathlib.Core.Path.{_≡_}
 use Prim.Native.Nat.{_-_}
 use lib.ListN.{length}
 use borrow.Author.Needs.{needs}
-use Rattle.samples.proofs.pieces.decimal.Statement.{statement}
-use Rattle.samples.proofs.pieces.decimal.Tie as tie
+use Rattle.pieces.proofs.decimal.Statement.{statement}
+use Rattle.pieces.proofs.decimal.Tie as tie
 
 abbrev Inv-loop : tie.InvT-loop
 Inv-loop text n₀ i₀ i-end n i = i-end ≡ length text

@@ -2,8 +2,8 @@ use mathlib.Core.Path.{_≡_}
 use Prim.Native.Nat.{_-_, _≤_}
 use lib.ListN.{length}
 use borrow.Author.Needs.{needs}
-use Rattle.samples.proofs.lines.each.Statement.{statement}
-use Rattle.samples.proofs.lines.each.Tie as tie
+use Rattle.cases.proofs.each.Statement.{statement}
+use Rattle.cases.proofs.each.Tie as tie
 
 abbrev Inv-loop : tie.InvT-loop
 Inv-loop table bytes₀ room₀ begun₀ number₀ at₀ t9 t10 bytes room begun number at = (length bytes ≡ length bytes₀) × (length room ≡ length room₀) × (number ≤ at) × (at ≤ length table)
@@ -20,17 +20,17 @@ find-requires c κs = search needs
 add-number : tie.Need-add-number Inv-loop μ-loop
 add-number c = search needs
 
-sub-line : tie.Need-sub-line Inv-loop μ-loop
-sub-line c = search needs
+sub-after : tie.Need-sub-after Inv-loop μ-loop
+sub-after c = search needs
 
-part-line-start : tie.Need-part-line-start Inv-loop μ-loop
-part-line-start c = search needs
+part-after-start : tie.Need-part-after-start Inv-loop μ-loop
+part-after-start c = search needs
 
-part-line-end : tie.Need-part-line-end Inv-loop μ-loop
-part-line-end c = search needs
+part-after-end : tie.Need-part-after-end Inv-loop μ-loop
+part-after-end c = search needs
 
-line-requires : tie.Need-line-requires Inv-loop μ-loop
-line-requires c κs = search needs
+after-requires : tie.Need-after-requires Inv-loop μ-loop
+after-requires c κs = search needs
 
 slice-aggregate-say : tie.Need-slice-aggregate-say Inv-loop μ-loop
 slice-aggregate-say c = search needs
@@ -38,11 +38,11 @@ slice-aggregate-say c = search needs
 say-requires : tie.Need-say-requires Inv-loop μ-loop
 say-requires c κs = search needs
 
-slice-aggregate-write-all : tie.Need-slice-aggregate-write-all Inv-loop μ-loop
-slice-aggregate-write-all c = search needs
+slice-aggregate-text : tie.Need-slice-aggregate-text Inv-loop μ-loop
+slice-aggregate-text c = search needs
 
-write-all-requires : tie.Need-write-all-requires Inv-loop μ-loop
-write-all-requires c κs = search needs
+text-requires : tie.Need-text-requires Inv-loop μ-loop
+text-requires c κs = search needs
 
 same-length : tie.Need-same-length Inv-loop μ-loop
 same-length c = search needs
@@ -80,14 +80,14 @@ each-spec =
     loop-holds
     find-requires
     add-number
-    sub-line
-    part-line-start
-    part-line-end
-    line-requires
+    sub-after
+    part-after-start
+    part-after-end
+    after-requires
     slice-aggregate-say
     say-requires
-    slice-aggregate-write-all
-    write-all-requires
+    slice-aggregate-text
+    text-requires
     same-length
     same-length-2
     returns

@@ -2,8 +2,8 @@ use mathlib.Core.Path.{_≡_}
 use Prim.Native.Nat.{_-_, _≤_}
 use lib.ListN.{length}
 use borrow.Author.Needs.{needs}
-use Rattle.samples.proofs.pieces.repeated.Statement.{statement}
-use Rattle.samples.proofs.pieces.repeated.Tie as tie
+use Rattle.pieces.proofs.repeated.Statement.{statement}
+use Rattle.pieces.proofs.repeated.Tie as tie
 
 abbrev Inv-loop : tie.InvT-loop
 Inv-loop bytes₀ n text times m₀ at₀ k₀ bytes m at k = (length bytes ≡ length bytes₀) × (at ≤ length text)

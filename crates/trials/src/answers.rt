@@ -1,0 +1,70 @@
+// Prints what reading a file, the calls and the printing call answer.
+use libc::STDOUT_FILENO;
+use packing::Parts;
+use packing::Word;
+use packing::of_reading;
+
+pub fn text(s: &[u8]) {
+    io::write_all(STDOUT_FILENO, s);
+}
+
+// A word, a space and a number.
+pub fn say(word: &[u8], n: usize) {
+    text(word);
+    text(b" ");
+    io::print_decimal(STDOUT_FILENO, n as u64);
+}
+
+// A word and two numbers.
+fn say_two(word: &[u8], n: usize, k: usize) {
+    say(word, n);
+    say(b"", k);
+}
+
+// An answer, by its word and numbers.
+pub fn tell(answer: Parts) {
+    let word = answer.word;
+    match word {
+        Word::STABLE => text(b": stable"),
+        Word::UNFOUNDED => say_two(b": unfounded", answer.first, answer.second),
+        Word::CONSTRAINT => say(b": constraint", answer.first),
+        Word::RULE => say(b": rule", answer.first),
+        Word::RANGE => say(b": range", answer.first),
+        Word::REFUSED => say_two(b": refused", answer.first, answer.second),
+        Word::ACCEPTED => {
+            say_two(b": accepted", answer.first, answer.second);
+            say(b"", answer.third);
+        }
+        Word::FOUND => text(b": found"),
+        Word::NONE => text(b": none"),
+        _ => text(b": no such word"),
+    }
+}
+
+// What reading a file answers.
+pub fn read(name: &[u8], file: &[u8]) {
+    text(name);
+    tell(of_reading(reader::read(file)));
+    text(b"\n");
+}
+
+// Of a text that is longer than the output its length and what the output holds; else the text.
+fn printed(output: &[u8], n: usize) {
+    if n <= output.len() {
+        text(b":\n");
+        text(&output[0..n]);
+    } else {
+        say(b":", n);
+        text(b" ");
+        text(output);
+        text(b"\n");
+    }
+}
+
+// The text for an input of the printing program.
+pub fn print(output: &mut [u8], name: &[u8], input: &[u8]) {
+    text(b"print of ");
+    text(name);
+    let n = printing::print(input, output);
+    printed(output, n);
+}

@@ -1,0 +1,136 @@
+// Tries the calls least and check on a buffer that is a part of a larger room, and prints what they answer, what they wrote, and whether every
+// other byte of the room is as it was.
+use crate::answers::say;
+use crate::answers::tell;
+use crate::answers::text;
+use checker::call::check;
+use least::call::least;
+use libc::STDOUT_FILENO;
+use packing::Parts;
+use packing::Word;
+use packing::of_solved;
+use packing::of_verdict;
+
+// The lent part starts here and has at most so many bytes: more than a call asks for.
+const START: usize = 16;
+
+pub const MOST: usize = 3080;
+
+// Whether each byte but those from `start` on and below `end` is the pattern's. If so, all are then.
+fn is_kept(room: &mut [u8], start: usize, end: usize) -> bool {
+    for i in 0..room.len() {
+        let x = (i % 199 + 50) as u8;
+        if room[i] != x {
+            if i < start {
+                return false;
+            }
+            if end <= i {
+                return false;
+            }
+        }
+        room[i] = x;
+    }
+    true
+}
+
+// The variable and the mark of a report's entry.
+fn marked(v: usize, mark: u8) {
+    match mark {
+        0 => say(b", most", v),
+        1 => {
+            say(b", when", v);
+            text(b" <=");
+        }
+        2 => {
+            say(b", when", v);
+            text(b" >=");
+        }
+        _ => say(b", no such mark", v),
+    }
+}
+
+// A number of two bytes in two's complement.
+fn number(n: usize) {
+    if n < 32768 {
+        say(b"", n);
+    } else {
+        text(b" -");
+        io::print_decimal(STDOUT_FILENO, ((65536 - n % 65536) % 65536) as u64);
+    }
+}
+
+// A report's entries, of two pairs of bytes each, or values of one pair each.
+fn written(is_report: bool, bytes: &[u8]) {
+    for i in 0..bytes.len() / 2 {
+        let x = bytes[2 * i];
+        let y = bytes[2 * i + 1];
+        if is_report & (i % 2 == 0) {
+            marked(format::wide(x), y);
+        } else {
+            number(format::joined(x, y));
+        }
+    }
+}
+
+// Makes the call and prints the answer.
+fn answered(is_check: bool, name: &[u8], file: &[u8], assignment: &[u8], lent: &mut [u8]) -> Parts {
+    if is_check {
+        text(b"check of ");
+        text(name);
+        return of_verdict(check(file, assignment, lent));
+    }
+    text(b"least of ");
+    text(name);
+    of_solved(least(file, assignment, lent))
+}
+
+// How many bytes are written with an answer: the values of `found`, or the entries of `unfounded`, of which no report has 1,024.
+fn length_of(answer: Parts, values: usize) -> usize {
+    let word = answer.word;
+    match word {
+        Word::FOUND => values,
+        Word::UNFOUNDED => 4 * (answer.first % 1024 + answer.second % 1024),
+        _ => 0,
+    }
+}
+
+// Prints what was written, n bytes from START on, and whether the other bytes are as they were; answers whether there are so many.
+fn guarded(room: &mut [u8], is_check: bool, n: usize) -> bool {
+    if MOST < n {
+        return false;
+    }
+    let stop = START + n;
+    if room.len() < stop {
+        return false;
+    }
+    written(is_check, &room[START..stop]);
+    if is_kept(room, START, stop) {
+        text(b", guard kept\n");
+    } else {
+        text(b", guard lost\n");
+    }
+    true
+}
+
+// Lends so many bytes of the room; answers whether there are so many.
+pub fn lend(
+    room: &mut [u8],
+    is_check: bool,
+    name: &[u8],
+    file: &[u8],
+    assignment: &[u8],
+    len: usize,
+) -> bool {
+    if MOST < len {
+        return false;
+    }
+    let end = START + len;
+    let all = room.len();
+    if all < end {
+        return false;
+    }
+    is_kept(room, 0, all);
+    let answer = answered(is_check, name, file, assignment, &mut room[START..end]);
+    tell(answer);
+    guarded(room, is_check, length_of(answer, assignment.len()))
+}
