@@ -1,90 +1,11 @@
 // The cases of the table of `samples`, line by line. A line's word is told by its first letter.
 use bytes::scan::find;
+use calling::call;
+use inputs::single;
 use pieces::WRONG;
 use pieces::appended;
-use pieces::decimal;
-use trials::answers::print;
-use trials::answers::read;
-use trials::answers::say;
-use trials::answers::text;
-use trials::lending::MOST;
-use trials::lending::lend;
-
-// How many bytes are lent: the number after the assignment, or the most.
-fn lent(line: &[u8]) -> usize {
-    if line.len() == 0 {
-        return MOST;
-    }
-    decimal(&line[1..])
-}
-
-// A call on the first f bytes and on the assignment that the line has; answers whether it is written as it must be.
-fn assigned(
-    room: &mut [u8],
-    bytes: &mut [u8],
-    f: usize,
-    is_check: bool,
-    name: &[u8],
-    line: &[u8],
-) -> bool {
-    let end = find(line, 0, line.len(), b';');
-    let n = appended(bytes, f, &line[0..end]);
-    if bytes.len() < n {
-        return false;
-    }
-    if n < f {
-        return false;
-    }
-    lend(
-        room,
-        is_check,
-        name,
-        &bytes[0..f],
-        &bytes[f..n],
-        lent(&line[end..]),
-    )
-}
-
-// The file of a call, before a semicolon, and the rest.
-fn call(
-    room: &mut [u8],
-    bytes: &mut [u8],
-    begun: usize,
-    is_check: bool,
-    name: &[u8],
-    line: &[u8],
-) -> bool {
-    let end = find(line, 0, line.len(), b';');
-    if end == line.len() {
-        return false;
-    }
-    let f = appended(bytes, begun, &line[0..end]);
-    assigned(room, bytes, f, is_check, name, &line[end + 1..])
-}
-
-// A case that has a file or an input alone.
-fn single(
-    room: &mut [u8],
-    bytes: &mut [u8],
-    begun: usize,
-    letter: u8,
-    name: &[u8],
-    line: &[u8],
-) -> bool {
-    let n = appended(bytes, begun, line);
-    if bytes.len() < n {
-        return false;
-    }
-    if room.len() < 4 {
-        return false;
-    }
-    match letter {
-        b'r' => read(name, &bytes[0..n]),
-        b'p' => print(room, name, &bytes[0..n]),
-        _ => print(&mut room[0..4], name, &bytes[0..n]),
-    }
-    true
-}
+use telling::say;
+use telling::text;
 
 // A case; answers whether it is written as it must be.
 fn case(

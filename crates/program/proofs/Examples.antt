@@ -1,5 +1,5 @@
 -- Document 01's small examples, shown of the specification; and wrong readers that it rules out.
-use Prim.Native.Nat.{ℕ}
+use Prim.Native.Nat.{ℕ, _<_}
 use mathlib.Core.Path.{_≡_, refl, sym, ap, _∙_}
 use mathlib.Core.Logic.{inr}
 use mathlib.Core.List.{List, [], _∷_}
@@ -14,7 +14,7 @@ use Rattle.program.specs.Fields.{place, tagBefore}
 use Rattle.program.specs.Program.{Program, program, termsOf, ruleIn}
 use Rattle.program.specs.Refusals.{cutShort, unknownTag, tagBelow, oneTooMany, notTerms, wrongLength, literalPlace, wrongOp, mustBeZero, wrongTerm, unknownForm, wrongConstraint, wrongForm, outsideTerm, outsideRange, undeclaredTerm, wrongHead, undeclared, wrongCountOf, wrongCount, repeatedTerm, variableTwice, negativeTerm, negativeProduct, itemRefusal, valueRefusal, fieldRefusal}
 use Rattle.program.specs.Directions.{direction, isMixed}
-use Rattle.program.specs.Components.{draws, edge, Valid}
+use Rattle.program.specs.Components.{draws, edge, Offends, Valid}
 use Rattle.program.specs.Reading.{Answer, accepted, refused, Reads, bad-field, not-valid, whole}
 use Rattle.program.proofs.Conditions.{never, none-below}
 use Rattle.program.proofs.Places.{passed-none, passed-more}
@@ -25,19 +25,26 @@ computes : Unit {0}
 unfolding beyond anyBelow place tagBefore program termsOf cutShort unknownTag tagBelow oneTooMany notTerms wrongLength literalPlace wrongOp mustBeZero wrongTerm unknownForm wrongConstraint wrongForm outsideTerm outsideRange undeclaredTerm wrongHead undeclared wrongCountOf wrongCount repeatedTerm variableTwice negativeTerm negativeProduct itemRefusal valueRefusal fieldRefusal direction draws edge
 computes = tt
 
--- no rule has a mixed place
-unfoldable mixed-in : Program → Bool
-mixed-in P = anyBelow (length (P .rules)) (λ i. anyBelow (length (ruleIn (P .rules) i .terms)) (λ j. isMixed (direction (P .variables) (ruleIn (P .rules) i) j)))
+-- rule i has a mixed place, and some of the first n rules has
+unfoldable mixed-rule : Program → ℕ → Bool
+mixed-rule P i = anyBelow (length (ruleIn (P .rules) i .terms)) (λ j. isMixed (direction (P .variables) (ruleIn (P .rules) i) j))
 
-none-mixed : (P : Program) → mixed-in P ≡ false → Valid P
-unfolding mixed-in
-none-mixed P e i o = never (o .pushes) (none-below _ _ (none-below _ _ e i (o .among)) (o .at) (o .inside))
+unfoldable mixed-in : Program → ℕ → Bool
+mixed-in P n = anyBelow n (mixed-rule P)
+
+-- none of them offends where none has
+none-offends : (P : Program) (n : ℕ) → mixed-in P n ≡ false → (i : ℕ) → i < n → Offends P i → ⊥
+unfolding mixed-in mixed-rule
+none-offends P n e i h o = never (o .pushes) (none-below _ _ (none-below n (mixed-rule P) e i h) (o .at) (o .inside))
+
+none-mixed : (P : Program) → mixed-in P (length (P .rules)) ≡ false → Valid P
+none-mixed P e i o = none-offends P _ e i (o .among) o
 
 abbrev variable : ℕ → List ℕ → List ℕ
 variable kind rest = 0x01 ∷ 0x00 ∷ 0x05 ∷ kind ∷ 0x00 ∷ 0x00 ∷ 0x00 ∷ 0x01 ∷ rest
 
 pub empty : Reads [] (accepted 0 0 0)
-unfolding computes mixed-in
+unfolding computes mixed-in mixed-rule
 empty = whole {k = 0} (record { passed = passed-none [] (lit≤ tt); ended = lit≤ tt }) (none-mixed _ refl)
 
 pub row-2 : Reads (0x01 ∷ 0x00 ∷ 0x05 ∷ 0x01 ∷ []) (refused 2 0)
@@ -106,9 +113,25 @@ row-13 =
       first = λ j h. absurd (omega arith);
     })
 
+-- the same rules in the other order: the second one offends
+abbrev other-order : List ℕ
+other-order = variable 1 (1 ∷ 0 ∷ 5 ∷ 1 ∷ 255 ∷ 246 ∷ 0 ∷ 10 ∷ 2 ∷ 0 ∷ 8 ∷ 1 ∷ 1 ∷ 255 ∷ 250 ∷ 0 ∷ 0 ∷ 0 ∷ 2 ∷ 2 ∷ 0 ∷ 8 ∷ 5 ∷ 0 ∷ 0 ∷ 0 ∷ 1 ∷ 0 ∷ 0 ∷ 0 ∷ [])
+
+pub row-13-last : Reads other-order (refused 13 27)
+unfolding computes mixed-in mixed-rule
+row-13-last =
+    not-valid {k = 4} {j = 3} {i = 1}
+    (record { passed = passed-more (passed-more (passed-more (passed-more (passed-none _ (lit≤ tt)) (lit< tt) refl) (lit< tt) refl) (lit< tt) refl) (lit< tt) refl; ended = lit≤ tt })
+    (lit< tt)
+    (record { tagged = refl; number = refl })
+    (record {
+      offends = record { among = lit< tt; at = 0; inside = lit< tt; pushes = refl; shares = inr ((0, walk.edge refl), (0, walk.edge refl)) };
+      first = none-offends _ 1 refl;
+    })
+
 -- the same rules with b from 0: nothing is mixed
 pub row-13-from-zero : Reads (sized 0 0) (accepted 2 2 0)
-unfolding computes mixed-in
+unfolding computes mixed-in mixed-rule
 row-13-from-zero =
     whole {k = 4}
     (record { passed = passed-more (passed-more (passed-more (passed-more (passed-none _ (lit≤ tt)) (lit< tt) refl) (lit< tt) refl) (lit< tt) refl) (lit< tt) refl; ended = lit≤ tt })
@@ -139,9 +162,12 @@ module _ (read : List ℕ → Answer) (right : (s : List ℕ) → Reads s (read 
   pub not-first-place-left-out : (a b c : ℕ) → read repeated ≡ accepted a b c → ⊥
   not-first-place-left-out a b c e = accepted-not a b c 11 16 (sym (answers _ row-11 e))
 
-  -- it looks at the first rule: one that passes it over accepts row 13's file
+  -- it looks at the first rule and at the last one: one that passes either over accepts row 13's file, or that with its rules in the other order
   pub not-first-rule-passed-over : (a b c : ℕ) → read (sized 255 246) ≡ accepted a b c → ⊥
   not-first-rule-passed-over a b c e = accepted-not a b c 13 16 (sym (answers _ row-13 e))
+
+  pub not-last-rule-passed-over : (a b c : ℕ) → read other-order ≡ accepted a b c → ⊥
+  not-last-rule-passed-over a b c e = accepted-not a b c 13 27 (sym (answers _ row-13-last e))
 
   -- it gives the place of that rule's tag, at 16, and not that of its value
   pub not-place-of-the-value : read (sized 255 246) ≡ refused 13 19 → ⊥

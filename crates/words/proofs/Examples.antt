@@ -1,4 +1,4 @@
--- Wrong sets, refuted on a sample of one word.
+-- Wrong sets, refuted on samples of four words.
 use Prim.Native.Nat.{ℕ, _≤_}
 use mathlib.Core.Path.{_≡_, sym}
 use mathlib.Core.Bool.{_||_, true≢false}
@@ -9,13 +9,13 @@ use Rattle.words.specs.declared.Found.the-variants.{Nothing}
 
 -- the set of 0 alone, and the empty one
 abbrev one : List ℕ
-one = 1 ∷ []
+one = 1 ∷ 0 ∷ 0 ∷ 0 ∷ []
 
 abbrev none : List ℕ
-none = 0 ∷ []
+none = 0 ∷ 0 ∷ 0 ∷ 0 ∷ []
 
 -- a search from 0 that starts one later finds nothing in the set of 0
-pub not-started-late : NextIs (has one) 0 64 Nothing → ⊥
+pub not-started-late : NextIs (has one) 0 256 Nothing → ⊥
 unfolding has bit
 not-started-late h = true≢false (h 0 (lit≤ tt) (lit< tt))
 

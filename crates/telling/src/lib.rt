@@ -1,8 +1,7 @@
-// Prints what reading a file, the calls and the printing call answer.
+// Prints an answer's word and numbers.
 use libc::STDOUT_FILENO;
 use packing::Parts;
 use packing::Word;
-use packing::of_reading;
 
 pub fn text(s: &[u8]) {
     io::write_all(STDOUT_FILENO, s);
@@ -39,32 +38,4 @@ pub fn tell(answer: Parts) {
         Word::NONE => text(b": none"),
         _ => text(b": no such word"),
     }
-}
-
-// What reading a file answers.
-pub fn read(name: &[u8], file: &[u8]) {
-    text(name);
-    tell(of_reading(reader::read(file)));
-    text(b"\n");
-}
-
-// Of a text that is longer than the output its length and what the output holds; else the text.
-fn printed(output: &[u8], n: usize) {
-    if n <= output.len() {
-        text(b":\n");
-        text(&output[0..n]);
-    } else {
-        say(b":", n);
-        text(b" ");
-        text(output);
-        text(b"\n");
-    }
-}
-
-// The text for an input of the printing program.
-pub fn print(output: &mut [u8], name: &[u8], input: &[u8]) {
-    text(b"print of ");
-    text(name);
-    let n = printing::print(input, output);
-    printed(output, n);
 }

@@ -1,8 +1,5 @@
 // Tries the calls least and check on a buffer that is a part of a larger room, and prints what they answer, what they wrote, and whether every
 // other byte of the room is as it was.
-use crate::answers::say;
-use crate::answers::tell;
-use crate::answers::text;
 use checker::call::check;
 use least::call::least;
 use libc::STDOUT_FILENO;
@@ -10,6 +7,9 @@ use packing::Parts;
 use packing::Word;
 use packing::of_solved;
 use packing::of_verdict;
+use telling::say;
+use telling::tell;
+use telling::text;
 
 // The lent part starts here and has at most so many bytes: more than a call asks for.
 const START: usize = 16;

@@ -2,8 +2,8 @@ use mathlib.Core.Path.{_≡_}
 use Prim.Native.Nat.{_-_}
 use lib.ListN.{length}
 use borrow.Author.Needs.{needs}
-use Rattle.trials.proofs.lending.is_kept.Statement.{statement}
-use Rattle.trials.proofs.lending.is_kept.Tie as tie
+use Rattle.lending.proofs.is_kept.Statement.{statement}
+use Rattle.lending.proofs.is_kept.Tie as tie
 
 abbrev Inv-loop : tie.InvT-loop
 Inv-loop room₀ start end i₀ i-end room i = (length room ≡ length room₀) × (i-end ≡ length room₀)
