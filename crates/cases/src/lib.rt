@@ -4,53 +4,14 @@ use calling::call;
 use inputs::single;
 use pieces::WRONG;
 use pieces::appended;
-use telling::say;
-use telling::text;
+use telling::bad_line;
 
-// A case; answers whether it is written as it must be.
-fn case(
-    room: &mut [u8],
-    bytes: &mut [u8],
-    begun: usize,
-    letter: u8,
-    name: &[u8],
-    line: &[u8],
-) -> bool {
-    match letter {
-        b'l' => call(room, bytes, begun, false, name, line),
-        b'c' => call(room, bytes, begun, true, name, line),
-        b'r' | b'p' | b's' => single(room, bytes, begun, letter, name, line),
-        _ => false,
-    }
+// The same beginning after a case that is written as it must be.
+fn if_fine(fine: bool, begun: usize) -> usize {
+    if fine { begun } else { WRONG }
 }
 
-// A line with a word, a name and a colon; how many bytes the beginning has after it.
-fn named(room: &mut [u8], bytes: &mut [u8], begun: usize, letter: u8, line: &[u8]) -> usize {
-    let colon = find(line, 0, line.len(), b':');
-    let space = find(line, 0, colon, b' ');
-    if space == colon {
-        return WRONG;
-    }
-    if colon == line.len() {
-        return WRONG;
-    }
-    if letter == b'w' {
-        return appended(bytes, 0, &line[colon + 1..]);
-    }
-    if case(
-        room,
-        bytes,
-        begun,
-        letter,
-        &line[space + 1..colon],
-        &line[colon + 1..],
-    ) {
-        return begun;
-    }
-    WRONG
-}
-
-// How many bytes the beginning has after a line.
+// How many bytes the beginning has after a line: a word, a name and a colon, and the case.
 fn after(room: &mut [u8], bytes: &mut [u8], begun: usize, line: &[u8]) -> usize {
     if line.len() == 0 {
         return begun;
@@ -59,7 +20,22 @@ fn after(room: &mut [u8], bytes: &mut [u8], begun: usize, line: &[u8]) -> usize 
     if letter == b'#' {
         return begun;
     }
-    named(room, bytes, begun, letter, line)
+    let colon = find(line, 0, line.len(), b':');
+    let space = find(line, 0, colon, b' ');
+    if space == colon {
+        return WRONG;
+    }
+    if colon == line.len() {
+        return WRONG;
+    }
+    let name = &line[space + 1..colon];
+    let rest = &line[colon + 1..];
+    match letter {
+        b'w' => appended(bytes, 0, rest),
+        b'l' | b'c' => if_fine(call(room, bytes, begun, letter == b'c', name, rest), begun),
+        b'r' | b'p' | b's' => if_fine(single(room, bytes, begun, letter, name, rest), begun),
+        _ => WRONG,
+    }
 }
 
 pub fn each(table: &[u8], bytes: &mut [u8], room: &mut [u8]) {
@@ -73,8 +49,7 @@ pub fn each(table: &[u8], bytes: &mut [u8], room: &mut [u8]) {
         if n <= bytes.len() {
             begun = n;
         } else {
-            say(b"bad line", number);
-            text(b"\n");
+            bad_line(number);
         }
         if end == table.len() {
             return;

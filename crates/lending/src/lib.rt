@@ -2,14 +2,13 @@
 // other byte of the room is as it was.
 use checker::call::check;
 use least::call::least;
-use libc::STDOUT_FILENO;
 use packing::Parts;
 use packing::Word;
 use packing::of_solved;
 use packing::of_verdict;
-use telling::say;
 use telling::tell;
 use telling::text;
+use telling::written;
 
 // The lent part starts here and has at most so many bytes: more than a call asks for.
 const START: usize = 16;
@@ -31,45 +30,6 @@ fn is_kept(room: &mut [u8], start: usize, end: usize) -> bool {
         room[i] = x;
     }
     true
-}
-
-// The variable and the mark of a report's entry.
-fn marked(v: usize, mark: u8) {
-    match mark {
-        0 => say(b", most", v),
-        1 => {
-            say(b", when", v);
-            text(b" <=");
-        }
-        2 => {
-            say(b", when", v);
-            text(b" >=");
-        }
-        _ => say(b", no such mark", v),
-    }
-}
-
-// A number of two bytes in two's complement.
-fn number(n: usize) {
-    if n < 32768 {
-        say(b"", n);
-    } else {
-        text(b" -");
-        io::print_decimal(STDOUT_FILENO, ((65536 - n % 65536) % 65536) as u64);
-    }
-}
-
-// A report's entries, of two pairs of bytes each, or values of one pair each.
-fn written(is_report: bool, bytes: &[u8]) {
-    for i in 0..bytes.len() / 2 {
-        let x = bytes[2 * i];
-        let y = bytes[2 * i + 1];
-        if is_report & (i % 2 == 0) {
-            marked(format::wide(x), y);
-        } else {
-            number(format::joined(x, y));
-        }
-    }
 }
 
 // Makes the call and prints the answer.

@@ -1,4 +1,4 @@
-// Prints an answer's word and numbers.
+// Prints an answer's word and numbers, and what a call wrote.
 use libc::STDOUT_FILENO;
 use packing::Parts;
 use packing::Word;
@@ -38,4 +38,49 @@ pub fn tell(answer: Parts) {
         Word::NONE => text(b": none"),
         _ => text(b": no such word"),
     }
+}
+
+// The variable and the mark of a report's entry.
+fn marked(v: usize, mark: u8) {
+    match mark {
+        0 => say(b", most", v),
+        1 => {
+            say(b", when", v);
+            text(b" <=");
+        }
+        2 => {
+            say(b", when", v);
+            text(b" >=");
+        }
+        _ => say(b", no such mark", v),
+    }
+}
+
+// A number of two bytes in two's complement.
+fn number(n: usize) {
+    if n < 32768 {
+        say(b"", n);
+    } else {
+        text(b" -");
+        io::print_decimal(STDOUT_FILENO, ((65536 - n % 65536) % 65536) as u64);
+    }
+}
+
+// A report's entries, of two pairs of bytes each, or values of one pair each.
+pub fn written(is_report: bool, bytes: &[u8]) {
+    for i in 0..bytes.len() / 2 {
+        let x = bytes[2 * i];
+        let y = bytes[2 * i + 1];
+        if is_report & (i % 2 == 0) {
+            marked(format::wide(x), y);
+        } else {
+            number(format::joined(x, y));
+        }
+    }
+}
+
+// A line that is written wrongly.
+pub fn bad_line(number: usize) {
+    say(b"bad line", number);
+    text(b"\n");
 }

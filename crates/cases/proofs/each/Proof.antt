@@ -6,10 +6,10 @@ use Rattle.cases.proofs.each.Statement.{statement}
 use Rattle.cases.proofs.each.Tie as tie
 
 abbrev Inv-loop : tie.InvT-loop
-Inv-loop table bytes₀ room₀ begun₀ number₀ at₀ t9 t10 bytes room begun number at = (length bytes ≡ length bytes₀) × (length room ≡ length room₀) × (number ≤ at) × (at ≤ length table)
+Inv-loop table bytes₀ room₀ begun₀ number₀ at₀ bytes room begun number at = (length bytes ≡ length bytes₀) × (length room ≡ length room₀) × (number ≤ at) × (at ≤ length table)
 
 abbrev μ-loop : tie.MeasureT-loop
-μ-loop table bytes₀ room₀ begun₀ number₀ at₀ t9 t10 bytes room begun number at = length table - at
+μ-loop table bytes₀ room₀ begun₀ number₀ at₀ bytes room begun number at = length table - at
 
 loop-holds : tie.Need-loop-holds Inv-loop μ-loop
 loop-holds c = search needs
@@ -32,17 +32,8 @@ part-after-end c = search needs
 after-requires : tie.Need-after-requires Inv-loop μ-loop
 after-requires c κs = search needs
 
-slice-aggregate-say : tie.Need-slice-aggregate-say Inv-loop μ-loop
-slice-aggregate-say c = search needs
-
-say-requires : tie.Need-say-requires Inv-loop μ-loop
-say-requires c κs = search needs
-
-slice-aggregate-text : tie.Need-slice-aggregate-text Inv-loop μ-loop
-slice-aggregate-text c = search needs
-
-text-requires : tie.Need-text-requires Inv-loop μ-loop
-text-requires c κs = search needs
+bad-line-requires : tie.Need-bad-line-requires Inv-loop μ-loop
+bad-line-requires c κs = search needs
 
 same-length : tie.Need-same-length Inv-loop μ-loop
 same-length c = search needs
@@ -84,10 +75,7 @@ each-spec =
     part-after-start
     part-after-end
     after-requires
-    slice-aggregate-say
-    say-requires
-    slice-aggregate-text
-    text-requires
+    bad-line-requires
     same-length
     same-length-2
     returns
