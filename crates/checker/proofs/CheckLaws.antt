@@ -10,11 +10,10 @@ use Rattle.program.specs.Reading.{Reads, accepted, Accepts}
 use Rattle.program.specs.declared.Counts.{Counts}
 use Rattle.program.proofs.Promises.{accepts-promises}
 use Rattle.bodies.specs.Readings.{Small}
-use Rattle.meaning.specs.Founded.{Valuation, Within}
+use Rattle.meaning.specs.Founded.{Within}
 use Rattle.meaning.specs.Reduct.{system}
 use Rattle.meaning.specs.Stable.{assigned}
 use Rattle.meaning.specs.Calls.{checkBytes}
-use Rattle.meaning.specs.Values.{valued}
 use Rattle.reduct.specs.Filling.{OutsideIs}
 use Rattle.reduct.specs.declared.values.Outside.the-variants.{At, Nowhere}
 use Rattle.reader.proofs.Accepted.{accept, variables-are}
@@ -23,6 +22,7 @@ use Rattle.reduct.proofs.AssignedLaws.{right-range, in-ranges}
 use Rattle.reduct.proofs.Ranges.{first-outside}
 use Rattle.meaning.proofs.InRanges.{within-small}
 use Rattle.verdict.specs.Checks.{Answer, range, Judged, outside, Checks, judged}
+use Rattle.program.specs.Readings.{Valuation, valued}
 
 module _ (s : List ℕ) (k : Counts) (r : Reads s (accepted (k .variables) (k .rules) (k .constraints))) where
   pub small-in : (θ : List ℤ) → ((P : Program) → Accepts s P → Within (system P) (valued θ)) → Small θ

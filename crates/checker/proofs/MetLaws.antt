@@ -17,20 +17,20 @@ use Rattle.program.specs.declared.Counts.{Counts}
 use Rattle.program.proofs.Conditions.{never, last-or}
 use Rattle.program.proofs.Places.{place-next}
 use Rattle.program.proofs.Unique.{accepts-unique}
-use Rattle.meaning.specs.Founded.{Valuation, Reaches}
+use Rattle.meaning.specs.Founded.{Reaches}
 use Rattle.meaning.specs.Reduct.{system}
 use Rattle.reader.specs.Parts.{ConstraintLies}
 use Rattle.reader.proofs.Published.{constraint-lies}
 use Rattle.meaning.specs.Stable.{RuleMet, ConstraintMet}
 use Rattle.run.specs.Running.{headOf, Exceeds}
 use Rattle.tables.specs.Laid.{Stands, Placed, Laid}
-use Rattle.meaning.specs.Values.{valued}
 use Rattle.reader.proofs.Accepted.{accept}
 use Rattle.run.proofs.StepLaws.{few-rules}
 use Rattle.words.specs.declared.Found.{Found}
 use Rattle.words.specs.declared.Found.the-variants.{At, Nothing}
 use Rattle.verdict.specs.Checks.{FirstUnmet}
 use Rattle.checker.specs.Met.{UnmetIs}
+use Rattle.program.specs.Readings.{Valuation, valued}
 
 -- what exceeds its head is not met
 exceeds-unmet : (P : Program) (θ : Valuation) (i : ℕ) {a : ℤ} → Exceeds P θ θ i a → RuleMet P θ i → ⊥

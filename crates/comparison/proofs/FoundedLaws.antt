@@ -12,7 +12,7 @@ use lib.Signed.{leZ}
 use Rattle.format.specs.Limits.{maxVariables}
 use Rattle.words.specs.Bit.{one-if, countFrom}
 use Rattle.program.specs.Program.{Program, Variable, ruleIn, variableIn, variablesAt}
-use Rattle.program.specs.Program as program
+use Rattle.program.specs.Variables as variables
 use Rattle.program.specs.Reading.{Reads, accepted, Accepts}
 use Rattle.program.specs.Directions.{direction}
 use Rattle.program.specs.declared.Counts.{Counts}
@@ -23,13 +23,12 @@ use Rattle.program.proofs.Unique.{accepts-unique}
 use Rattle.bodies.specs.Readings.{Small}
 use Rattle.validity.proofs.RuleLaws.{variables-few}
 use Rattle.reader.proofs.Published as published
-use Rattle.meaning.specs.Founded.{Valuation, Model, Least}
-use Rattle.meaning.specs.Reduct.{placed, kept, system}
+use Rattle.meaning.specs.Founded.{Model, Least}
+use Rattle.meaning.specs.Reduct.{system}
 use Rattle.meaning.specs.Stable.{Meets}
 use Rattle.meaning.specs.Calls.{checkBytes}
 use Rattle.run.specs.Running.{EndsWith}
 use Rattle.tables.specs.Laid.{Placed, Laid}
-use Rattle.meaning.specs.Values.{valued}
 use Rattle.run.specs.declared.Ending.{Ending}
 use Rattle.run.specs.declared.Ending.the-variants as ending
 use Rattle.meaning.proofs.Tests.{cases, is-true, is-test, and-left}
@@ -43,6 +42,7 @@ use Rattle.verdict.specs.Checks.{Answer, unfounded, stable, answerOf, Judged, n
 use Rattle.comparison.specs.Shows.{ShowsSets}
 use Rattle.verdict.specs.declared.Verdict.{Verdict}
 use Rattle.tables.proofs.LaidLaws.{placed-in}
+use Rattle.program.specs.Readings.{Valuation, bodyVariable, kept, valued}
 
 -- ---- counts
 
@@ -105,10 +105,10 @@ module _ {P : Program} (promised : Promises P) where
           let i = some-below (length (P .rules)) (λ i. set (ruleIn (P .rules) i .head) && askedBy P set asks (ruleIn (P .rules) i) v) e in
           let r = ruleIn (P .rules) (i .0) in
           let q = both (set (r .head)) (askedBy P set asks r v) (i .2) in
-          let j = some-below (length (r .terms)) (λ j. asks (direction (P .variables) r j) (kept P r j && set (placed r j)) && eqb (placed r j) v) (q .1) in
-          let w = both (asks (direction (P .variables) r (j .0)) (kept P r (j .0) && set (placed r (j .0)))) (eqb (placed r (j .0)) v) (j .2) in
+          let j = some-below (length (r .terms)) (λ j. asks (direction (P .variables) r j) (kept (P .variables) r j && set (bodyVariable r j)) && eqb (bodyVariable r j) v) (q .1) in
+          let w = both (asks (direction (P .variables) r (j .0)) (kept (P .variables) r (j .0) && set (bodyVariable r (j .0)))) (eqb (bodyVariable r (j .0)) v) (j .2) in
           let l = promised .rules (i .0) (i .1) .body .terms (j .0) (j .1) .declared in
-          let f : ⊥ = omega (arith, eqb-true (placed r (j .0)) v (w .1)) in absurd f
+          let f : ⊥ = omega (arith, eqb-true (bodyVariable r (j .0)) v (w .1)) in absurd f
 
 -- ---- the verdict
 
@@ -205,10 +205,10 @@ module _ (s : List ℕ) (k : Counts) (r : Reads s (accepted (k .variables) (k .r
     model-small : Small m
     model-small = within-small (accepts-promises (accept s k r .accepts)) m (least (accept s k r .meant) (accept s k r .accepts) .model .within)
 
-    module _ (set : ℕ → Bool) (is : (v : ℕ) → set v ≡ (program.founded (variableIn (variablesAt s (k .variables)) v) && not (leZ (valued θ v) (valued m v)))) where
+    module _ (set : ℕ → Bool) (is : (v : ℕ) → set v ≡ (variables.founded (variableIn (variablesAt s (k .variables)) v) && not (leZ (valued θ v) (valued m v)))) where
       set-is : (P : Program) → Accepts s P → (v : ℕ) → set v ≡ shown P (valued θ) (valued m) v
       set-is P x v =
-          is v ∙ ap (λ (vs : List Variable). program.founded (variableIn vs v) && not (leZ (valued θ v) (valued m v)))
+          is v ∙ ap (λ (vs : List Variable). variables.founded (variableIn vs v) && not (leZ (valued θ v) (valued m v)))
           (sym (published.variables-are x ∙ ap (variablesAt s) (same-count x)))
 
       few-in : (P : Program) → Accepts s P → length (P .variables) ≤ maxVariables

@@ -6,10 +6,10 @@ use mathlib.Core.List.{List, _++_}
 use lib.ListN.{drop}
 use Rattle.format.specs.Limits.{maxVariables}
 use Rattle.words.specs.Bit.{countFrom}
-use Rattle.meaning.specs.Founded.{Valuation}
 use Rattle.report.specs.Report.{bytesIn, ascending, boundsOf, conditionsOf}
 use Rattle.verdict.specs.Checks.{unfounded, answerOf}
 use Rattle.verdict.specs.declared.Verdict.{Verdict}
+use Rattle.program.specs.Readings.{Valuation}
 
 -- the answer and the report b′ show a set with its bounds m, and its conditions with the values θ
 pub record ShowsSets (set most least : ℕ → Bool) (m θ : Valuation) (b b′ : List ℕ) (r : Verdict) : Type 0 where

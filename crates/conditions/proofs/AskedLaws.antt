@@ -22,13 +22,13 @@ use Rattle.fields.specs.Scanning.{Counted}
 use Rattle.validity.proofs.ComponentLaws.{any-same}
 use Rattle.reader.specs.Parts.{RuleLies}
 use Rattle.reader.proofs.Published.{rule-lies}
-use Rattle.meaning.specs.Reduct.{placed, kept}
 use Rattle.tables.specs.Tabled.{MaskOf}
 use Rattle.tables.specs.Entries.{RuleHere}
 use Rattle.tables.specs.Laid.{RuleAt, Placed, Laid}
 use Rattle.tables.proofs.TableLaws.{rules-few, here, terms-here}
 use Rattle.report.specs.Report.{askedBy, asked}
 use Rattle.conditions.specs.Asking.{asksAt, asksIn, asksInto}
+use Rattle.program.specs.Readings.{bodyVariable, kept}
 
 -- ---- one field
 
@@ -55,7 +55,7 @@ module _ {s : List ℕ} {P : Program} {i at mask : ℕ} (h : RuleAt s P i at mas
 
   at-place : (j : ℕ) → j < length (ruleOf (valueAt s at) .terms)
       → asksAt vs set (valueAt s at) mask j asks v
-      ≡ (asks (direction (P .variables) (ruleOf (valueAt s at)) j) (kept P (ruleOf (valueAt s at)) j && set (placed (ruleOf (valueAt s at)) j)) && eqb (placed (ruleOf (valueAt s at)) j) v)
+      ≡ (asks (direction (P .variables) (ruleOf (valueAt s at)) j) (kept (P .variables) (ruleOf (valueAt s at)) j && set (bodyVariable (ruleOf (valueAt s at)) j)) && eqb (bodyVariable (ruleOf (valueAt s at)) j) v)
   unfolding asksAt
   at-place j l = rw (masked j l, ← place-variable (valueAt s at) j (let z = lies .sized in omega arith), e)
 

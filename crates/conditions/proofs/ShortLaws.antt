@@ -10,11 +10,12 @@ use lib.ListN.{drop, List·getD-eq-default}
 use lib.Signed.{leZ, ltZ}
 use borrow.Author.Tests.{ltb-false}
 use Rattle.format.proofs.Int.{int}
-use Rattle.program.specs.Program.{noVariable, variableOf, variablesAt, founded}
+use Rattle.program.specs.Program.{noVariable, variableOf, variablesAt}
 use Rattle.program.proofs.Places.{variable-at, variables-length}
-use Rattle.meaning.specs.Founded.{Valuation}
 use Rattle.meaning.proofs.Tests.{cases, is-true}
 use Rattle.conditions.specs.Shortfall.{shortOf, shortIn}
+use Rattle.program.specs.Variables.{founded}
+use Rattle.program.specs.Readings.{Valuation}
 
 -- below is not at or above
 below-is : (a m : ℤ) → ltZ m a ≡ not (leZ a m)

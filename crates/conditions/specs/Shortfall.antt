@@ -5,8 +5,9 @@ use mathlib.Core.Bool.{Bool, not, _&&_}
 use lib.IntN.{ℤ}
 use lib.ListN.{drop}
 use lib.Signed.{leZ}
-use Rattle.program.specs.Program.{Variable, variableOf, variableIn, founded}
-use Rattle.meaning.specs.Founded.{Valuation}
+use Rattle.program.specs.Program.{Variable, variableOf, variableIn}
+use Rattle.program.specs.Variables.{founded}
+use Rattle.program.specs.Readings.{Valuation}
 
 -- variable x of a file, with an assigned value a and a value m of the model
 unfoldable pub shortOf : List ℕ → ℕ → ℤ → ℤ → Bool

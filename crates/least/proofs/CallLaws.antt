@@ -10,10 +10,9 @@ use Rattle.program.specs.Reading.{Reads, accepted, Accepts}
 use Rattle.program.specs.declared.Counts.{Counts}
 use Rattle.program.proofs.Promises.{accepts-promises}
 use Rattle.reader.proofs.Accepted.{accept, variables-are}
-use Rattle.meaning.specs.Founded.{Valuation, Model, Least}
+use Rattle.meaning.specs.Founded.{Model, Least}
 use Rattle.meaning.specs.Reduct.{system}
 use Rattle.meaning.specs.Stable.{assigned}
-use Rattle.meaning.specs.Values.{valued}
 use Rattle.meaning.specs.Calls.{leastBytes}
 use Rattle.meaning.specs.LeastCall.{LeastCall, range, none, found, outside, no-model, least-model, AllInside, written}
 use Rattle.meaning.proofs.InRanges.{within-small}
@@ -21,6 +20,7 @@ use Rattle.calls.proofs.Turned.{called}
 use Rattle.reduct.specs.Filling.{OutsideIs}
 use Rattle.reduct.specs.declared.values.Outside.the-variants.{At}
 use Rattle.reduct.proofs.Ranges.{first-outside}
+use Rattle.program.specs.Readings.{Valuation, valued}
 
 module _ (s : List ℕ) (k : Counts) (r : Reads s (accepted (k .variables) (k .rules) (k .constraints))) where
   module _ (a b : List ℕ) (e : length a ≡ 2 * k .variables) (h : 2 * k .variables ≤ length b) where

@@ -9,8 +9,8 @@ use lib.Seq.{drop-cons, set-append-seam}
 use mir.Syntax.{w16}
 use mir.Val.{ofZ}
 use Rattle.format.specs.Numbers.{bytesOf}
-use Rattle.meaning.specs.Founded.{Valuation}
 use Rattle.meaning.specs.LeastCall.{written}
+use Rattle.program.specs.Readings.{Valuation}
 
 pub written-length : (m : Valuation) (n : ℕ) → length (written m n) ≡ 2 * n
 unfolding written bytesOf

@@ -6,7 +6,7 @@ ghost use lib.IntN.{natAbs};
 ghost use lib.ListN.{length, drop};
 ghost use Rattle.format.specs.Limits.{maxVariables, maxNumber};
 ghost use Rattle.meaning.specs.LeastCall.{written};
-ghost use Rattle.meaning.specs.Values.{valued};
+ghost use Rattle.program.specs.Readings.{valued};
 use format::Format;
 
 // The first n values, from the buffer's first byte on.

@@ -10,12 +10,13 @@ use Rattle.program.specs.Reading.{Reads, refused, Accepts}
 use Rattle.program.proofs.Conditions.{never}
 use Rattle.program.proofs.Promises.{accepts-promises}
 use Rattle.program.proofs.Unique.{reads-unique, accepts-unique, accepts-reads}
-use Rattle.meaning.specs.Founded.{Valuation, Model, Least}
+use Rattle.meaning.specs.Founded.{Model, Least}
 use Rattle.meaning.specs.Reduct.{system}
 use Rattle.meaning.specs.Calls.{Refuses, bad-file, bad-assignment, short-buffer, Called}
 use Rattle.meaning.specs.LeastCall.{Answer, range, FirstOutside, AllInside, written, LeastCall, turned-down, outside, no-model, least-model}
 use Rattle.meaning.proofs.Theory.{least-unique}
 use Rattle.meaning.proofs.Monotone.{laws}
+use Rattle.program.specs.Readings.{Valuation}
 
 -- the bytes of a valuation are those of its values
 pub written-same : {m m′ : Valuation} (n : ℕ) → ((v : ℕ) → m v ≡ m′ v) → written m n ≡ written m′ n

@@ -9,15 +9,16 @@ use lib.ListN.{length, List·getD-eq-default}
 use lib.Dec.{T, ltb, ltb→lt, nltb→le}
 use Rattle.format.specs.Limits.{maxNumber}
 use Rattle.format.proofs.Int.{int, abs-is}
-use Rattle.program.specs.Program.{Variable, Program, noVariable, variableIn, founded}
+use Rattle.program.specs.Program.{Variable, Program, noVariable, variableIn}
 use Rattle.program.proofs.Promises.{VariablePromise, Promises}
 use Rattle.bodies.specs.Readings.{Small}
-use Rattle.meaning.specs.Founded.{Valuation, Within}
+use Rattle.meaning.specs.Founded.{Within}
 use Rattle.meaning.specs.Reduct.{system}
 use Rattle.meaning.specs.Stable.{assigned}
-use Rattle.meaning.specs.LeastCall.{inRange, AllInside}
-use Rattle.meaning.specs.Values.{valued}
+use Rattle.meaning.specs.LeastCall.{AllInside}
 use Rattle.meaning.proofs.Tests.{cases, is-true, is-test, and-left, and-right, and-both}
+use Rattle.program.specs.Variables.{founded, inRange}
+use Rattle.program.specs.Readings.{Valuation, valued}
 
 -- a founded variable is declared
 pub founded-declared : (vs : List Variable) (v : ℕ) → T (founded (variableIn vs v)) → v < length vs
@@ -39,12 +40,12 @@ module _ (P : Program) {θ : Valuation} where
       vs : List Variable
       vs = P .variables
 
-      at : (v : ℕ) → T (inRange (variableIn vs v) θ v)
-      at v = cases (ltb v (length vs)) (λ b. T (inRange (variableIn vs v) θ v)) (λ t. is-test (i v (ltb→lt v (length vs) t)))
+      at : (v : ℕ) → T (inRange (variableIn vs v) (θ v))
+      at v = cases (ltb v (length vs)) (λ b. T (inRange (variableIn vs v) (θ v))) (λ t. is-test (i v (ltb→lt v (length vs) t)))
           (λ n. let h = nltb→le v (length vs) n in rw (List·getD-eq-default vs noVariable h, past v h) tt)
 
   pub within-inside : Within (system P) θ → AllInside P θ
-  within-inside w v h = is-true (inRange (variableIn (P .variables) v) θ v)
+  within-inside w v h = is-true (inRange (variableIn (P .variables) v) (θ v))
       (and-both (leZ (variableIn (P .variables) v .low) (θ v)) (leZ (θ v) (variableIn (P .variables) v .high)) (w .low v .le) (w .high v .le))
 
   pub past-zero : Within (system P) θ → (v : ℕ) → length (P .variables) ≤ v → θ v ≡ pos 0

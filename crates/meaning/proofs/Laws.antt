@@ -7,7 +7,8 @@ use Rattle.program.specs.declared.Direction.{Direction}
 use Rattle.program.specs.declared.Direction.the-variants.{Rising, Falling, Mixed}
 use Rattle.program.specs.declared.Given.{Given}
 use Rattle.program.specs.declared.Given.the-variants.{Nothing, Value}
-use Rattle.meaning.specs.Founded.{Valuation, System, Below, Short, Within}
+use Rattle.meaning.specs.Founded.{System, Below, Short, Within}
+use Rattle.program.specs.Readings.{Valuation}
 
 module _ (𝒮 : System) where
   open System 𝒮 using (founded, Rule, In, head, occurs, gives)

@@ -1,7 +1,8 @@
 -- The least model is 003's minimal solution, in any system.
 use lib.Dec.{T-not}
-use Rattle.meaning.specs.Founded.{Valuation, System, Below, Least, Minimal}
+use Rattle.meaning.specs.Founded.{System, Below, Least, Minimal}
 use Rattle.meaning.proofs.Tests.{cases}
+use Rattle.program.specs.Readings.{Valuation}
 
 pub least-minimal : {𝒮 : System} {θ m : Valuation} → Least 𝒮 θ m → Minimal 𝒮 θ m
 least-minimal {𝒮} {θ} {m} l = record {

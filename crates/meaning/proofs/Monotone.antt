@@ -12,7 +12,7 @@ use lib.Dec.{T}
 use borrow.Author.Tests.{ne-eqb}
 use Rattle.format.proofs.Int.{int, sum-is, times-pos, times-neg, times, not-negative, not-positive, abs-is}
 use Rattle.program.specs.Tables.{_⇒_, select}
-use Rattle.program.specs.Program.{Variable, Term, Rule, Program, variableIn, ruleIn, termIn, founded}
+use Rattle.program.specs.Program.{Variable, Term, Rule, Program, variableIn, ruleIn, termIn}
 use Rattle.program.specs.Directions.{bySign, byOp, byRange, direction, isRising}
 use Rattle.program.specs.Evaluate.{sumBelow, larger, smaller, largestTo, smallestTo, holds, allHold, onlyIf, evaluate}
 use Rattle.program.specs.declared.Direction.{Direction}
@@ -21,10 +21,12 @@ use Rattle.program.specs.declared.Given.the-variants.{Value}
 use Rattle.program.proofs.Promises.{RulePromise, Promises, carried-place}
 use Rattle.evaluation.proofs.Gives.{gives-sum, gives-largest, gives-smallest, gives-product, gives-size, gives-literals, gives-carried, seven}
 use Rattle.parts.proofs.Pushes.{push-sum, push-plain, push-size, push-literal}
-use Rattle.meaning.specs.Founded.{Valuation, Within}
-use Rattle.meaning.specs.Reduct.{placed, kept, reading, gives, system}
+use Rattle.meaning.specs.Founded.{Within}
+use Rattle.meaning.specs.Reduct.{system}
 use Rattle.meaning.proofs.Tests.{cases, is-test, and-left, and-right, and-both}
 use Rattle.meaning.proofs.Laws.{NoMore, Less, Laws}
+use Rattle.program.specs.Variables.{founded}
+use Rattle.program.specs.Readings.{Valuation, bodyVariable, kept, reading, gives}
 
 -- b is a moved in this direction, if at all
 abbrev pub Moves : Direction → ℤ → ℤ → Type 0
@@ -104,10 +106,10 @@ module _ (f g : ℕ → ℤ) where
 -- at place i the second reading is the first, moved in the place's direction if at all, and both lie in their variable's range
 pub record Moved (vs : List Variable) (r : Rule) (at to : ℕ → ℤ) (i : ℕ) : Type 0 where
   pub moves : Moves (direction vs r i) (at i) (to i)
-  pub low : variableIn vs (placed r i) .low ≤ℤ at i
-  pub high : at i ≤ℤ variableIn vs (placed r i) .high
-  pub low′ : variableIn vs (placed r i) .low ≤ℤ to i
-  pub high′ : to i ≤ℤ variableIn vs (placed r i) .high
+  pub low : variableIn vs (bodyVariable r i) .low ≤ℤ at i
+  pub high : at i ≤ℤ variableIn vs (bodyVariable r i) .high
+  pub low′ : variableIn vs (bodyVariable r i) .low ≤ℤ to i
+  pub high′ : to i ≤ℤ variableIn vs (bodyVariable r i) .high
 
 module _ (P : Program) (v : ℕ) where
   value-up : {a b : ℤ} → a ≤ℤ b → NoMore (system P) v (Value a) (Value b)
@@ -168,7 +170,7 @@ module _ (P : Program) (v : ℕ) where
       sized : r .form ≡ 5 → pos (natAbs (at 0)) ≤ℤ pos (natAbs (to 0))
       sized q =
           let k = m 0 (one q) in
-          size-up (variableIn (P .variables) (placed r 0)) (at 0) (to 0) (k .low) (k .high) (k .low′) (k .high′) (rw (← push-size (P .variables) r 0 _ q refl) at (k .moves))
+          size-up (variableIn (P .variables) (bodyVariable r 0)) (at 0) (to 0) (k .low) (k .high) (k .low′) (k .high′) (rw (← push-size (P .variables) r 0 _ q refl) at (k .moves))
 
       pushed : 6 ≤ r .form → r .form ≤ 7 → (i : ℕ) → i < n → Moves (byOp (termIn ts i .op)) (at i) (to i)
       pushed h k i l = rw (← push-literal (P .variables) r i _ h k refl) at (m i l .moves)
@@ -203,20 +205,20 @@ module _ (P : Program) {m θ : Valuation} (wm : Within (system P) m) (wθ : With
 gives-up : {P : Program} → Promises P → (i : ℕ) → i < length (P .rules) → (m θ m′ θ′ : Valuation)
     → Within (system P) m → Within (system P) θ → Within (system P) m′ → Within (system P) θ′
     → ((x : ℕ) (d : Direction) → system P .occurs i x d → Less (system P) x d m θ m′ θ′)
-    → NoMore (system P) (ruleIn (P .rules) i .head) (gives P (ruleIn (P .rules) i) m θ) (gives P (ruleIn (P .rules) i) m′ θ′)
+    → NoMore (system P) (ruleIn (P .rules) i .head) (gives (P .variables) (ruleIn (P .rules) i) m θ) (gives (P .variables) (ruleIn (P .rules) i) m′ θ′)
 unfolding gives kept
-gives-up {P} p i h m θ m′ θ′ wm wθ wm′ wθ′ less = evaluate-up P (r .head) (p .rules i h) (reading P r m θ) (reading P r m′ θ′) moved
+gives-up {P} p i h m θ m′ θ′ wm wθ wm′ wθ′ less = evaluate-up P (r .head) (p .rules i h) (reading (P .variables) r m θ) (reading (P .variables) r m′ θ′) moved
   where
     r : Rule
     r = ruleIn (P .rules) i
 
-    moved : (j : ℕ) → j < length (r .terms) → Moved (P .variables) r (reading P r m θ) (reading P r m′ θ′) j
+    moved : (j : ℕ) → j < length (r .terms) → Moved (P .variables) r (reading (P .variables) r m θ) (reading (P .variables) r m′ θ′) j
     moved j k = record {
-      moves = moves-of P m θ m′ θ′ (placed r j) (direction (P .variables) r j) (less (placed r j) (direction (P .variables) r j) (j, k, refl, refl));
-      low = read-low P wm wθ (kept P r j) (placed r j);
-      high = read-high P wm wθ (kept P r j) (placed r j);
-      low′ = read-low P wm′ wθ′ (kept P r j) (placed r j);
-      high′ = read-high P wm′ wθ′ (kept P r j) (placed r j);
+      moves = moves-of P m θ m′ θ′ (bodyVariable r j) (direction (P .variables) r j) (less (bodyVariable r j) (direction (P .variables) r j) (j, k, refl, refl));
+      low = read-low P wm wθ (kept (P .variables) r j) (bodyVariable r j);
+      high = read-high P wm wθ (kept (P .variables) r j) (bodyVariable r j);
+      low′ = read-low P wm′ wθ′ (kept (P .variables) r j) (bodyVariable r j);
+      high′ = read-high P wm′ wθ′ (kept (P .variables) r j) (bodyVariable r j);
     }
 
 le-trans : (a b c : ℤ) → T (leZ a b) → T (leZ b c) → T (leZ a c)

@@ -12,21 +12,22 @@ use lib.ListN.{length, getD, set, length-set, List·getD-eq-default}
 use lib.Seq.{getD-set-same, getD-set-other}
 use lib.Dec.{T, ltb, ltb→lt, nltb→le}
 use Rattle.format.proofs.Int.{int}
-use Rattle.program.specs.Program.{Variable, Rule, Program, noVariable, variableIn, ruleIn, founded}
+use Rattle.program.specs.Program.{Variable, Rule, Program, noVariable, variableIn, ruleIn}
 use Rattle.program.specs.Directions.{direction}
 use Rattle.program.specs.Evaluate.{sumBelow, largestTo, smallestTo, allHold, evaluate}
 use Rattle.program.specs.declared.Given.{Given}
 use Rattle.program.specs.declared.Given.the-variants.{Nothing, Value}
 use Rattle.program.proofs.Promises.{Promises}
-use Rattle.meaning.specs.Founded.{Valuation, Below, Reaches, Within, Model, Least}
-use Rattle.meaning.specs.Reduct.{kept, gives, system}
+use Rattle.meaning.specs.Founded.{Below, Reaches, Within, Model, Least}
+use Rattle.meaning.specs.Reduct.{system}
 use Rattle.meaning.specs.Search.{lows, Step, closed, raise, ask, firstUnmet, Outcome, found, none, unfinished, raised, act, iterate, search}
-use Rattle.meaning.specs.Values.{valued}
 use Rattle.meaning.proofs.Tests.{cases}
 use Rattle.meaning.proofs.Theory.{Progress, progress-start, progress-raise, progress-done, progress-over}
 use Rattle.meaning.proofs.Monotone.{laws, head-founded}
 use Rattle.meaning.proofs.InRanges.{founded-declared, past-zero}
 use Rattle.meaning.proofs.Steps.{gap, gap-raised}
+use Rattle.program.specs.Variables.{founded}
+use Rattle.program.specs.Readings.{Valuation, kept, gives, valued}
 
 -- unfolding this unfolds the search and what it reads of a program
 unfoldable pub computes : Unit {0}
@@ -77,15 +78,15 @@ module _ (P : Program) (θ m : Valuation) where
       (λ t q. (record { le = t }, q)) (λ n q. let z : _≡_ {A = ℕ} 0 1 = cc in let f : ⊥ = omega arith in absurd f) e
 
   closed-met : (i : ℕ) (rs : List Rule) → firstUnmet P θ m i rs ≡ closed → (j : ℕ) → j < length rs
-      → Reaches (system P) (ruleIn rs j .head) (gives P (ruleIn rs j) m θ) (m (ruleIn rs j .head))
+      → Reaches (system P) (ruleIn rs j .head) (gives (P .variables) (ruleIn rs j) m θ) (m (ruleIn rs j .head))
   unfolding firstUnmet
   closed-met i [] e j h = let f : ⊥ = omega arith in absurd f
-  closed-met i (r ∷ rs) e zero h = ask-closed i (gives P r m θ) (r .head) (m (r .head)) (firstUnmet P θ m (suc i) rs) e .0
-  closed-met i (r ∷ rs) e (suc j) h = closed-met (suc i) rs (ask-closed i (gives P r m θ) (r .head) (m (r .head)) (firstUnmet P θ m (suc i) rs) e .1) j (omega arith)
+  closed-met i (r ∷ rs) e zero h = ask-closed i (gives (P .variables) r m θ) (r .head) (m (r .head)) (firstUnmet P θ m (suc i) rs) e .0
+  closed-met i (r ∷ rs) e (suc j) h = closed-met (suc i) rs (ask-closed i (gives (P .variables) r m θ) (r .head) (m (r .head)) (firstUnmet P θ m (suc i) rs) e .1) j (omega arith)
 
   -- rule r gives a, and that is more than its head has
   record Unmet (r : Rule) (a : ℤ) : Type 0 where
-    value-is : gives P r m θ ≡ Value a
+    value-is : gives (P .variables) r m θ ≡ Value a
     more : T (not (leZ a (m (r .head))))
 
   ask-raise : (i : ℕ) (g : Given) (b : ℤ) (next : Step) (k : ℕ) (a : ℤ) → ask i g b next ≡ raise k a → ((k ≡ i) × (g ≡ Value a) × T (not (leZ a b))) ⊎ (next ≡ raise k a)
@@ -96,9 +97,9 @@ module _ (P : Program) (θ m : Valuation) where
   raise-unmet : (i : ℕ) (rs : List Rule) (k : ℕ) (a : ℤ) → firstUnmet P θ m i rs ≡ raise k a → (j : ℕ) × (k ≡ i + j) × (j < length rs) × Unmet (ruleIn rs j) a
   unfolding firstUnmet
   raise-unmet i [] k a e = let z : _≡_ {A = ℕ} 0 1 = cc in let f : ⊥ = omega arith in absurd f
-  raise-unmet i (r ∷ rs) k a e = go (ask-raise i (gives P r m θ) (m (r .head)) (firstUnmet P θ m (suc i) rs) k a e) (raise-unmet (suc i) rs k a)
+  raise-unmet i (r ∷ rs) k a e = go (ask-raise i (gives (P .variables) r m θ) (m (r .head)) (firstUnmet P θ m (suc i) rs) k a e) (raise-unmet (suc i) rs k a)
     where
-      go : ((k ≡ i) × (gives P r m θ ≡ Value a) × T (not (leZ a (m (r .head))))) ⊎ (firstUnmet P θ m (suc i) rs ≡ raise k a)
+      go : ((k ≡ i) × (gives (P .variables) r m θ ≡ Value a) × T (not (leZ a (m (r .head))))) ⊎ (firstUnmet P θ m (suc i) rs ≡ raise k a)
           → (firstUnmet P θ m (suc i) rs ≡ raise k a → (j : ℕ) × (k ≡ suc i + j) × (j < length rs) × Unmet (ruleIn rs j) a)
           → (j : ℕ) × (k ≡ i + j) × (j < length (r ∷ rs)) × Unmet (ruleIn (r ∷ rs) j) a
       go (inl u) f = (zero, omega (arith, u .0), suc-le-suc zero-le, record { value-is = u .1; more = u .2 })

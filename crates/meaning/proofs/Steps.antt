@@ -17,9 +17,10 @@ use Rattle.program.specs.declared.Given.the-variants.{Nothing, Value}
 use Rattle.program.proofs.Conditions.{never, none-below}
 use Rattle.bodies.specs.Readings.{Evaluable}
 use Rattle.evaluation.proofs.Gives.{evaluate-same}
-use Rattle.meaning.specs.Founded.{Valuation, Reaches}
-use Rattle.meaning.specs.Reduct.{placed, kept, reading, gives, system}
+use Rattle.meaning.specs.Founded.{Reaches}
+use Rattle.meaning.specs.Reduct.{system}
 use Rattle.meaning.specs.Reads.{readsKept}
+use Rattle.program.specs.Readings.{Valuation, bodyVariable, kept, reading, gives}
 
 -- m⁺ is m with h at a
 abbrev pub Raised : Valuation → Valuation → ℕ → ℤ → Type 0
@@ -27,23 +28,23 @@ Raised m m⁺ h a = (v : ℕ) → (m⁺ v ≡ m v) ⊎ ((h ≡ v) × (m⁺ v ≡
 
 -- a rule that reads the raised variable at no kept place gives what it gave
 module _ (P : Program) (r : Rule) (θ m m⁺ : Valuation) (h : ℕ) (a : ℤ) (is : Raised m m⁺ h a) where
-  same-reading : readsKept P r h ≡ false → (i : ℕ) → i < length (r .terms) → reading P r m⁺ θ i ≡ reading P r m θ i
+  same-reading : readsKept P r h ≡ false → (i : ℕ) → i < length (r .terms) → reading (P .variables) r m⁺ θ i ≡ reading (P .variables) r m θ i
   unfolding readsKept
-  same-reading e i l = go (kept P r i) refl (is (placed r i))
+  same-reading e i l = go (kept (P .variables) r i) refl (is (bodyVariable r i))
     where
-      apart : kept P r i ≡ true → h ≡ placed r i → ⊥
+      apart : kept (P .variables) r i ≡ true → h ≡ bodyVariable r i → ⊥
       apart k q =
-          never {b = kept P r i && eqb (placed r i) h} (rw (k, eq-eqb (placed r i) h (sym q))) (none-below _ (λ j. kept P r j && eqb (placed r j) h) e i l)
+          never {b = kept (P .variables) r i && eqb (bodyVariable r i) h} (rw (k, eq-eqb (bodyVariable r i) h (sym q))) (none-below _ (λ j. kept (P .variables) r j && eqb (bodyVariable r j) h) e i l)
 
-      go : (b : Bool) → kept P r i ≡ b → (m⁺ (placed r i) ≡ m (placed r i)) ⊎ ((h ≡ placed r i) × (m⁺ (placed r i) ≡ a))
-          → cond b (m⁺ (placed r i)) (θ (placed r i)) ≡ cond b (m (placed r i)) (θ (placed r i))
+      go : (b : Bool) → kept (P .variables) r i ≡ b → (m⁺ (bodyVariable r i) ≡ m (bodyVariable r i)) ⊎ ((h ≡ bodyVariable r i) × (m⁺ (bodyVariable r i) ≡ a))
+          → cond b (m⁺ (bodyVariable r i)) (θ (bodyVariable r i)) ≡ cond b (m (bodyVariable r i)) (θ (bodyVariable r i))
       go true k (inl q) = q
       go true k (inr q) = absurd (apart k (q .0))
       go false k q = refl
 
-  pub same-given : readsKept P r h ≡ false → Evaluable r → gives P r m⁺ θ ≡ gives P r m θ
+  pub same-given : readsKept P r h ≡ false → Evaluable r → gives (P .variables) r m⁺ θ ≡ gives (P .variables) r m θ
   unfolding gives
-  same-given e v = evaluate-same r (reading P r m⁺ θ) (reading P r m θ) (same-reading e) v
+  same-given e v = evaluate-same r (reading (P .variables) r m⁺ θ) (reading (P .variables) r m θ) (same-reading e) v
 
 -- a value that is reached stays reached when it goes up
 pub reaches-more : (P : Program) (v : ℕ) (g : Given) (a b : ℤ) → a ≤ℤ b → Reaches (system P) v g a → Reaches (system P) v g b

@@ -10,10 +10,11 @@ use Rattle.program.specs.declared.Direction.{Direction}
 use Rattle.program.specs.declared.Direction.the-variants.{Rising, Falling, Mixed}
 use Rattle.program.specs.declared.Given.{Given}
 use Rattle.program.specs.declared.Given.the-variants.{Nothing, Value}
-use Rattle.meaning.specs.Founded.{Valuation, System, Below, Short, Reaches, Within, Model, Floor, Least}
+use Rattle.meaning.specs.Founded.{System, Below, Short, Reaches, Within, Model, Floor, Least}
 use Rattle.meaning.specs.Unfounded.{over, Unfounded, short, Condition, Conditions}
 use Rattle.meaning.proofs.Tests.{cases, is-true, and-left, and-right, and-both}
 use Rattle.meaning.proofs.Laws.{NoMore, Less, Laws}
+use Rattle.program.specs.Readings.{Valuation}
 
 -- what holds of the valuation on the way from the starting ends to the least model
 pub record Progress (𝒮 : System) (θ m : Valuation) : Type 0 where

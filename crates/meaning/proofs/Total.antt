@@ -14,13 +14,14 @@ use Rattle.program.specs.Reading as reading
 use Rattle.program.proofs.Promises.{accepts-promises}
 use Rattle.program.proofs.Total.{reads-total}
 use Rattle.program.proofs.Unique.{reads-accepts}
-use Rattle.meaning.specs.Founded.{Valuation}
 use Rattle.meaning.specs.Stable.{assigned}
 use Rattle.meaning.specs.Calls.{leastBytes, Refuses, bad-file, bad-assignment, short-buffer, Called}
-use Rattle.meaning.specs.LeastCall.{inRange, FirstOutside, AllInside, Answer, LeastCall, turned-down, outside, no-model, least-model}
+use Rattle.meaning.specs.LeastCall.{FirstOutside, AllInside, Answer, LeastCall, turned-down, outside, no-model, least-model}
 use Rattle.meaning.proofs.Tests.{cases, First, first-or-all, is-it, not-it}
 use Rattle.meaning.proofs.InRanges.{assigned-within}
 use Rattle.meaning.proofs.Search.{Solvable, solvable}
+use Rattle.program.specs.Readings.{Valuation}
+use Rattle.program.specs.Variables.{inRange}
 
 -- an answer, what the buffer then holds, and that they are the call's
 abbrev pub Answers : List ℕ → List ℕ → List ℕ → Type 0
@@ -28,13 +29,13 @@ Answers s a b = (r : Answer) × (b′ : List ℕ) × LeastCall s a b r b′
 
 -- values all lie in their ranges, or there is a first that does not
 pub ranged : (P : Program) (θ : Valuation) → ((v : ℕ) × FirstOutside P θ v) ⊎ AllInside P θ
-ranged P θ = go (first-or-all inside (λ v. is-it (inRange (variableIn (P .variables) v) θ v)) (length (P .variables)))
+ranged P θ = go (first-or-all inside (λ v. is-it (inRange (variableIn (P .variables) v) (θ v))) (length (P .variables)))
   where
     inside : ℕ → Type 0
-    inside v = inRange (variableIn (P .variables) v) θ v ≡ true
+    inside v = inRange (variableIn (P .variables) v) (θ v) ≡ true
 
     go : ((v : ℕ) × (v < length (P .variables)) × First inside v) ⊎ AllInside P θ → ((v : ℕ) × FirstOutside P θ v) ⊎ AllInside P θ
-    go (inl f) = inl (f .0, record { declared = f .1; outside = not-it (inRange (variableIn (P .variables) (f .0)) θ (f .0)) (f .2 .0); first = f .2 .1 })
+    go (inl f) = inl (f .0, record { declared = f .1; outside = not-it (inRange (variableIn (P .variables) (f .0)) (θ (f .0))) (f .2 .0); first = f .2 .1 })
     go (inr all) = inr all
 
 -- ---- a call is turned down or not

@@ -5,12 +5,10 @@ use mathlib.Core.Bool.{Bool, not}
 use Prim.Native.Nat.{ℕ}
 use lib.IntN.{ℤ}
 use lib.Dec.{T}
+use Rattle.program.specs.Readings.{Valuation}
 use Rattle.program.specs.declared.Direction.{Direction}
 use Rattle.program.specs.declared.Given.{Given}
 use Rattle.program.specs.declared.Given.the-variants.{Nothing, Value}
-
-abbrev pub Valuation : Type 0
-Valuation = ℕ → ℤ
 
 -- the rules of a program and its variables, as far as the theory reads them
 pub record System : Type 1 where

@@ -1,13 +1,14 @@
 -- Document 01, "Reduct and least model": what the call least answers and writes.
 use Prim.Native.Nat.{ℕ, zero, suc, _*_, _<_}
 use mathlib.Core.Path.{_≡_}
-use mathlib.Core.Bool.{Bool, true, false, _&&_}
+use mathlib.Core.Bool.{true, false}
 use mathlib.Core.List.{List, [], _++_}
 use lib.ListN.{length, drop}
-use lib.Signed.{leZ}
 use Rattle.format.specs.Numbers.{bytesOf}
-use Rattle.program.specs.Program.{Program, Variable, variableIn}
-use Rattle.meaning.specs.Founded.{Valuation, Model, Least}
+use Rattle.program.specs.Program.{Program, variableIn}
+use Rattle.program.specs.Variables.{inRange}
+use Rattle.program.specs.Readings.{Valuation}
+use Rattle.meaning.specs.Founded.{Model, Least}
 use Rattle.meaning.specs.Reduct.{system}
 use Rattle.meaning.specs.Stable.{assigned}
 use Rattle.meaning.specs.Calls.{leastBytes, Refuses, Called, denialNumber, denialPlace}
@@ -27,18 +28,14 @@ answerOf (solved.Range v) = range v
 answerOf solved.Nothing = none
 answerOf solved.Found = found
 
--- a value lies in its variable's range
-abbrev pub inRange : Variable → Valuation → ℕ → Bool
-inRange x θ v = leZ (x .low) (θ v) && leZ (θ v) (x .high)
-
 -- v is the first variable that is assigned outside its range
 pub record FirstOutside (P : Program) (θ : Valuation) (v : ℕ) : Type 0 where
   pub declared : v < length (P .variables)
-  pub outside : inRange (variableIn (P .variables) v) θ v ≡ false
-  pub first : (u : ℕ) → u < v → inRange (variableIn (P .variables) u) θ u ≡ true
+  pub outside : inRange (variableIn (P .variables) v) (θ v) ≡ false
+  pub first : (u : ℕ) → u < v → inRange (variableIn (P .variables) u) (θ u) ≡ true
 
 abbrev pub AllInside : Program → Valuation → Type 0
-AllInside P θ = (v : ℕ) → v < length (P .variables) → inRange (variableIn (P .variables) v) θ v ≡ true
+AllInside P θ = (v : ℕ) → v < length (P .variables) → inRange (variableIn (P .variables) v) (θ v) ≡ true
 
 -- "writes 2 bytes per variable", for the first n variables
 unfoldable pub written : Valuation → ℕ → List ℕ

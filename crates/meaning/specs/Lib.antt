@@ -5,5 +5,4 @@ pub mod Calls
 pub mod LeastCall
 pub mod Unfounded
 pub mod Search
-pub mod Values
 pub mod Reads

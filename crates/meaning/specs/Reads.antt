@@ -5,8 +5,8 @@ use lib.ListN.{length}
 use lib.Dec.{eqb}
 use Rattle.program.specs.Tables.{anyBelow}
 use Rattle.program.specs.Program.{Program, Rule}
-use Rattle.meaning.specs.Reduct.{kept, placed}
+use Rattle.program.specs.Readings.{kept, bodyVariable}
 
 -- the rule reads x at a kept place
 unfoldable pub readsKept : Program → Rule → ℕ → Bool
-readsKept P r x = anyBelow (length (r .terms)) (λ j. kept P r j && eqb (placed r j) x)
+readsKept P r x = anyBelow (length (r .terms)) (λ j. kept (P .variables) r j && eqb (bodyVariable r j) x)

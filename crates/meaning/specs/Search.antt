@@ -5,12 +5,11 @@ use mathlib.Core.List.{List, [], _∷_}
 use lib.IntN.{ℤ}
 use lib.Signed.{leZ}
 use lib.ListN.{set}
-use Rattle.program.specs.Program.{Variable, Rule, Program, variableIn, ruleIn, founded}
+use Rattle.program.specs.Program.{Variable, Rule, Program, variableIn, ruleIn}
 use Rattle.program.specs.declared.Given.{Given}
 use Rattle.program.specs.declared.Given.the-variants.{Nothing, Value}
-use Rattle.meaning.specs.Founded.{Valuation}
-use Rattle.meaning.specs.Reduct.{gives}
-use Rattle.meaning.specs.Values.{valued}
+use Rattle.program.specs.Variables.{founded}
+use Rattle.program.specs.Readings.{Valuation, gives, valued}
 
 -- standard variables as assigned, founded ones at their lows, from variable i on
 unfoldable pub lows : Valuation → ℕ → List Variable → List ℤ
@@ -29,7 +28,7 @@ ask i (Value a) b next = cond (leZ a b) next (raise i a)
 -- among these rules, of which the first has number i
 unfoldable pub firstUnmet : Program → Valuation → Valuation → ℕ → List Rule → Step
 firstUnmet P θ m i [] = closed
-firstUnmet P θ m i (r ∷ rs) = let next = firstUnmet P θ m (suc i) rs in ask i (gives P r m θ) (m (r .head)) next
+firstUnmet P θ m i (r ∷ rs) = let next = firstUnmet P θ m (suc i) rs in ask i (gives (P .variables) r m θ) (m (r .head)) next
 
 pub data Outcome : Type 0 where
   found : List ℤ → Outcome

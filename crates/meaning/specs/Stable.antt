@@ -8,15 +8,16 @@ use lib.ListN.{length}
 use Rattle.format.specs.Numbers.{signedAt}
 use Rattle.program.specs.Program.{Program, ruleIn, constraintIn, termIn}
 use Rattle.program.specs.Evaluate.{satisfied}
-use Rattle.meaning.specs.Founded.{Valuation, Reaches, Within, Least}
-use Rattle.meaning.specs.Reduct.{gives, system}
+use Rattle.meaning.specs.Founded.{Reaches, Within, Least}
+use Rattle.meaning.specs.Reduct.{system}
+use Rattle.program.specs.Readings.{Valuation, gives}
 
 -- "An assignment gives each variable a two-byte value in number order."
 abbrev pub assigned : List ℕ → Valuation
 assigned a v = signedAt a (2 * v)
 
 abbrev pub RuleMet : Program → Valuation → ℕ → Type 0
-RuleMet P θ i = Reaches (system P) (ruleIn (P .rules) i .head) (gives P (ruleIn (P .rules) i) θ θ) (θ (ruleIn (P .rules) i .head))
+RuleMet P θ i = Reaches (system P) (ruleIn (P .rules) i .head) (gives (P .variables) (ruleIn (P .rules) i) θ θ) (θ (ruleIn (P .rules) i .head))
 
 abbrev pub ConstraintMet : Program → Valuation → ℕ → Type 0
 ConstraintMet P θ i = satisfied (constraintIn (P .constraints) i) (λ j. θ (termIn (constraintIn (P .constraints) i .terms) j .variable)) ≡ true

@@ -6,7 +6,8 @@ use Prim.Native.Nat.{ℕ}
 use lib.Dec.{T}
 use Rattle.program.specs.declared.Direction.{Direction}
 use Rattle.program.specs.declared.Direction.the-variants.{Rising, Falling, Mixed}
-use Rattle.meaning.specs.Founded.{Valuation, System, Below, Short, Reaches}
+use Rattle.meaning.specs.Founded.{System, Below, Short, Reaches}
+use Rattle.program.specs.Readings.{Valuation}
 
 -- the bounds in the set, θ elsewhere
 abbrev pub over : (ℕ → Bool) → Valuation → Valuation → Valuation

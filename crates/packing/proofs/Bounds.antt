@@ -14,7 +14,6 @@ use Rattle.program.specs.Refusals.{cutShort, unknownTag, tagBelow, oneTooMany, 
 use Rattle.program.specs.Reading.{Reads, too-long, bad-field, not-valid, whole, Accepts}
 use Rattle.program.specs.Reading as read
 use Rattle.program.proofs.Places.{counts}
-use Rattle.meaning.specs.Founded.{Valuation}
 use Rattle.meaning.specs.Calls.{Refuses, bad-file, bad-assignment, short-buffer}
 use Rattle.meaning.specs.LeastCall.{LeastCall}
 use Rattle.meaning.specs.LeastCall as least
@@ -23,6 +22,7 @@ use Rattle.report.proofs.Entries.{bounds-count, conditions-count}
 use Rattle.verdict.specs.Checks.{Judged, Checks}
 use Rattle.verdict.specs.Checks as check
 use Rattle.packing.specs.Packing.{parts, Fits, readParts, leastParts, checkParts}
+use Rattle.program.specs.Readings.{Valuation}
 
 fit : (w a b c : ℕ) → w < 256 → a < 65536 → b < 65536 → c < 65536 → Fits (parts w a b c)
 fit w a b c h i j k = record { word = h; first = i; second = j; third = k }

@@ -23,17 +23,18 @@ use Rattle.program.specs.declared.Given.{Given}
 use Rattle.program.specs.declared.Given.the-variants.{Nothing, Value}
 use Rattle.program.proofs.Conditions.{never, neither, none-below}
 use Rattle.program.proofs.Promises.{accepts-promises}
-use Rattle.meaning.specs.Founded.{Valuation, Reaches, Model, Least}
-use Rattle.meaning.specs.Reduct.{gives, system}
+use Rattle.meaning.specs.Founded.{Reaches, Model, Least}
+use Rattle.meaning.specs.Reduct.{system}
 use Rattle.meaning.specs.Stable.{assigned, RuleMet, Meets}
-use Rattle.meaning.specs.LeastCall.{inRange, AllInside}
+use Rattle.meaning.specs.LeastCall.{AllInside}
 use Rattle.meaning.specs.Search.{found, search}
-use Rattle.meaning.specs.Values.{valued}
 use Rattle.plans.specs.Starred.{Plan, StablePlan, UnfoundedPlan, UnmetPlan, small, printed, example2, example1, example4, contrary, StarredPlans}
 use Rattle.meaning.proofs.Tests.{cases, is-true}
 use Rattle.meaning.proofs.InRanges.{past-zero, assigned-within}
 use Rattle.meaning.proofs.Search as searching
 use Rattle.meaning.proofs.Search.{Right, search-right}
+use Rattle.program.specs.Readings.{Valuation, gives, valued}
+use Rattle.program.specs.Variables.{inRange}
 
 -- ---- the tests
 
@@ -47,14 +48,14 @@ mixed-in P = anyBelow (length (P .rules)) (λ i. anyBelow (length (ruleIn (P .ru
 
 -- some variable is outside its range
 unfoldable outside-in : Program → Valuation → Bool
-outside-in P θ = anyBelow (length (P .variables)) (λ v. not (inRange (variableIn (P .variables) v) θ v))
+outside-in P θ = anyBelow (length (P .variables)) (λ v. not (inRange (variableIn (P .variables) v) (θ v)))
 
 abbrev met : Given → ℤ → Bool
 met Nothing b = true
 met (Value a) b = leZ a b
 
 abbrev rule-met : Program → Valuation → ℕ → Bool
-rule-met P θ i = met (gives P (ruleIn (P .rules) i) θ θ) (θ (ruleIn (P .rules) i .head))
+rule-met P θ i = met (gives (P .variables) (ruleIn (P .rules) i) θ θ) (θ (ruleIn (P .rules) i .head))
 
 -- one of the first n rules is not met
 unfoldable unmet-in : Program → Valuation → ℕ → Bool
@@ -109,7 +110,7 @@ read s k short fit ended valid = record {
 
 all-inside : (P : Program) (θ : Valuation) → outside-in P θ ≡ false → AllInside P θ
 unfolding outside-in
-all-inside P θ e v h = not-false (inRange (variableIn (P .variables) v) θ v) (none-below (length (P .variables)) _ e v h)
+all-inside P θ e v h = not-false (inRange (variableIn (P .variables) v) (θ v)) (none-below (length (P .variables)) _ e v h)
 
 met-reaches : (P : Program) (v : ℕ) (g : Given) (b : ℤ) → met g b ≡ true → Reaches (system P) v g b
 met-reaches P v Nothing b e = tt
@@ -123,7 +124,7 @@ rules-met : (P : Program) (θ : Valuation) (n : ℕ) → unmet-in P θ n ≡ fal
 unfolding unmet-in
 rules-met P θ n e i h =
     let r = ruleIn (P .rules) i in
-    met-reaches P (r .head) (gives P r θ θ) (θ (r .head)) (not-false (rule-met P θ i) (none-below n _ e i h))
+    met-reaches P (r .head) (gives (P .variables) r θ θ) (θ (r .head)) (not-false (rule-met P θ i) (none-below n _ e i h))
 
 -- ---- plans
 
@@ -181,7 +182,7 @@ module _ {s a : List ℕ} {P : Program} (p : Plan s a P) where
     means = P;
     plan = p;
     among = h;
-    unmet = let r = ruleIn (P .rules) i in reaches-met P (r .head) (gives P r (assigned a) (assigned a)) (assigned a (r .head)) e;
+    unmet = let r = ruleIn (P .rules) i in reaches-met P (r .head) (gives (P .variables) r (assigned a) (assigned a)) (assigned a (r .head)) e;
     first = rules-met P (assigned a) i f;
   }
 

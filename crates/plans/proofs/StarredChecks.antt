@@ -14,13 +14,13 @@ use Rattle.meaning.specs.Founded.{Least}
 use Rattle.meaning.specs.Reduct.{system}
 use Rattle.meaning.specs.Stable.{assigned, Meets}
 use Rattle.meaning.specs.Calls.{checkBytes, Called}
-use Rattle.meaning.specs.Values.{valued}
 use Rattle.plans.specs.Starred.{Plan, StablePlan, UnfoundedPlan, UnmetPlan, small, printed, example2, example1, example4, contrary}
 use Rattle.plans.proofs.Starred as plans
 use Rattle.plans.proofs.Starred.{starred-plans, printed-read, example2-read, example1-read, example4-read, contrary-read}
 use Rattle.report.specs.Report.{bytesIn, ascending, askedBy, asked, shown, bounds, conditions}
 use Rattle.verdict.specs.Checks.{unfounded, stable, rule, Checks, judged, founded, not-founded, rule-unmet}
 use Rattle.plans.specs.StarredChecks.{Checked, StarredChecks}
+use Rattle.program.specs.Readings.{valued}
 
 -- unfolding this unfolds the report too
 computes : Unit {0}

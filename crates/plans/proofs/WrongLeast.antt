@@ -8,11 +8,11 @@ use lib.IntN.{ℤ}
 use lib.ListN.{length, getD, drop}
 use Rattle.format.specs.Numbers.{bytesOf}
 use Rattle.meaning.specs.LeastCall.{Answer, none, found, written, LeastCall, least-model}
-use Rattle.meaning.specs.Values.{valued}
 use Rattle.plans.specs.Starred.{UnfoundedPlan, small, printed, example4}
 use Rattle.meaning.proofs.InRanges.{within-inside}
 use Rattle.meaning.proofs.Determined.{least-call-unique}
 use Rattle.plans.proofs.Starred.{starred-plans}
+use Rattle.program.specs.Readings.{valued}
 
 -- three values, two bytes each
 abbrev three : ℕ → ℕ → ℕ → List ℕ

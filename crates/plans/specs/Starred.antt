@@ -10,7 +10,7 @@ use Rattle.program.specs.Reading.{Accepts}
 use Rattle.meaning.specs.Founded.{Within, Least}
 use Rattle.meaning.specs.Reduct.{system}
 use Rattle.meaning.specs.Stable.{assigned, RuleMet, Meets, Stable}
-use Rattle.meaning.specs.Values.{valued}
+use Rattle.program.specs.Readings.{valued}
 
 -- ---- what a plan says of a file s and an assignment a
 

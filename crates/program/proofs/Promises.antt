@@ -13,11 +13,12 @@ use borrow.Author.Tests.{ltb-false, leb-true, leb-false, eqb-true, eqb-false, eq
 use Rattle.format.specs.Limits.{maxTerms, maxNumber, maxCoefficient}
 use Rattle.format.specs.Numbers.{beyond}
 use Rattle.format.proofs.Ints.{within-small}
-use Rattle.program.specs.Program.{Variable, Term, Rule, Constraint, Program, Item, variable, rule, constraint, constraintIn, program, variableIn, ruleIn, termIn, founded}
+use Rattle.program.specs.Program.{Variable, Term, Rule, Constraint, Program, Item, variable, rule, constraint, constraintIn, program, variableIn, ruleIn, termIn}
 use Rattle.program.specs.Refusals.{bodyForm, anyTerm, literalPlace, wrongOp, mustBeZero, wrongTerm, unknownForm, wrongConstraint, wrongForm, outsideTerm, outsideRange, undeclaredTerm, wrongHead, undeclared, notFrom, wrongCountOf, wrongCount, repeatedTerm, variableTwice, negativeTerm, negativeProduct, itemConditions, itemRefusal}
 use Rattle.program.specs.Reading.{Passed, Accepts}
 use Rattle.program.proofs.Conditions.{never, neither, both, none-first, none-below, below-none}
 use Rattle.program.proofs.Places.{variablesTo, rulesTo, constraintsTo, variable-stands, rule-at, constraint-at}
+use Rattle.program.specs.Variables.{founded}
 
 -- ---- no condition on an item is met
 

@@ -1,9 +1,11 @@
 pub mod Tables
 pub mod Fields
 pub mod Program
+pub mod Variables
 pub mod Refusals
 pub mod Directions
 pub mod Evaluate
+pub mod Readings
 pub mod Components
 pub mod Reading
 pub mod Encode

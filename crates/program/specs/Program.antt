@@ -106,9 +106,6 @@ ruleIn rs i = getD rs i noRule
 abbrev pub constraintIn : List Constraint → ℕ → Constraint
 constraintIn ks i = getD ks i noConstraint
 
-abbrev pub founded : Variable → Bool
-founded x = eqb (x .kind) 1
-
 -- the first n variables of a file where each field before them is a variable of 8 bytes: variable x at byte 8 x (law `variables-stand`)
 unfoldable pub variablesAt : List ℕ → ℕ → List Variable
 variablesAt s zero = []

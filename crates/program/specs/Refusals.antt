@@ -10,7 +10,8 @@ use Rattle.format.specs.Limits.{maxVariables, maxRules, maxConstraints, maxTerm
 use Rattle.format.specs.Numbers.{beyond}
 use Rattle.program.specs.Tables.{_⇒_, select, Condition, _when_, firstOf, anyBelow}
 use Rattle.program.specs.Fields.{tagAt, valueAt, nextAt, place, tagBefore}
-use Rattle.program.specs.Program.{Variable, Term, Program, Item, variable, rule, constraint, none, itemOf, program, variableIn, termIn, founded}
+use Rattle.program.specs.Program.{Variable, Term, Program, Item, variable, rule, constraint, none, itemOf, program, variableIn, termIn}
+use Rattle.program.specs.Variables.{founded}
 
 -- 2: "field cut short", in its value or in its tag and length
 unfoldable pub cutShort : List ℕ → ℕ → Bool

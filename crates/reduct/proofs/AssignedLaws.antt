@@ -10,7 +10,7 @@ use Rattle.program.specs.Reading.{Reads, accepted, Accepts}
 use Rattle.program.specs.declared.Counts.{Counts}
 use Rattle.program.proofs.Unique.{accepts-unique}
 use Rattle.reader.proofs.Accepted.{accept, variables-are}
-use Rattle.meaning.specs.Founded.{Valuation, Within}
+use Rattle.meaning.specs.Founded.{Within}
 use Rattle.meaning.specs.Reduct.{system}
 use Rattle.meaning.specs.Stable.{assigned}
 use Rattle.meaning.specs.LeastCall.{AllInside}
@@ -18,6 +18,7 @@ use Rattle.meaning.proofs.InRanges.{assigned-within, assigned-past}
 use Rattle.reduct.specs.Filling.{OutsideIs}
 use Rattle.reduct.specs.declared.values.Outside.the-variants.{Nowhere}
 use Rattle.reduct.proofs.Ranges.{all-inside}
+use Rattle.program.specs.Readings.{Valuation}
 
 module _ (s : List ℕ) (k : Counts) (r : Reads s (accepted (k .variables) (k .rules) (k .constraints))) (a : List ℕ) where
   pub right-range : (θ : Valuation) → θ ≡ assigned a → OutsideIs (variablesAt s (k .variables)) θ (k .variables) Nowhere

@@ -11,10 +11,9 @@ use lib.IntN.{ℤ, pos}
 use lib.ListN.{length, getD, set, replicate, List·getD-eq-default}
 use lib.Seq.{getD-set-same, getD-set-other}
 use Rattle.format.specs.Numbers.{signed}
-use Rattle.meaning.specs.Founded.{Valuation}
 use Rattle.meaning.specs.Stable.{assigned}
-use Rattle.meaning.specs.Values.{valued}
 use Rattle.reduct.specs.Filling.{Filled}
+use Rattle.program.specs.Readings.{Valuation, valued}
 
 pub filled-none : (m : Valuation) (ms : List ℤ) → Filled m 0 ms ms
 filled-none m ms = record { below = λ v l. absurd (omega arith); past = λ v l. refl }

@@ -11,15 +11,15 @@ use lib.Pow.{shr-shr, pow-mono}
 use lib.IntN.{ℤ}
 use lib.ListN.{length, getD, drop}
 use Rattle.format.specs.Limits.{maxTerms}
-use Rattle.program.specs.Program.{Program, Variable, Rule, variableOf, ruleOf, termsOf, termIn, variableIn, variablesAt, founded}
+use Rattle.program.specs.Program.{Program, Variable, Rule, variableOf, ruleOf, termsOf, termIn, variableIn, variablesAt}
 use Rattle.program.specs.Evaluate.{evaluate}
 use Rattle.bodies.specs.Readings.{bit, readingOf, Evaluable}
 use Rattle.program.proofs.Places.{variable-at}
 use Rattle.parts.proofs.Bytes.{place-variable}
 use Rattle.evaluation.proofs.Gives.{evaluate-same}
-use Rattle.meaning.specs.Reduct.{placed, kept, reading, gives}
-use Rattle.meaning.specs.Values.{valued}
 use Rattle.reduct.specs.Masks.{keptAt, Mask}
+use Rattle.program.specs.Variables.{founded}
+use Rattle.program.specs.Readings.{bodyVariable, kept, reading, gives, valued}
 
 -- ---- bits
 
@@ -107,7 +107,7 @@ mask-small m h = lt-of-lt-of-le (m .small) (pow-mono h)
 
 -- the variable at place i, by its kind in the file
 pub founded-is : (s : List ℕ) (n : ℕ) (v : List ℕ) (i : ℕ) {k : ℕ} → 4 + 4 * (i + 1) ≤ length v → getD v (4 + 4 * i) 0 < n
-    → k ≡ variableOf (drop (8 * getD v (4 + 4 * i) 0 + 3) s) .kind → eqb k 1 ≡ founded (variableIn (variablesAt s n) (placed (ruleOf v) i))
+    → k ≡ variableOf (drop (8 * getD v (4 + 4 * i) 0 + 3) s) .kind → eqb k 1 ≡ founded (variableIn (variablesAt s n) (bodyVariable (ruleOf v) i))
 founded-is s n v i l h e =
     ap (λ (k : ℕ). eqb k 1)
     (e ∙ ap (λ (x : Variable). x .kind) (sym (variable-at s n (getD v (4 + 4 * i) 0) h))
@@ -116,18 +116,18 @@ founded-is s n v i l h e =
 -- ---- what a rule gives
 
 module _ (P : Program) where
-  pub kept-is : {vs : List Variable} (r : Rule) (i : ℕ) → P .variables ≡ vs → keptAt vs r i ≡ kept P r i
+  pub kept-is : {vs : List Variable} (r : Rule) (i : ℕ) → P .variables ≡ vs → keptAt vs r i ≡ kept (P .variables) r i
   unfolding kept
   kept-is r i e = rw e
 
   -- a rule that is evaluated by the bits of its kept places gives what the reduct says
   pub gives-is : {vs : List Variable} (v : List ℕ) {w : ℕ} (first second : List ℤ) → P .variables ≡ vs
       → Mask (keptAt vs (ruleOf v)) (length (ruleOf v .terms)) w → Evaluable (ruleOf v)
-      → evaluate (ruleOf v) (readingOf w first second (termsOf (drop 4 v))) ≡ gives P (ruleOf v) (valued first) (valued second)
+      → evaluate (ruleOf v) (readingOf w first second (termsOf (drop 4 v))) ≡ gives (P .variables) (ruleOf v) (valued first) (valued second)
   unfolding gives readingOf
   gives-is v {w} first second q m e = evaluate-same (ruleOf v) _ _ same e
     where
-      same : (i : ℕ) → i < length (ruleOf v .terms) → readingOf w first second (termsOf (drop 4 v)) i ≡ reading P (ruleOf v) (valued first) (valued second) i
+      same : (i : ℕ) → i < length (ruleOf v .terms) → readingOf w first second (termsOf (drop 4 v)) i ≡ reading (P .variables) (ruleOf v) (valued first) (valued second) i
       same i l =
           ap (λ (t : Bool). cond t (valued first (termIn (termsOf (drop 4 v)) i .variable)) (valued second (termIn (termsOf (drop 4 v)) i .variable)))
           (m .below i l ∙ kept-is (ruleOf v) i q)

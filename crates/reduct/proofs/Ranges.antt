@@ -11,10 +11,10 @@ use lib.ListN.{drop, List·getD-eq-default}
 use lib.Signed.{leZ}
 use Rattle.program.specs.Program.{Program, noVariable, variableOf, variableIn, variablesAt}
 use Rattle.program.proofs.Places.{variable-at, variables-length}
-use Rattle.meaning.specs.Founded.{Valuation}
-use Rattle.meaning.specs.LeastCall.{inRange, FirstOutside, AllInside}
-use Rattle.meaning.specs.Values.{valued}
+use Rattle.meaning.specs.LeastCall.{FirstOutside, AllInside}
 use Rattle.reduct.specs.Filling.{Filled, starting, OutsideIs, insideOf, startOf}
+use Rattle.program.specs.Readings.{Valuation, valued}
+use Rattle.program.specs.Variables.{inRange}
 use Rattle.reduct.specs.declared.values.Outside.the-variants.{At, Nowhere}
 
 -- ---- by the bytes
@@ -37,7 +37,7 @@ module _ (s : List ℕ) (x : ℕ) where
 -- ---- by their numbers
 
 module _ (s : List ℕ) (n : ℕ) (θ : Valuation) where
-  pub inside-variable : (v : ℕ) {a : ℤ} → v < n → a ≡ θ v → insideOf s v a ≡ inRange (variableIn (variablesAt s n) v) θ v
+  pub inside-variable : (v : ℕ) {a : ℤ} → v < n → a ≡ θ v → insideOf s v a ≡ inRange (variableIn (variablesAt s n) v) (θ v)
   unfolding insideOf
   inside-variable v h e = rw (e, variable-at s n v h)
 

@@ -6,11 +6,10 @@ use mathlib.Core.Bool.{Bool, true, false, cond, _&&_}
 use lib.IntN.{ℤ}
 use lib.ListN.{drop}
 use lib.Signed.{leZ}
-use Rattle.program.specs.Program.{Variable, variableOf, variableIn, founded}
-use Rattle.meaning.specs.Founded.{Valuation}
-use Rattle.meaning.specs.LeastCall.{inRange}
-use Rattle.meaning.specs.Values.{valued}
+use Rattle.program.specs.Program.{Variable, variableOf, variableIn}
 use Rattle.reduct.specs.declared.values.Outside.{Outside}
+use Rattle.program.specs.Variables.{founded, inRange}
+use Rattle.program.specs.Readings.{Valuation, valued}
 use Rattle.reduct.specs.declared.values.Outside.the-variants.{At, Nowhere}
 
 -- ms′ is ms with its first n values replaced by those of m
@@ -24,8 +23,8 @@ starting vs θ v = cond (founded (variableIn vs v)) (variableIn vs v .low) (θ v
 
 -- the first of n variables outside its range
 abbrev pub OutsideIs : List Variable → Valuation → ℕ → Outside → Type 0
-OutsideIs vs θ n (At v) = (v < n) × (inRange (variableIn vs v) θ v ≡ false) × ((u : ℕ) → u < v → inRange (variableIn vs u) θ u ≡ true)
-OutsideIs vs θ n Nowhere = (v : ℕ) → v < n → inRange (variableIn vs v) θ v ≡ true
+OutsideIs vs θ n (At v) = (v < n) × (inRange (variableIn vs v) (θ v) ≡ false) × ((u : ℕ) → u < v → inRange (variableIn vs u) (θ u) ≡ true)
+OutsideIs vs θ n Nowhere = (v : ℕ) → v < n → inRange (variableIn vs v) (θ v) ≡ true
 
 -- ---- variable x by the bytes of the file
 

@@ -5,8 +5,8 @@ ghost use lib.ListN.{length};
 ghost use Rattle.format.specs.Limits.{maxVariables};
 ghost use Rattle.program.specs.Program.{variablesAt};
 ghost use Rattle.meaning.specs.Stable.{assigned};
-ghost use Rattle.meaning.specs.Values.{valued};
 ghost use Rattle.reduct.specs.Filling.{Filled, starting, OutsideIs, insideOf, startOf};
+ghost use Rattle.program.specs.Readings.{valued};
 use format::Format;
 use parts::variables;
 

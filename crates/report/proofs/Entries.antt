@@ -11,9 +11,9 @@ use lib.ListN.{length, length-append}
 use Rattle.format.specs.Numbers.{bytesOf}
 use Rattle.words.specs.Bit.{one-if, countFrom}
 use Rattle.sets.proofs.Counts.{count-split}
-use Rattle.meaning.specs.Founded.{Valuation}
 use Rattle.report.specs.Report.{Entry, entry, entryBytes, bytesIn, atMost, atLeast, ascending, only, boundsOf, conditionsOf}
 use Rattle.report.specs.Written.{markedOf}
+use Rattle.program.specs.Readings.{Valuation}
 
 -- variables with no entry
 pub ascending-skip : (f : ℕ → List Entry) (n k : ℕ) → ((v : ℕ) → n ≤ v → v < k → f v ≡ []) → n ≤ k → ascending f k ≡ ascending f n

@@ -13,10 +13,10 @@ use mir.Val.{ofZ}
 use Rattle.format.specs.Limits.{maxVariables}
 use Rattle.format.specs.Numbers.{bytesOf}
 use Rattle.words.specs.Bit.{NoneIn, countFrom}
-use Rattle.meaning.specs.Founded.{Valuation}
 use Rattle.report.specs.Report.{Entry, entry, bytesIn, bound, atMost, atLeast, ascending, only, boundsOf, conditionsOf}
 use Rattle.report.specs.Written.{markedOf, marked, Wrote, Begins}
 use Rattle.report.proofs.Entries.{ascending-skip, bounds-count, conditions-count, bytes-append, bytes-length}
+use Rattle.program.specs.Readings.{Valuation}
 
 -- ---- one entry
 

@@ -11,9 +11,9 @@ use Rattle.program.specs.Program.{Program, Rule, ruleIn}
 use Rattle.program.specs.Directions.{direction}
 use Rattle.program.specs.declared.Direction.{Direction}
 use Rattle.program.specs.declared.Direction.the-variants.{Rising, Falling, Mixed}
-use Rattle.meaning.specs.Founded.{Valuation}
-use Rattle.meaning.specs.Reduct.{placed, kept, system}
+use Rattle.meaning.specs.Reduct.{system}
 use Rattle.meaning.specs.Unfounded.{short}
+use Rattle.program.specs.Readings.{Valuation, bodyVariable, kept}
 
 -- "Report entries have 4 bytes: variable, mark (1), number (2)."
 pub record Entry : Type 0 where
@@ -74,7 +74,7 @@ asksLeast Mixed except = true
 module _ (P : Program) (set : ℕ → Bool) where
   unfoldable pub askedBy : (Direction → Bool → Bool) → Rule → ℕ → Bool
   askedBy asks r v =
-      anyBelow (length (r .terms)) (λ j. asks (direction (P .variables) r j) (kept P r j && set (placed r j)) && eqb (placed r j) v)
+      anyBelow (length (r .terms)) (λ j. asks (direction (P .variables) r j) (kept (P .variables) r j && set (bodyVariable r j)) && eqb (bodyVariable r j) v)
 
   unfoldable pub asked : (Direction → Bool → Bool) → ℕ → Bool
   asked asks v = anyBelow (length (P .rules)) (λ i. set (ruleIn (P .rules) i .head) && askedBy asks (ruleIn (P .rules) i) v)

@@ -5,8 +5,8 @@ use mathlib.Core.Bool.{Bool}
 use mathlib.Core.List.{List, _++_}
 use lib.ListN.{length, take, drop}
 use Rattle.format.specs.Limits.{maxVariables}
-use Rattle.meaning.specs.Founded.{Valuation}
 use Rattle.report.specs.Report.{Entry, entry, bytesIn, ascending, only}
+use Rattle.program.specs.Readings.{Valuation}
 
 -- the entries of one variable: mark a where the first test holds, then mark b where the second does
 abbrev pub markedOf : (ℕ → Bool) → ℕ → (ℕ → Bool) → ℕ → Valuation → ℕ → List Entry

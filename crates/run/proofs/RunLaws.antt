@@ -20,24 +20,22 @@ use Rattle.bodies.specs.Readings.{readingOf, Evaluable}
 use Rattle.evaluation.proofs.Gives.{evaluate-same}
 use Rattle.reader.specs.Parts.{RuleLies}
 use Rattle.reader.proofs.Published.{rule-lies}
-use Rattle.meaning.specs.Founded.{Valuation}
-use Rattle.meaning.specs.Reduct.{placed, reading, gives}
 use Rattle.tables.specs.Tabled.{MaskOf}
-use Rattle.meaning.specs.Values.{valued}
 use Rattle.run.specs.Running.{headOf, givenBy, Met, Exceeds, demandOf, Demanded}
 use Rattle.tables.specs.Laid.{RuleAt}
 use Rattle.run.specs.declared.Demand.{Demand}
 use Rattle.run.specs.declared.Demand.the-variants.{More, Enough}
 use Rattle.meaning.proofs.Tests.{cases}
+use Rattle.program.specs.Readings.{Valuation, bodyVariable, reading, gives, valued}
 
 -- ---- what it gives
 
 -- places read by a mask are read as the reduct says
 given-as : (P : Program) (r : Rule) (mask : ℕ) (m θ : List ℤ) → Evaluable r → MaskOf P r mask
-    → evaluate r (readingOf mask m θ (r .terms)) ≡ gives P r (valued m) (valued θ)
+    → evaluate r (readingOf mask m θ (r .terms)) ≡ gives (P .variables) r (valued m) (valued θ)
 unfolding gives readingOf
 given-as P r mask m θ e k =
-    evaluate-same r (readingOf mask m θ (r .terms)) (reading P r (valued m) (valued θ)) (λ j l. ap (λ (b : Bool). cond b (valued m (placed r j)) (valued θ (placed r j))) (k j l)) e
+    evaluate-same r (readingOf mask m θ (r .terms)) (reading (P .variables) r (valued m) (valued θ)) (λ j l. ap (λ (b : Bool). cond b (valued m (bodyVariable r j)) (valued θ (bodyVariable r j))) (k j l)) e
 
 -- the value of a field, as a part of the file
 pub part-value : (s : List ℕ) (at : ℕ) {start len : ℕ} → start ≡ at + 3 → len ≡ lengthAt s at → take (start + len - start) (drop start s) ≡ valueAt s at

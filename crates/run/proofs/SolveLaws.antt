@@ -16,7 +16,7 @@ use borrow.Author.Tests.{ltb-true, lt-ltb}
 use Rattle.format.specs.Limits.{maxVariables, maxRules}
 use Rattle.format.proofs.Int.{int}
 use Rattle.words.specs.Bit.{wordBits, bit, has}
-use Rattle.program.specs.Program.{Program, Variable, variableIn, variablesAt, ruleIn, founded}
+use Rattle.program.specs.Program.{Program, Variable, variableIn, variablesAt, ruleIn}
 use Rattle.program.specs.Reading.{Accepts}
 use Rattle.program.specs.declared.Given.the-variants.{Value}
 use Rattle.program.proofs.Conditions.{neither}
@@ -25,12 +25,11 @@ use Rattle.program.proofs.Promises.{Promises, accepts-promises}
 use Rattle.program.proofs.Unique.{accepts-unique}
 use Rattle.bodies.specs.Readings.{Small}
 use Rattle.reader.proofs.Published.{promised-evaluable, variable-lies, variables-inside}
-use Rattle.meaning.specs.Founded.{Valuation, Reaches, Within, Model, Least}
+use Rattle.meaning.specs.Founded.{Reaches, Within, Model, Least}
 use Rattle.meaning.specs.Reduct.{system}
 use Rattle.meaning.specs.Reads.{readsKept}
 use Rattle.tables.specs.Tabled.{Tabled, rowWords}
 use Rattle.run.specs.Running.{MetOutside, headOf, givenBy, Met, Among, Inside, Ready, Raising, Stepped, RaisedTo, highAt, Lifted, Running}
-use Rattle.meaning.specs.Values.{valued}
 use Rattle.tables.specs.Laid.{RuleAt, Placed}
 use Rattle.run.specs.declared.Step.{Step}
 use Rattle.run.specs.declared.Step.the-variants.{Raise, Done}
@@ -41,6 +40,8 @@ use Rattle.meaning.proofs.Monotone.{laws, head-founded}
 use Rattle.meaning.proofs.Steps.{Raised, same-given, reaches-more, gap, gap-raised}
 use Rattle.run.proofs.RunLaws.{head-inside, here-head}
 use Rattle.run.proofs.StepLaws.{few-rules}
+use Rattle.program.specs.Variables.{founded}
+use Rattle.program.specs.Readings.{Valuation, valued}
 
 -- ---- rows
 

@@ -6,19 +6,20 @@ use mathlib.Core.List.{List}
 use lib.Dec.{ltb}
 use lib.IntN.{ℤ}
 use Rattle.words.specs.Bit.{has}
-use Rattle.program.specs.Program.{Program, Variable, program, variableIn, variablesAt, founded}
+use Rattle.program.specs.Program.{Program, Variable, program, variableIn, variablesAt}
 use Rattle.program.specs.Reading.{Reads, accepted, Accepts, Whole}
 use Rattle.program.specs.declared.Counts.{Counts}
 use Rattle.reader.proofs.Accepted.{accept, variables-are}
 use Rattle.meaning.specs.Founded.{Within}
 use Rattle.meaning.specs.Reduct.{system}
-use Rattle.meaning.specs.Values.{valued}
 use Rattle.tables.specs.Tabled.{Tabled}
 use Rattle.reduct.specs.Filling.{Filled, starting}
 use Rattle.reduct.proofs.Ranges.{started-whole}
 use Rattle.tables.proofs.LaidLaws.{whole-tabled}
 use Rattle.run.specs.Running.{Running}
 use Rattle.run.proofs.SolveLaws.{run-start}
+use Rattle.program.specs.Variables.{founded}
+use Rattle.program.specs.Readings.{valued}
 
 module _ (s : List ℕ) (k : Counts) (r : Reads s (accepted (k .variables) (k .rules) (k .constraints))) where
   pub begun : (θ m₀ m : List ℤ) (ps ms rs ws₀ ws : List ℕ)

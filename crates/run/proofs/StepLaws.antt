@@ -18,11 +18,11 @@ use Rattle.program.specs.Program.{Program}
 use Rattle.program.specs.Reading.{Accepts}
 use Rattle.program.proofs.Places.{counts}
 use Rattle.program.proofs.Unique.{accepts-unique}
-use Rattle.meaning.specs.Founded.{Valuation}
 use Rattle.run.specs.Running.{MetOutside, Met, Exceeds, Demanded, Among, Inside, Taken, Empty, Takes, Ready, Raising}
 use Rattle.tables.specs.Laid.{Stands, Placed}
 use Rattle.tables.specs.Tabled.{rowWords}
 use Rattle.run.specs.declared.Demand.{Demand}
+use Rattle.program.specs.Readings.{Valuation}
 use Rattle.run.specs.declared.Demand.the-variants.{More, Enough}
 
 -- ---- answers that are known

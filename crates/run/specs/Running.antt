@@ -12,20 +12,21 @@ use Rattle.words.specs.Bit.{has, LeastFrom, NoneIn}
 use Rattle.words.specs.declared.Found.{Found}
 use Rattle.words.specs.declared.Found.the-variants.{At}
 use Rattle.words.specs.declared.Found.the-variants as found
-use Rattle.program.specs.Program.{Program, ruleIn, variableIn, variableOf, founded}
+use Rattle.program.specs.Program.{Program, ruleIn, variableIn, variableOf}
 use Rattle.program.specs.Reading.{Accepts}
 use Rattle.program.specs.declared.Given.{Given}
 use Rattle.program.specs.declared.Given.the-variants.{Nothing, Value}
-use Rattle.meaning.specs.Founded.{Valuation, Reaches, Short, Within, Floor, Model, Least}
-use Rattle.meaning.specs.Reduct.{gives, system}
+use Rattle.meaning.specs.Founded.{Reaches, Short, Within, Floor, Model, Least}
+use Rattle.meaning.specs.Reduct.{system}
 use Rattle.tables.specs.Tabled.{Tabled}
 use Rattle.tables.specs.Laid.{Placed}
-use Rattle.meaning.specs.Values.{valued}
 use Rattle.run.specs.declared.Demand.{Demand}
 use Rattle.run.specs.declared.Demand.the-variants.{More, Enough}
 use Rattle.run.specs.declared.Step.{Step}
 use Rattle.run.specs.declared.Step.the-variants.{Raise, Done}
 use Rattle.run.specs.declared.Ending.{Ending}
+use Rattle.program.specs.Variables.{founded}
+use Rattle.program.specs.Readings.{Valuation, gives, valued}
 use Rattle.run.specs.declared.Ending.the-variants as ending
 
 -- the head of rule i, and what the rule gives
@@ -33,7 +34,7 @@ abbrev pub headOf : Program → ℕ → ℕ
 headOf P i = ruleIn (P .rules) i .head
 
 abbrev pub givenBy : Program → Valuation → Valuation → ℕ → Given
-givenBy P θ m i = gives P (ruleIn (P .rules) i) m θ
+givenBy P θ m i = gives (P .variables) (ruleIn (P .rules) i) m θ
 
 -- rule i gives no more than its head has
 abbrev pub Met : Program → Valuation → Valuation → ℕ → Type 0
@@ -61,7 +62,7 @@ Demanded P θ m i Enough = Met P θ m i
 -- every rule outside the set is met
 abbrev pub MetOutside : Program → Valuation → Valuation → (ℕ → Bool) → Type 0
 MetOutside P θ m waiting =
-    (i : ℕ) → i < length (P .rules) → waiting i ≡ false → Reaches (system P) (ruleIn (P .rules) i .head) (gives P (ruleIn (P .rules) i) m θ) (m (ruleIn (P .rules) i .head))
+    (i : ℕ) → i < length (P .rules) → waiting i ≡ false → Reaches (system P) (ruleIn (P .rules) i .head) (gives (P .variables) (ruleIn (P .rules) i) m θ) (m (ruleIn (P .rules) i .head))
 
 -- the set has rules alone
 abbrev pub Among : Program → (ℕ → Bool) → Type 0

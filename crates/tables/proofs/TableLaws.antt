@@ -24,12 +24,12 @@ use Rattle.fields.specs.Scanning.{Counted}
 use Rattle.validity.proofs.ComponentLaws.{any-same, whole-unique}
 use Rattle.validity.proofs.RuleLaws.{counted-variables, rule-is, rule-promise, rule-inside, standing}
 use Rattle.reader.specs.Parts.{rulePlace}
-use Rattle.meaning.specs.Reduct.{placed, kept}
 use Rattle.meaning.specs.Reads.{readsKept}
 use Rattle.reduct.specs.Masks.{keptAt, Mask}
 use Rattle.tables.specs.Tabled.{Entered, MaskOf, Tabled}
 use Rattle.tables.specs.Entries.{RuleHere, EntryMade}
 use Rattle.reduct.proofs.MaskLaws.{kept-is}
+use Rattle.program.specs.Readings.{bodyVariable, kept}
 
 module _ {s : List ℕ} {k : Counts} (c : Counted s k) where
   abbrev P : Program
@@ -68,10 +68,10 @@ module _ {s : List ℕ} {k : Counts} (c : Counted s k) where
         → anyBelow (length (ruleOf (valueAt s at) .terms)) (λ j. bit (n .mask) j && eqb (getD (valueAt s at) (4 + 4 * j) 0) x) ≡ readsKept P (ruleIn (P .rules) i) x
     unfolding readsKept
     reads-here x =
-        any-same (length (ruleOf (valueAt s at) .terms)) _ (λ j. kept P (ruleOf (valueAt s at)) j && eqb (placed (ruleOf (valueAt s at)) j) x)
+        any-same (length (ruleOf (valueAt s at) .terms)) _ (λ j. kept (P .variables) (ruleOf (valueAt s at)) j && eqb (bodyVariable (ruleOf (valueAt s at)) j) x)
         (λ j l. ap₂ (λ (a : Bool) (b : ℕ). a && eqb b x) (n .mask-is .below j l ∙ kept-is P (ruleOf (valueAt s at)) j (c .describes .variables-are))
         (sym (place-variable (valueAt s at) j (let z = here i at h e .standing .sized in omega arith))))
-        ∙ ap (λ (q : Rule). anyBelow (length (q .terms)) (λ j. kept P q j && eqb (placed q j) x)) rule-here
+        ∙ ap (λ (q : Rule). anyBelow (length (q .terms)) (λ j. kept (P .variables) q j && eqb (bodyVariable q j) x)) rule-here
 
     reader-here : (x j : ℕ) → x < maxVariables → j < maxRules → Dec (j ≡ i) → has rs′ (maxRules * x + j) ≡ (ltb j (i + 1) && readsKept P (ruleIn (P .rules) j) x)
     reader-here x j l m (yes q) =

@@ -10,8 +10,8 @@ use Rattle.words.specs.Bit.{wordBits, has}
 use Rattle.program.specs.Program.{Program, Rule, ruleIn}
 use Rattle.bodies.specs.Readings.{bit}
 use Rattle.reader.specs.Parts.{rulePlace}
-use Rattle.meaning.specs.Reduct.{kept}
 use Rattle.meaning.specs.Reads.{readsKept}
+use Rattle.program.specs.Readings.{kept}
 
 -- the words of a set of rules, and of one for each variable
 abbrev pub rowWords : ℕ
@@ -26,7 +26,7 @@ Entered ws ws′ k e = (x i : ℕ) → x < maxVariables → i < maxRules → has
 
 -- bit j is set exactly where place j of the rule is kept
 abbrev pub MaskOf : Program → Rule → ℕ → Type 0
-MaskOf P r w = (j : ℕ) → j < length (r .terms) → bit w j ≡ kept P r j
+MaskOf P r w = (j : ℕ) → j < length (r .terms) → bit w j ≡ kept (P .variables) r j
 
 -- the first n rules are in the tables; the rules that read x stand in one row of bits, from number maxRules * x on
 pub record Tabled (s : List ℕ) (P : Program) (n : ℕ) (places masks readers : List ℕ) : Type 0 where

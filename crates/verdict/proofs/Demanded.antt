@@ -9,7 +9,7 @@ use Rattle.program.specs.Reading.{Accepts}
 use Rattle.program.proofs.Conditions.{never}
 use Rattle.program.proofs.Promises.{Promises, accepts-promises}
 use Rattle.program.proofs.Unique.{accepts-unique}
-use Rattle.meaning.specs.Founded.{Valuation, Within, Least}
+use Rattle.meaning.specs.Founded.{Within, Least}
 use Rattle.meaning.specs.Reduct.{system}
 use Rattle.meaning.specs.Stable.{assigned, Meets, Stable}
 use Rattle.meaning.specs.Calls.{checkBytes, Refuses}
@@ -22,6 +22,7 @@ use Rattle.report.specs.Report.{shown}
 use Rattle.verdict.specs.Checks.{Answer, refusal, range, rule, constraint, unfounded, stable, Judged, outside, rule-unmet, constraint-unmet, not-founded, founded, Checks, turned-down, judged}
 use Rattle.verdict.specs.Demands.{HasUnfounded, Shows, NotRefused, Demands}
 use Rattle.verdict.proofs.Shown.{report-shows}
+use Rattle.program.specs.Readings.{Valuation}
 
 -- ---- answers
 

@@ -7,7 +7,7 @@ use native.Mathlib.Omega.{arith}
 use Rattle.program.specs.Program.{Program}
 use Rattle.program.proofs.Promises.{Promises, accepts-promises}
 use Rattle.program.proofs.Unique.{accepts-unique}
-use Rattle.meaning.specs.Founded.{Valuation, Least}
+use Rattle.meaning.specs.Founded.{Least}
 use Rattle.meaning.specs.Reduct.{system}
 use Rattle.meaning.specs.Stable.{assigned}
 use Rattle.meaning.proofs.Theory.{least-unique}
@@ -16,6 +16,7 @@ use Rattle.meaning.proofs.Determined.{same-outside, same-refusal, refused-or-ca
 use Rattle.report.specs.Report.{bounds, conditions, reported}
 use Rattle.verdict.specs.Checks.{Answer, range, rule, constraint, unfounded, FirstUnmet, Judged, outside, rule-unmet, constraint-unmet, not-founded, founded, Checks, turned-down, judged}
 use Rattle.verdict.proofs.Demanded.{never-outside, none-short}
+use Rattle.program.specs.Readings.{Valuation}
 
 same-unmet : {Met : ℕ → Type 0} {n i j : ℕ} → FirstUnmet Met n i → FirstUnmet Met n j → i ≡ j
 same-unmet {i = i} {j} f g = by (λ h. f .unmet (g .first i h)) (λ h. g .unmet (f .first j h))

@@ -11,9 +11,9 @@ use lib.Seq.{getD-append-add}
 use Rattle.format.specs.Numbers.{bytesOf, signed}
 use Rattle.format.proofs.Ints.{read-written}
 use Rattle.meaning.proofs.Tests.{cases}
-use Rattle.meaning.specs.Founded.{Valuation}
 use Rattle.report.specs.Report.{Entry, entry, entryBytes, bytesIn, ascending, only, bound, atMost, atLeast, boundsOf, conditionsOf}
 use Rattle.verdict.specs.Demands.{variableAt, markAt, numberAt}
+use Rattle.program.specs.Readings.{Valuation}
 
 abbrev pub entryIn : List Entry → ℕ → Entry
 entryIn es i = getD es i (entry 0 0 (pos 0))

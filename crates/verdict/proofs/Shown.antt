@@ -18,8 +18,8 @@ use Rattle.program.specs.declared.Direction.{Direction}
 use Rattle.program.specs.declared.Direction.the-variants.{Rising, Falling, Mixed}
 use Rattle.program.proofs.Conditions.{some-below, below-some}
 use Rattle.program.proofs.Promises.{Promises}
-use Rattle.meaning.specs.Founded.{Valuation, Below, Model, Least}
-use Rattle.meaning.specs.Reduct.{placed, kept, system}
+use Rattle.meaning.specs.Founded.{Below, Model, Least}
+use Rattle.meaning.specs.Reduct.{system}
 use Rattle.meaning.specs.Stable.{Meets}
 use Rattle.meaning.specs.Unfounded.{over, Unfounded, Condition, Conditions}
 use Rattle.meaning.proofs.Tests.{cases, is-true, is-test, and-left}
@@ -30,6 +30,7 @@ use Rattle.report.specs.Report.{Entry, bytesIn, asksMost, asksLeast, askedBy, a
 use Rattle.report.proofs.Entries.{bytes-length}
 use Rattle.verdict.specs.Demands.{variableAt, markAt, numberAt, isShown, shownBound, Met, ConditionsMet, Shows}
 use Rattle.verdict.proofs.Listed.{entryIn, Listed, left-is, right-is, both-length, once-by-key, bounds-every, bounds-listed, bounds-sorted, conditions-every, most-listed, least-listed, conditions-sorted, variable-at, mark-at, number-at}
+use Rattle.program.specs.Readings.{Valuation, bodyVariable, kept}
 
 -- ---- tests
 
@@ -220,34 +221,34 @@ module _ {P : Program} (promised : Promises P) {θ m : Valuation} (meets : Meets
 
     -- a place of a rule that heads into the set asks
     asked-at : (asks : Direction → Bool → Bool) (i j : ℕ) → i < length (P .rules) → j < length (ruleIn (P .rules) i .terms) → T (shown P θ m (ruleIn (P .rules) i .head))
-        → asks (direction (P .variables) (ruleIn (P .rules) i) j) (kept P (ruleIn (P .rules) i) j && shown P θ m (placed (ruleIn (P .rules) i) j)) ≡ true
-        → asked P (shown P θ m) asks (placed (ruleIn (P .rules) i) j) ≡ true
+        → asks (direction (P .variables) (ruleIn (P .rules) i) j) (kept (P .variables) (ruleIn (P .rules) i) j && shown P θ m (bodyVariable (ruleIn (P .rules) i) j)) ≡ true
+        → asked P (shown P θ m) asks (bodyVariable (ruleIn (P .rules) i) j) ≡ true
     unfolding asked askedBy
     asked-at asks i j h l t q =
         below-some (length (P .rules)) (λ i. shown P θ m (ruleIn (P .rules) i .head) && askedBy P (shown P θ m) asks (ruleIn (P .rules) i) x) i h
         (and-true (shown P θ m (ruleIn (P .rules) i .head)) (askedBy P (shown P θ m) asks (ruleIn (P .rules) i) x) (is-true (shown P θ m (ruleIn (P .rules) i .head)) t)
-        (below-some (length (ruleIn (P .rules) i .terms)) (λ j. at j && eqb (placed (ruleIn (P .rules) i) j) x) j l (and-true (at j) (eqb x x) q (eq-eqb x x refl))))
+        (below-some (length (ruleIn (P .rules) i .terms)) (λ j. at j && eqb (bodyVariable (ruleIn (P .rules) i) j) x) j l (and-true (at j) (eqb x x) q (eq-eqb x x refl))))
       where
         x : ℕ
-        x = placed (ruleIn (P .rules) i) j
+        x = bodyVariable (ruleIn (P .rules) i) j
 
         at : ℕ → Bool
-        at j = asks (direction (P .variables) (ruleIn (P .rules) i) j) (kept P (ruleIn (P .rules) i) j && shown P θ m (placed (ruleIn (P .rules) i) j))
+        at j = asks (direction (P .variables) (ruleIn (P .rules) i) j) (kept (P .variables) (ruleIn (P .rules) i) j && shown P θ m (bodyVariable (ruleIn (P .rules) i) j))
 
     conditions-meet : Conditions (system P) θ (shown P θ m) θ′
     conditions-meet i h t x d (j, l, e, q) = subst (λ y. Condition (system P) θ (shown P θ m) θ′ y d) e (go d q)
       where
         y : ℕ
-        y = placed (ruleIn (P .rules) i) j
+        y = bodyVariable (ruleIn (P .rules) i) j
 
         declared : y < length (P .variables)
         declared = promised .rules i h .body .terms j l .declared
 
         c : Bool
-        c = kept P (ruleIn (P .rules) i) j && shown P θ m y
+        c = kept (P .variables) (ruleIn (P .rules) i) j && shown P θ m y
 
         go : (d : Direction) → direction (P .variables) (ruleIn (P .rules) i) j ≡ d → Condition (system P) θ (shown P θ m) θ′ y d
-        go Rising q = λ u. most-met y declared (asked-at asksMost i j h l t (ap (λ w. asksMost w c) q ∙ not-kept (kept P (ruleIn (P .rules) i) j) (shown P θ m y) u))
+        go Rising q = λ u. most-met y declared (asked-at asksMost i j h l t (ap (λ w. asksMost w c) q ∙ not-kept (kept (P .variables) (ruleIn (P .rules) i) j) (shown P θ m y) u))
         go Falling q = least-met y declared (asked-at asksLeast i j h l t (ap (λ w. asksLeast w c) q))
         go Mixed q = (
           most-met y declared (asked-at asksMost i j h l t (ap (λ w. asksMost w c) q)),

@@ -14,8 +14,8 @@ use Rattle.program.specs.Evaluate.{satisfied}
 use Rattle.program.specs.declared.Given.{Given}
 use Rattle.program.specs.declared.Given.the-variants.{Nothing, Value}
 use Rattle.program.proofs.Promises.{Promises, accepts-promises}
-use Rattle.meaning.specs.Founded.{Valuation, Reaches, Within, Least}
-use Rattle.meaning.specs.Reduct.{gives, system}
+use Rattle.meaning.specs.Founded.{Reaches, Within, Least}
+use Rattle.meaning.specs.Reduct.{system}
 use Rattle.meaning.specs.Stable.{assigned, RuleMet, ConstraintMet, Meets}
 use Rattle.meaning.specs.Calls.{checkBytes, Called}
 use Rattle.meaning.specs.LeastCall.{FirstOutside, AllInside}
@@ -27,6 +27,7 @@ use Rattle.meaning.proofs.Search.{Solvable, solvable}
 use Rattle.meaning.proofs.Total.{ranged, Begun, begun}
 use Rattle.report.specs.Report.{shown}
 use Rattle.verdict.specs.Checks.{Answer, FirstUnmet, Judged, outside, rule-unmet, constraint-unmet, not-founded, founded, Checks, turned-down, judged}
+use Rattle.program.specs.Readings.{Valuation, gives}
 
 -- an answer, what the report then holds, and that they are the call's
 abbrev pub Answers : List ℕ → List ℕ → List ℕ → Type 0
@@ -87,7 +88,7 @@ module _ {P : Program} (promised : Promises P) (θ : Valuation) (b : List ℕ) w
   verdict : (AllInside P θ → Within (system P) θ) → ((v : ℕ) × FirstOutside P θ v) ⊎ AllInside P θ → Verdict
   verdict w (inl f) = (_, _, outside (f .1))
   verdict w (inr i) =
-      ruled (w i) (first-unmet (RuleMet P θ) (λ j. reached P (ruleIn (P .rules) j .head) (gives P (ruleIn (P .rules) j) θ θ) (θ (ruleIn (P .rules) j .head))) (length (P .rules)))
+      ruled (w i) (first-unmet (RuleMet P θ) (λ j. reached P (ruleIn (P .rules) j .head) (gives (P .variables) (ruleIn (P .rules) j) θ θ) (θ (ruleIn (P .rules) j .head))) (length (P .rules)))
 
 pub checks-total : (s a b : List ℕ) → Answers s a b
 checks-total s a b = go (begun checkBytes s a b)

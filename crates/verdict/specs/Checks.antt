@@ -4,13 +4,14 @@ use mathlib.Core.List.{List}
 use lib.Dec.{T}
 use lib.ListN.{length}
 use Rattle.program.specs.Program.{Program}
-use Rattle.meaning.specs.Founded.{Valuation, Within, Least}
+use Rattle.meaning.specs.Founded.{Within, Least}
 use Rattle.meaning.specs.Reduct.{system}
 use Rattle.meaning.specs.Stable.{assigned, RuleMet, ConstraintMet, Meets, Stable}
 use Rattle.meaning.specs.Calls.{checkBytes, Refuses, Called, denialNumber, denialPlace}
 use Rattle.meaning.specs.LeastCall.{FirstOutside}
 use Rattle.report.specs.Report.{shown, bounds, conditions, reported}
 use Rattle.verdict.specs.declared.Verdict.{Verdict}
+use Rattle.program.specs.Readings.{Valuation}
 use Rattle.verdict.specs.declared.Verdict.the-variants as verdict
 
 -- an answer of the call check, with document 01's words: "a refusal, or a verdict with what belongs to it"

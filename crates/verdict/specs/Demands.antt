@@ -13,12 +13,13 @@ use Rattle.format.specs.Numbers.{signedAt}
 use Rattle.program.specs.Tables.{_⇒_, select, anyBelow}
 use Rattle.program.specs.Program.{Program}
 use Rattle.program.specs.Reading.{Accepts}
-use Rattle.meaning.specs.Founded.{Valuation, Below}
+use Rattle.meaning.specs.Founded.{Below}
 use Rattle.meaning.specs.Reduct.{system}
 use Rattle.meaning.specs.Stable.{assigned, Meets, Stable}
 use Rattle.meaning.specs.Calls.{checkBytes, Refuses}
 use Rattle.meaning.specs.Unfounded.{Unfounded}
 use Rattle.verdict.specs.Checks.{Answer, refusal, unfounded, stable}
+use Rattle.program.specs.Readings.{Valuation}
 
 -- ---- what is shown, read off the report's bytes
 

@@ -1,10 +1,10 @@
 use Rattle.meaning.specs.Stable.{ConstraintMet}
-use Rattle.meaning.specs.Values.{valued}
 use Rattle.verdict.specs.Checks.{constraint-unmet}
 use Rattle.checker.proofs.CheckLaws.{small-in}
 use Rattle.checker.proofs.MetLaws.{unmet-at, unmet-none}
 use borrow.Author.Needs.{needs}
 use Rattle.checker.proofs.call.constrained.Statement.{statement}
+use Rattle.program.specs.Readings.{valued}
 use Rattle.checker.proofs.call.constrained.Tie as tie
 
 first-unmet-constraint-requires : tie.Need-first-unmet-constraint-requires

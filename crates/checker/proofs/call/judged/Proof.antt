@@ -3,7 +3,6 @@ use mathlib.Core.Path.{refl, subst}
 use Rattle.format.specs.Limits.{maxVariables}
 use Rattle.program.specs.Program.{variablesAt}
 use Rattle.validity.proofs.RuleLaws.{variables-few, variables-inside}
-use Rattle.meaning.specs.Values.{valued}
 use Rattle.reduct.specs.Filling.{OutsideIs}
 use Rattle.reduct.specs.declared.values.Outside.{Outside}
 use Rattle.reader.proofs.Accepted.{counted}
@@ -12,6 +11,7 @@ use Rattle.reduct.proofs.Fills.{zeros, loaded-whole}
 use Rattle.checker.proofs.CheckLaws.{out-of-range, all-within, checked}
 use borrow.Author.Needs.{needs}
 use Rattle.checker.proofs.call.judged.Statement.{statement}
+use Rattle.program.specs.Readings.{valued}
 use Rattle.checker.proofs.call.judged.Tie as tie
 
 load-requires : tie.Need-load-requires

@@ -1,7 +1,6 @@
 use mathlib.Core.Path.{refl}
 use Rattle.words.proofs.Bits.{none-in}
 use Rattle.meaning.specs.Stable.{RuleMet}
-use Rattle.meaning.specs.Values.{valued}
 use Rattle.tables.specs.Tabled.{readersWords}
 use Rattle.reader.proofs.Accepted.{counted}
 use Rattle.tables.proofs.LaidLaws.{laid, placed-in}
@@ -10,6 +9,7 @@ use Rattle.checker.proofs.CheckLaws.{small-in}
 use Rattle.checker.proofs.MetLaws.{unmet-at, unmet-none}
 use borrow.Author.Needs.{needs}
 use Rattle.checker.proofs.call.ruled.Statement.{statement}
+use Rattle.program.specs.Readings.{valued}
 use Rattle.checker.proofs.call.ruled.Tie as tie
 
 fill-tables-requires : tie.Need-fill-tables-requires

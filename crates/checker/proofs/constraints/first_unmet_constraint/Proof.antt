@@ -6,12 +6,12 @@ use Rattle.program.specs.Fields.{place}
 use Rattle.program.specs.Program.{Program}
 use Rattle.program.specs.Reading.{Accepts}
 use Rattle.meaning.specs.Stable.{ConstraintMet}
-use Rattle.meaning.specs.Values.{valued}
 use Rattle.run.proofs.RunLaws.{part-value}
 use Rattle.checker.proofs.MetLaws.{next-place, lies, constraint-unmet-at, constraint-met-at, constraints-met}
 use borrow.Author.Tests.{not-true, not-false}
 use borrow.Author.Needs.{needs}
 use Rattle.checker.proofs.constraints.first_unmet_constraint.Statement.{statement}
+use Rattle.program.specs.Readings.{valued}
 use Rattle.checker.proofs.constraints.first_unmet_constraint.Tie as tie
 
 -- constraint i stands at `at`, given where the first one does

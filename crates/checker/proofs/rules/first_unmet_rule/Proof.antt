@@ -3,11 +3,11 @@ use native.Mathlib.Omega.{arith}
 use Rattle.program.specs.Program.{Program}
 use Rattle.tables.specs.Laid.{Placed}
 use Rattle.meaning.specs.Stable.{RuleMet}
-use Rattle.meaning.specs.Values.{valued}
 use Rattle.run.proofs.StepLaws.{demands-more, demands-enough}
 use Rattle.checker.proofs.MetLaws.{laid-rules, laid-stands, rule-unmet-at, rule-met-at, rules-met}
 use borrow.Author.Needs.{needs}
 use Rattle.checker.proofs.rules.first_unmet_rule.Statement.{statement}
+use Rattle.program.specs.Readings.{valued}
 use Rattle.checker.proofs.rules.first_unmet_rule.Tie as tie
 
 abbrev Inv-loop : tie.InvT-loop

@@ -1,11 +1,11 @@
 use Rattle.format.specs.Limits.{maxVariables}
 use Rattle.words.specs.Bit.{has}
-use Rattle.meaning.specs.Values.{valued}
 use Rattle.report.specs.Report.{ascending, boundsOf, conditionsOf}
 use Rattle.report.proofs.Entries.{bounds-count, conditions-count}
 use Rattle.comparison.proofs.ReportLaws.{report-bytes}
 use borrow.Author.Needs.{needs}
 use Rattle.comparison.proofs.reporting.write_report.Statement.{statement}
+use Rattle.program.specs.Readings.{valued}
 use Rattle.comparison.proofs.reporting.write_report.Tie as tie
 
 count-requires : tie.Need-count-requires

@@ -10,11 +10,11 @@ use lib.IntN.{pos}
 use lib.ListN.{getD}
 use Rattle.program.specs.Program.{variablesAt}
 use Rattle.words.specs.Bit.{has}
-use Rattle.meaning.specs.Values.{valued}
 use Rattle.conditions.specs.Shortfall.{shortIn}
 use Rattle.conditions.proofs.MemberLaws.{below-none, below-one}
 use Rattle.conditions.proofs.ShortLaws.{short-variable, short-all}
 use Rattle.conditions.proofs.short.short_set.Statement.{statement}
+use Rattle.program.specs.Readings.{valued}
 use Rattle.conditions.proofs.short.short_set.Tie as tie
 
 abbrev Inv-loop : tie.InvT-loop

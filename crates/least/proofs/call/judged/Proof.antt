@@ -5,13 +5,13 @@ use Rattle.reader.proofs.Accepted.{counted}
 use Rattle.reduct.proofs.AssignedLaws.{one-valuation, right-range}
 use Rattle.least.proofs.CallLaws.{wrong-range}
 use Rattle.reduct.proofs.Fills.{zeros, loaded-whole}
-use Rattle.meaning.specs.Values.{valued}
 use Rattle.reduct.specs.Filling.{OutsideIs}
 use Rattle.format.specs.Limits.{maxVariables}
 use Rattle.reduct.specs.declared.values.Outside.{Outside}
 use Rattle.program.specs.Program.{variablesAt}
 use borrow.Author.Needs.{needs}
 use Rattle.least.proofs.call.judged.Statement.{statement}
+use Rattle.program.specs.Readings.{valued}
 use Rattle.least.proofs.call.judged.Tie as tie
 
 load-requires : tie.Need-load-requires

@@ -7,11 +7,11 @@ use Rattle.least.proofs.CallLaws.{model-small, a-model, a-none}
 use Rattle.reduct.proofs.Fills.{zeros}
 use Rattle.run.specs.Running.{EndsWith}
 use Rattle.tables.specs.Tabled.{readersWords}
-use Rattle.meaning.specs.Values.{valued}
 use Rattle.format.specs.Limits.{maxVariables}
 use Rattle.run.specs.declared.Ending.{Ending}
 use borrow.Author.Needs.{needs}
 use Rattle.least.proofs.call.solved.Statement.{statement}
+use Rattle.program.specs.Readings.{valued}
 use Rattle.least.proofs.call.solved.Tie as tie
 
 fill-tables-requires : tie.Need-fill-tables-requires

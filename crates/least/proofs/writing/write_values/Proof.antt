@@ -9,9 +9,9 @@ use lib.IntN.{ℤ, pos, natAbs}
 use lib.ListN.{length, getD, set, drop, length-set}
 use lib.Seq.{lt-length-set}
 use Rattle.meaning.specs.LeastCall.{written}
-use Rattle.meaning.specs.Values.{valued}
 use Rattle.least.proofs.WritingLaws.{written-none, written-more, written-done}
 use Rattle.least.proofs.writing.write_values.Statement.{statement}
+use Rattle.program.specs.Readings.{valued}
 use Rattle.least.proofs.writing.write_values.Tie as tie
 
 abbrev Inv-loop : tie.InvT-loop

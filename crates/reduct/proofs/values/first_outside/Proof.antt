@@ -8,16 +8,16 @@ use mathlib.Core.Bool.{true}
 use lib.IntN.{pos}
 use lib.ListN.{getD}
 use Rattle.program.specs.Program.{variableIn, variablesAt}
-use Rattle.meaning.specs.LeastCall.{inRange}
-use Rattle.meaning.specs.Values.{valued}
 use borrow.Author.Count.{below-more}
 use borrow.Author.Tests.{not-true, not-false}
 use Rattle.reduct.proofs.Ranges.{inside-variable}
 use Rattle.reduct.proofs.values.first_outside.Statement.{statement}
+use Rattle.program.specs.Variables.{inRange}
+use Rattle.program.specs.Readings.{valued}
 use Rattle.reduct.proofs.values.first_outside.Tie as tie
 
 abbrev Inv-loop : tie.InvT-loop
-Inv-loop file variables values v₀ v = (v ≤ variables) × ((u : ℕ) → u < v → inRange (variableIn (variablesAt file variables) u) (valued values) u ≡ true)
+Inv-loop file variables values v₀ v = (v ≤ variables) × ((u : ℕ) → u < v → inRange (variableIn (variablesAt file variables) u) ((valued values) u) ≡ true)
 
 abbrev μ-loop : tie.MeasureT-loop
 μ-loop file variables values v₀ v = variables - v

@@ -8,11 +8,11 @@ use lib.IntN.{pos}
 use lib.ListN.{length, getD, length-set}
 use Rattle.format.specs.Limits.{maxVariables}
 use Rattle.program.specs.Program.{variablesAt}
-use Rattle.meaning.specs.Values.{valued}
 use Rattle.reduct.specs.Filling.{starting, Filled}
 use Rattle.reduct.proofs.Fills.{filled-none, filled-more, filled-done}
 use Rattle.reduct.proofs.Ranges.{start-variable}
 use Rattle.reduct.proofs.values.start_values.Statement.{statement}
+use Rattle.program.specs.Readings.{valued}
 use Rattle.reduct.proofs.values.start_values.Tie as tie
 
 abbrev Inv-loop : tie.InvT-loop

@@ -3,11 +3,11 @@ use native.Mathlib.Omega.{arith}
 use lib.ListN.{length}
 use Rattle.format.specs.Limits.{maxVariables}
 use Rattle.words.specs.Bit.{has}
-use Rattle.meaning.specs.Values.{valued}
 use Rattle.report.proofs.Entries.{bounds-count}
 use Rattle.report.proofs.WritingLaws.{marked-bounds, bounds-begun}
 use borrow.Author.Needs.{needs}
 use Rattle.report.proofs.writing.write_bounds.Statement.{statement}
+use Rattle.program.specs.Readings.{valued}
 use Rattle.report.proofs.writing.write_bounds.Tie as tie
 
 empty-requires : tie.Need-empty-requires

@@ -1,10 +1,10 @@
 use native.Mathlib.Omega.{arith}
 use Rattle.words.specs.Bit.{has}
-use Rattle.meaning.specs.Values.{valued}
 use Rattle.report.proofs.Entries.{marked-count}
 use Rattle.report.proofs.WritingLaws.{conditions-begun}
 use borrow.Author.Needs.{needs}
 use Rattle.report.proofs.writing.write_conditions.Statement.{statement}
+use Rattle.program.specs.Readings.{valued}
 use Rattle.report.proofs.writing.write_conditions.Tie as tie
 
 write-marked-requires : tie.Need-write-marked-requires

@@ -6,12 +6,12 @@ use borrow.Author.Needs.{needs}
 use lib.ListN.{length}
 use Rattle.format.specs.Limits.{maxVariables}
 use Rattle.words.specs.Bit.{has, NoneIn, LeastFrom}
-use Rattle.meaning.specs.Values.{valued}
 use Rattle.words.proofs.Nexts.{next-at, next-none}
 use Rattle.report.specs.Report.{Entry, ascending}
 use Rattle.report.specs.Written.{markedOf, Wrote}
 use Rattle.report.proofs.WritingLaws.{wrote-start, wrote-room, wrote-next, wrote-end, neither}
 use Rattle.report.proofs.writing.write_marked.Statement.{statement}
+use Rattle.program.specs.Readings.{valued}
 use Rattle.report.proofs.writing.write_marked.Tie as tie
 
 abbrev Inv-loop : tie.InvT-loop

@@ -5,10 +5,10 @@ use lib.ListN.{getD}
 use mir.Syntax.{w64}
 use mir.Val.{toZ, ofZ}
 use Rattle.words.specs.Bit.{has}
-use Rattle.meaning.specs.Values.{valued}
 use Rattle.report.proofs.WritingLaws.{first-room, second-room, wrote-variable}
 use borrow.Author.Needs.{needs}
 use Rattle.report.proofs.writing.write_variable.Statement.{statement}
+use Rattle.program.specs.Readings.{valued}
 use Rattle.report.proofs.writing.write_variable.Tie as tie
 
 -- the value that is read

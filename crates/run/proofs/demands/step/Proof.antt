@@ -6,12 +6,12 @@ use Rattle.format.specs.Limits.{maxRules}
 use Rattle.words.specs.Bit.{has, sizeBelow}
 use Rattle.program.specs.Program.{Program}
 use Rattle.run.specs.Running.{MetOutside, Inside}
-use Rattle.meaning.specs.Values.{valued}
 use Rattle.tables.specs.Laid.{Placed}
 use Rattle.tables.specs.Tabled.{rowWords}
 use Rattle.run.proofs.StepLaws.{takes-at, takes-none, demands-more, demands-enough, none-waiting, taken-inside, taken-less, taken-met, taken-raise, taken-stands, taken-rule}
 use borrow.Author.Needs.{needs}
 use Rattle.run.proofs.demands.step.Statement.{statement}
+use Rattle.program.specs.Readings.{valued}
 use Rattle.run.proofs.demands.step.Tie as tie
 
 abbrev Inv-loop : tie.InvT-loop

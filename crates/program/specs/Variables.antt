@@ -1,0 +1,42 @@
+-- Document 01, "The rule file" and "Reduct and least model": what a variable's record says of its values. A founded variable is lifted from
+-- its starting end towards its far end; of two values, the one nearer to the starting end comes first in the variable's order.
+use Prim.Native.Nat.{ℕ}
+use mathlib.Core.Bool.{Bool, true, not, cond, _&&_}
+use lib.Dec.{eqb}
+use lib.IntN.{ℤ}
+use lib.Signed.{leZ}
+use Rattle.program.specs.Program.{Variable}
+use Rattle.program.specs.declared.Given.{Given}
+use Rattle.program.specs.declared.Given.the-variants.{Nothing, Value}
+
+-- "0 standard, 1 founded"
+abbrev pub founded : Variable → Bool
+founded x = eqb (x .kind) 1
+
+-- the starting end and the far end of its range
+abbrev pub start : Variable → ℤ
+start x = x .low
+
+abbrev pub far : Variable → ℤ
+far x = x .high
+
+-- a is at or before b in the variable's order
+abbrev pub notPast : Variable → ℤ → ℤ → Bool
+notPast x a b = leZ a b
+
+-- a value lies in the variable's range
+abbrev pub inRange : Variable → ℤ → Bool
+inRange x a = leZ (x .low) a && leZ a (x .high)
+
+-- "A rule is met when it gives no more than its head has; one that gives nothing never gives more.": x is the head, and has b
+abbrev pub noMore : Variable → Given → ℤ → Bool
+noMore x Nothing b = true
+noMore x (Value a) b = notPast x a b
+
+-- where the least model's values begin: founded variables at their starting ends, standard ones as assigned
+abbrev pub started : Variable → ℤ → ℤ
+started x a = cond (founded x) (start x) a
+
+-- a founded variable, assigned a, is short of it at m
+abbrev pub short : Variable → ℤ → ℤ → Bool
+short x a m = founded x && not (notPast x a m)
