@@ -1,4 +1,4 @@
-// Prints an answer's word and numbers, and what a call wrote.
+// Prints an answer's word and numbers, the text of the printing program, and the numbers of wrong lines.
 use libc::STDOUT_FILENO;
 use packing::Parts;
 use packing::Word;
@@ -40,47 +40,32 @@ pub fn tell(answer: Parts) {
     }
 }
 
-// The variable and the mark of a report's entry.
-fn marked(v: usize, mark: u8) {
-    match mark {
-        0 => say(b", most", v),
-        1 => {
-            say(b", when", v);
-            text(b" <=");
-        }
-        2 => {
-            say(b", when", v);
-            text(b" >=");
-        }
-        _ => say(b", no such mark", v),
-    }
-}
-
-// A number of two bytes in two's complement.
-fn number(n: usize) {
-    if n < 32768 {
-        say(b"", n);
-    } else {
-        text(b" -");
-        io::print_decimal(STDOUT_FILENO, ((65536 - n % 65536) % 65536) as u64);
-    }
-}
-
-// A report's entries, of two pairs of bytes each, or values of one pair each.
-pub fn written(is_report: bool, bytes: &[u8]) {
-    for i in 0..bytes.len() / 2 {
-        let x = bytes[2 * i];
-        let y = bytes[2 * i + 1];
-        if is_report & (i % 2 == 0) {
-            marked(format::wide(x), y);
-        } else {
-            number(format::joined(x, y));
-        }
-    }
-}
-
-// A line that is written wrongly.
-pub fn bad_line(number: usize) {
-    say(b"bad line", number);
+// A name, an answer and the line's end.
+pub fn tell_line(name: &[u8], answer: Parts) {
+    text(name);
+    tell(answer);
     text(b"\n");
+}
+
+// The name of an input, and the text of n bytes for it; of a text that is longer than the output its length and what the output holds.
+pub fn printed(name: &[u8], output: &[u8], n: usize) {
+    text(b"print of ");
+    text(name);
+    if n <= output.len() {
+        text(b":\n");
+        text(&output[0..n]);
+    } else {
+        say(b":", n);
+        text(b" ");
+        text(output);
+        text(b"\n");
+    }
+}
+
+// The number of a line, unless it is written as it must be.
+pub fn note_line(is_fine: bool, number: usize) {
+    if !is_fine {
+        say(b"bad line", number);
+        text(b"\n");
+    }
 }

@@ -1,9 +1,10 @@
+-- Below half of the length both bytes of a pair are places of the slice.
 use mathlib.Core.Path.{_≡_}
 use Prim.Native.Nat.{_-_, _/_}
 use lib.ListN.{length}
 use borrow.Author.Needs.{needs}
-use Rattle.telling.proofs.written.Statement.{statement}
-use Rattle.telling.proofs.written.Tie as tie
+use Rattle.guarding.proofs.written.Statement.{statement}
+use Rattle.guarding.proofs.written.Tie as tie
 
 abbrev Inv-loop : tie.InvT-loop
 Inv-loop is-report bytes i₀ i-end i = i-end ≡ length bytes / 2

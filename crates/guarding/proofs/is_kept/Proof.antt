@@ -1,9 +1,10 @@
+-- A store keeps the room's length, so each index below it is a place of the room.
 use mathlib.Core.Path.{_≡_}
 use Prim.Native.Nat.{_-_}
 use lib.ListN.{length}
 use borrow.Author.Needs.{needs}
-use Rattle.lending.proofs.is_kept.Statement.{statement}
-use Rattle.lending.proofs.is_kept.Tie as tie
+use Rattle.guarding.proofs.is_kept.Statement.{statement}
+use Rattle.guarding.proofs.is_kept.Tie as tie
 
 abbrev Inv-loop : tie.InvT-loop
 Inv-loop room₀ start end i₀ i-end room i = (length room ≡ length room₀) × (i-end ≡ length room₀)
