@@ -10,8 +10,10 @@ fail() {
 }
 
 command -v cargo >/dev/null || fail "cargo is missing"
-rt staticlib founded || fail "no archive"
-[ -x target/bin/print_verdict ] || rt check print_verdict >/dev/null || fail "no printing program"
+bash tests/archive.sh || fail "no archive"
+# rt check passes over a program that was proved before, also where it has been deleted since.
+rt check print_verdict >&2 || fail "the printing program is not proved"
+[ -x target/bin/print_verdict ] || fail "target/bin/print_verdict was deleted: delete target/stamp too"
 export CARGO_TARGET_DIR="$PWD/target/cargo"
 for package in second compare; do
     cargo build --quiet --release --manifest-path "tests/$package/Cargo.toml" || fail "$package does not compile"

@@ -13,7 +13,7 @@ for tool in gcc g++ nm; do
 done
 [ "$(uname -m)" = x86_64 ] || fail "the archive links into x86-64 programs only"
 
-rt staticlib founded || fail "no archive"
+bash tests/archive.sh || fail "no archive"
 archive=target/staticlib/libfounded.a
 out=target/c
 mkdir -p "$out"

@@ -8,6 +8,7 @@ for tool in gringo clasp; do
     fi
 done
 cd "$(dirname "$0")" || exit 1
+bash ../archive.sh || exit 1
 export CARGO_TARGET_DIR="$PWD/../../target/cargo"
 cargo build --release --quiet --offline || exit 1
 ../../target/cargo/release/solver "$@" || exit 1
