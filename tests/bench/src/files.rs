@@ -121,6 +121,14 @@ pub fn followers(name: &str, n: usize, reverse: bool) -> Plan {
     b.plan(name)
 }
 
+/// Followers in reverse order, and the one that gains follows the last: one circle, in which every lap lifts each by one.
+pub fn led(name: &str, n: usize) -> Plan {
+    let Plan { file, assignment, .. } = followers(name, n, true);
+    let mut b = Builder { file, values: assignment };
+    b.rule(1, 0, 0, &[(n - 1, 0, 1)]);
+    b.plan(name)
+}
+
 /// Each holds the next, and nothing holds any.
 pub fn ring(name: &str, n: usize) -> Plan {
     let mut b = Builder::new();
@@ -130,5 +138,99 @@ pub fn ring(name: &str, n: usize) -> Plan {
     for v in 0..n {
         b.rule(6, v, 1, &[((v + n - 1) % n, 1, 1)]);
     }
+    b.plan(name)
+}
+
+/// A stable plan with every form of rule: each founded variable is held at its value by those before it, and other rules give as much or less.
+pub fn roster(name: &str, variables: usize, rules: usize, constraints: usize, terms: usize) -> Plan {
+    let mut s = Seed(0xD1B5_4A32_D192_ED03 ^ variables as u64);
+    let mut b = Builder::new();
+    let fixed = variables / 4;
+    let value: Vec<i64> = (0..variables).map(|_| s.next(100) as i64).collect();
+    for v in 0..variables {
+        b.variable((v >= fixed) as u8, 0, 2_000, value[v]);
+    }
+    for i in 0..rules {
+        let head = fixed + i % (variables - fixed);
+        let first = i < variables - fixed;
+        let form = 1 + s.next(7) as u8;
+        let most = match form {
+            4 => 2,
+            5 => 1,
+            _ => terms,
+        };
+        let mut names: Vec<usize> = Vec::new();
+        while names.len() < most {
+            let x = s.next(if first { head } else { variables });
+            if !names.contains(&x) {
+                names.push(x);
+            }
+        }
+        let literal = |x: usize| (x, 1 + (x % 2) as u8, value[x] + (x % 2) as i64);
+        let plain = |x: usize| (x, 0, 0);
+        let body: Vec<(usize, u8, i64)> = match form {
+            1 => names.iter().map(|&x| (x, 0, [-2, -1, 1, 2, 3][s.next(5)])).collect(),
+            6 => names.iter().map(|&x| literal(x)).collect(),
+            7 => names.iter().enumerate().map(|(i, &x)| if i == 0 { plain(x) } else { literal(x) }).collect(),
+            _ => names.iter().map(|&x| plain(x)).collect(),
+        };
+        let values = names.iter().map(|&x| value[x]);
+        let without_c: i64 = match form {
+            1 => body.iter().map(|t| t.2 * value[t.0]).sum(),
+            2 => values.max().unwrap_or(0),
+            3 => values.min().unwrap_or(0),
+            4 => values.product(),
+            5 | 7 => value[names[0]],
+            _ => 0,
+        };
+        let spare = if first { 0 } else { s.next(4) as i64 };
+        b.rule(form, head, value[head] - without_c - spare, &body);
+    }
+    for i in 0..constraints {
+        let x = s.next(variables);
+        match i % 2 {
+            0 => b.constraint(1, -value[x], &[(x, 0, 1)]),
+            _ => b.constraint(2, 0, &[(x, 1, value[x])]),
+        }
+    }
+    b.plan(name)
+}
+
+/// The upper and the lower half are dense circles, and rules of the upper one have mixed places of the lower one. With `closed` the last rule has
+/// one of its own circle, so that the file is refused there.
+pub fn mixed(name: &str, closed: bool) -> Plan {
+    let mut s = Seed(0xA076_1D64_78BD_642F);
+    let mut b = Builder::new();
+    let (half, n) = (128, 256);
+    for _ in 0..n {
+        b.variable(1, -10, 10, -10);
+    }
+    for v in 0..n {
+        let from = if v < half { 0 } else { half };
+        let mut body: Vec<(usize, u8, i64)> = vec![(from + (v + 1) % half, 0, 1)];
+        while body.len() < 16 {
+            let x = if v < half { s.next(half) } else { s.next(n) };
+            if body.iter().all(|t| t.0 != x) {
+                body.push((x, 0, 1));
+            }
+        }
+        b.rule(1, v, -1_000, &body);
+    }
+    for i in 0..1_024 {
+        b.rule(5, half + i % half, -1_000, &[(s.next(half), 0, 0)]);
+    }
+    if closed {
+        b.rule(5, n - 1, -1_000, &[(half, 0, 0)]);
+    }
+    b.plan(name)
+}
+
+/// Document 01's row 13: a is at least |b|, b at least 2a - 6.
+pub fn row_13(name: &str) -> Plan {
+    let mut b = Builder::new();
+    b.variable(1, -10, 10, 0);
+    b.variable(1, -10, 10, 0);
+    b.rule(5, 0, 0, &[(1, 0, 0)]);
+    b.rule(1, 1, -6, &[(0, 0, 2)]);
     b.plan(name)
 }

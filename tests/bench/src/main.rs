@@ -1,9 +1,15 @@
-//! How long the proved calls take: (a) as a ratio to a plain Rust program of the same algorithm, (b) as a ratio to naive iteration (the second
-//! checker), in the same run. Rows of one kind double in size, so that the table shows how the time grows.
+//! How long the proved calls take, beside (1) Rust written for speed alone, (2) a port of the proved code, statement by statement, and (3) naive
+//! iteration, the second checker. Rows of one kind double in size, so that the table shows how the time grows. Before anything is timed, the first
+//! two are held to the proved calls: every answer, and every byte of the lent buffer and around it, on the rows and on seeded inputs.
+//!
+//! bench: the table. bench hold [seeded inputs] [first seed]: no table.
+mod fast;
 mod files;
-mod plain;
+mod port;
 
-use files::{circle, desk, followers, ring, Plan, Seed};
+use files::{circle, desk, followers, led, mixed, ring, roster, row_13, Plan, Seed};
+use std::hint::black_box;
+use std::process::exit;
 use std::time::{Duration, Instant};
 
 extern "C" {
@@ -12,101 +18,180 @@ extern "C" {
     fn founded_check(file: *const u8, length: usize, a: *const u8, n: usize, report: *mut u8, room: usize) -> u64;
 }
 
-fn proved_read(p: &Plan, _: &mut [u8]) -> u64 {
-    unsafe { founded_read(p.file.as_ptr(), p.file.len()) }
+/// File, assignment and lent buffer; the answer is packed.
+type Call = fn(&[u8], &[u8], &mut [u8]) -> u64;
+
+fn proved_read(file: &[u8], _: &[u8], _: &mut [u8]) -> u64 {
+    unsafe { founded_read(file.as_ptr(), file.len()) }
 }
 
-fn proved_least(p: &Plan, b: &mut [u8]) -> u64 {
-    unsafe { founded_least(p.file.as_ptr(), p.file.len(), p.assignment.as_ptr(), p.assignment.len(), b.as_mut_ptr(), b.len()) }
+fn proved_least(file: &[u8], a: &[u8], b: &mut [u8]) -> u64 {
+    unsafe { founded_least(file.as_ptr(), file.len(), a.as_ptr(), a.len(), b.as_mut_ptr(), b.len()) }
 }
 
-fn proved_check(p: &Plan, b: &mut [u8]) -> u64 {
-    unsafe { founded_check(p.file.as_ptr(), p.file.len(), p.assignment.as_ptr(), p.assignment.len(), b.as_mut_ptr(), b.len()) }
+fn proved_check(file: &[u8], a: &[u8], b: &mut [u8]) -> u64 {
+    unsafe { founded_check(file.as_ptr(), file.len(), a.as_ptr(), a.len(), b.as_mut_ptr(), b.len()) }
 }
 
-fn naive_read(p: &Plan, _: &mut [u8]) -> u64 {
-    std::hint::black_box(second::read(&p.file));
-    0
+/// One call in four programs: proved, fast, port, naive. The naive one's answer is not looked at.
+struct Row {
+    name: &'static str,
+    calls: [Call; 4],
 }
 
-fn naive_least(p: &Plan, b: &mut [u8]) -> u64 {
-    std::hint::black_box(second::least(&p.file, &p.assignment, b));
-    0
+const READ: Row = Row {
+    name: "read",
+    calls: [
+        proved_read,
+        |file, _, _| fast::read_call(file),
+        |file, _, _| port::read_call(file),
+        |file, _, _| {
+            black_box(second::read(file));
+            0
+        },
+    ],
+};
+
+const LEAST: Row = Row {
+    name: "least",
+    calls: [
+        proved_least,
+        fast::least_call,
+        port::least_call,
+        |file, a, b| {
+            black_box(second::least(file, a, b));
+            0
+        },
+    ],
+};
+
+const CHECK: Row = Row {
+    name: "check",
+    calls: [
+        proved_check,
+        fast::check_call,
+        port::check_call,
+        |file, a, b| {
+            black_box(second::check(file, a, b));
+            0
+        },
+    ],
+};
+
+/// Whether the fast and the ported calls answer what the proved ones do, on a lent buffer of this length between guards.
+fn same(file: &[u8], assignment: &[u8], room: usize) -> bool {
+    const GUARD: usize = 64;
+    [READ, LEAST, CHECK].iter().all(|row| {
+        let seen = |call: Call| {
+            let mut buffer = vec![0xA5; room + 2 * GUARD];
+            let answer = call(file, assignment, &mut buffer[GUARD..GUARD + room]);
+            (answer, buffer)
+        };
+        let want = seen(row.calls[0]);
+        seen(row.calls[1]) == want && seen(row.calls[2]) == want
+    })
 }
 
-fn naive_check(p: &Plan, b: &mut [u8]) -> u64 {
-    std::hint::black_box(second::check(&p.file, &p.assignment, b));
-    0
-}
-
-fn plain_read(p: &Plan, _: &mut [u8]) -> u64 {
-    plain::read_call(&p.file)
-}
-
-fn plain_least(p: &Plan, b: &mut [u8]) -> u64 {
-    plain::least_call(&p.file, &p.assignment, b)
-}
-
-fn plain_check(p: &Plan, b: &mut [u8]) -> u64 {
-    plain::check_call(&p.file, &p.assignment, b)
-}
-
-type Call = fn(&Plan, &mut [u8]) -> u64;
-
-/// The least of several rounds, for one call.
-fn time(call: Call, p: &Plan) -> (Duration, u64, Vec<u8>) {
-    let mut buffer = vec![0u8; 12 * plain::VARIABLES];
-    let start = Instant::now();
-    let answer = call(p, &mut buffer);
-    let once = start.elapsed();
-    let rounds = if once > Duration::from_millis(200) { 1 } else { 7 };
-    let calls = (20_000_000 / once.as_nanos().max(1)).clamp(1, 20_000) as u32;
-    let mut best = once;
-    for _ in 0..rounds {
-        let start = Instant::now();
-        for _ in 0..calls {
-            std::hint::black_box(call(std::hint::black_box(p), &mut buffer));
+fn hold(plans: &[Plan], first: u64, inputs: u64) {
+    for p in plans {
+        let n = p.assignment.len() / 2;
+        for room in [12 * n, 12 * n + 8, 12 * n - 1, 2 * n, 2 * n - 1] {
+            if !same(&p.file, &p.assignment, room) {
+                println!("answers differ: {}", p.name);
+                exit(1);
+            }
         }
-        best = best.min(start.elapsed() / calls);
     }
-    (best, answer, buffer)
+    for seed in first..first + inputs {
+        let input = second::gen::input(seed);
+        if !same(&input.file, &input.assignment, input.buffer) {
+            println!("answers differ: seed {seed}");
+            exit(1);
+        }
+    }
+    println!("The fast and the ported calls answer as the proved ones, byte for byte, on the rows and on {inputs} seeded inputs.");
+}
+
+const ROUNDS: usize = 25;
+const SLOW: usize = 3;
+
+/// The median of each call's times, and of the first one's ratios to it, over rounds in which every call has its turn.
+fn medians(calls: &[Call], p: &Plan) -> Vec<(Duration, f64)> {
+    let mut buffer = vec![0u8; 12 * port::VARIABLES];
+    let mut turn = |call: Call, times: u32| {
+        let start = Instant::now();
+        for _ in 0..times {
+            black_box(call(black_box(&p.file), black_box(&p.assignment), black_box(&mut buffer)));
+        }
+        start.elapsed() / times
+    };
+    let once: Vec<Duration> = calls.iter().map(|&call| turn(call, 1).min(turn(call, 1))).collect();
+    let slow = once.iter().any(|t| *t > Duration::from_millis(20));
+    let mut rounds = vec![Vec::new(); calls.len()];
+    for _ in 0..if slow { SLOW } else { ROUNDS } {
+        for (i, &call) in calls.iter().enumerate() {
+            let times = (1_000_000 / once[i].as_nanos().max(1)).clamp(1, 20_000) as u32;
+            rounds[i].push(turn(call, times));
+        }
+    }
+    let one = |r: &Vec<Duration>| {
+        let ratios = rounds[0].iter().zip(r).map(|(a, b)| a.as_secs_f64() / b.as_secs_f64());
+        (middle(r.clone()), middle(ratios.collect()))
+    };
+    rounds.iter().map(one).collect()
+}
+
+fn middle<T: Copy + PartialOrd>(mut all: Vec<T>) -> T {
+    all.sort_by(|a, b| a.partial_cmp(b).expect("a number"));
+    all[all.len() / 2]
 }
 
 /// One line of the table; naive iteration is left out where it would take minutes.
-fn row(p: &Plan, name: &str, [proved, plain, naive]: [Call; 3], slow: bool) -> bool {
-    let (mut a, x, b) = time(proved, p);
-    let (mut c, y, d) = time(plain, p);
-    a = a.min(time(proved, p).0);
-    c = c.min(time(plain, p).0);
-    let ratio = a.as_secs_f64() / c.as_secs_f64();
-    let to_naive = if slow { "-".to_string() } else { format!("{:.2}", a.as_secs_f64() / time(naive, p).0.as_secs_f64()) };
-    println!("{:<34} {:<6} {:>12.2?} {:>12.2?} {:>7.2} {:>9}", p.name, name, a, c, ratio, to_naive);
-    if (x, &b) != (y, &d) {
-        println!("  answers differ: {x:x} {y:x}");
-        return false;
+fn line(p: &Plan, row: &Row) {
+    let naive = row.name != "least" || !p.name.contains("reverse");
+    let times = medians(&row.calls[..if naive { 4 } else { 3 }], p);
+    let ratio = |i: usize| times.get(i).map_or("-".to_string(), |t| format!("{:.2}", t.1));
+    print!("{:<36} {:<5} {:>10}", p.name, row.name, shown(times[0].0));
+    println!(" {:>10} {:>7} {:>10} {:>7} {:>7}", shown(times[1].0), ratio(1), shown(times[2].0), ratio(2), ratio(3));
+}
+
+fn shown(t: Duration) -> String {
+    match t.as_nanos() {
+        n @ 0..=999 => format!("{n} ns"),
+        n @ 1_000..=999_999 => format!("{:.1} µs", n as f64 / 1e3),
+        n => format!("{:.1} ms", n as f64 / 1e6),
     }
-    true
 }
 
 /// One bit is flipped in the second half, so that the file is refused.
-fn damaged(p: &Plan, seed: u64) -> Plan {
+fn damaged(p: &Plan, name: &str, seed: u64) -> Plan {
     let mut s = Seed(seed);
     loop {
         let mut file = p.file.clone();
         let i = file.len() / 2 + s.next(file.len() / 2);
         file[i] ^= 1 << s.next(8);
-        if plain::read(&file).is_err() {
-            return Plan { name: format!("{}, damaged", p.name), file, assignment: p.assignment.clone() };
+        if port::read(&file).is_err() {
+            return Plan { name: name.to_string(), file, assignment: p.assignment.clone() };
         }
     }
 }
 
-fn main() {
-    println!("{:<34} {:<6} {:>12} {:>12} {:>7} {:>9}", "input", "call", "proved", "plain", "to (a)", "to (b)");
-    let small = desk("small roster, 16 variables", 16, 40, 4, 3);
-    let week = desk("week's desk, 64 variables", 64, 300, 20, 4);
-    let limit = desk("file at the limits", 256, 1_180, 512, 9);
-    let mut plans = vec![damaged(&limit, 7), damaged(&limit, 8), small, week, limit];
+fn plans() -> Vec<Plan> {
+    let limit = desk("file at the limits, literals", 256, 1_180, 512, 9);
+    let mut plans = vec![
+        row_13("mixed circle of 2, refused 13"),
+        mixed("mixed circle of 128, refused 13", true),
+        mixed("1,024 mixed places, accepted", false),
+        damaged(&limit, "file at the limits, damaged", 7),
+        damaged(&limit, "file at the limits, damaged twice", 8),
+        desk("small roster, 16 variables", 16, 40, 4, 3),
+        roster("small roster, all forms", 16, 40, 4, 3),
+        desk("week's desk, 64 variables", 64, 300, 20, 4),
+        roster("week's desk, all forms", 64, 300, 20, 4),
+        limit,
+        roster("file at the limits, all forms", 256, 1_380, 512, 9),
+        roster("2,048 rules, all forms", 256, 2_048, 512, 4),
+    ];
     for n in [64, 128, 256] {
         plans.push(ring(&format!("unfounded ring of {n}"), n));
     }
@@ -118,14 +203,26 @@ fn main() {
         plans.push(followers(&format!("followers, {n}, file order"), n, false));
         plans.push(followers(&format!("followers, {n}, reverse order"), n, true));
     }
-    let mut same = true;
-    for p in &plans {
-        let slow = p.name.contains("reverse");
-        same &= row(p, "read", [proved_read, plain_read, naive_read], false);
-        same &= row(p, "least", [proved_least, plain_least, naive_least], slow);
-        same &= row(p, "check", [proved_check, plain_check, naive_check], false);
+    plans.push(led("followers and leader in one circle", 256));
+    plans
+}
+
+fn main() {
+    let given: Vec<String> = std::env::args().skip(1).collect();
+    let amount = |i: usize, usual: u64| given.get(i).map_or(usual, |a| a.parse().expect("a number"));
+    let plans = plans();
+    hold(&plans, amount(2, 0), amount(1, 50_000));
+    if given.first().is_some_and(|word| word == "hold") {
+        return;
     }
-    if !same {
-        std::process::exit(1);
+    println!("Times and ratios (the proved call's time by the other's) are medians of {ROUNDS} rounds of one run, {SLOW} for calls over 20 ms; in a");
+    println!("round every program has its turn, about 1 ms.");
+    println!("fast: Rust for speed alone, by its own algorithms; port: the proved code in Rust, statement by statement; naive: the second checker.\n");
+    print!("{:<36} {:<5} {:>10}", "input", "call", "proved");
+    println!(" {:>10} {:>7} {:>10} {:>7} {:>7}", "fast", "/ fast", "port", "/ port", "/ naive");
+    for p in &plans {
+        for row in [READ, LEAST, CHECK] {
+            line(p, &row);
+        }
     }
 }

@@ -1,4 +1,4 @@
-//! The three calls in plain Rust: the same algorithm as the proved ones, with no proofs. It reads rules and terms from the file's bytes, keeps a set
+//! The three calls as the proved code has them, statement by statement, with no proofs. It reads rules and terms from the file's bytes, keeps a set
 //! of rules still to look at and, for each variable, the set of rules that read it at a kept place.
 
 pub const MAX_FILE: usize = 60_000;

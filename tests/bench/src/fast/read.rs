@@ -1,0 +1,339 @@
+//! Reading. A field that is in order takes the short way; one that is not ends the reading, and `why` finds its number.
+use super::graph::Graph;
+
+const BYTES: usize = 60_000;
+const VARIABLES: usize = 256;
+const RULES: usize = 2_048;
+const CONSTRAINTS: usize = 512;
+
+/// A variable's whole field, and a term: variable, op, number.
+pub type Variable = [u8; 8];
+pub type Term = [u8; 4];
+
+#[derive(Clone, Copy)]
+pub struct Rule<'a> {
+    pub form: u8,
+    pub head: u8,
+    pub c: i16,
+    pub terms: &'a [Term],
+}
+
+#[derive(Clone, Copy)]
+pub struct Constraint<'a> {
+    pub form: u8,
+    pub c: i16,
+    pub terms: &'a [Term],
+}
+
+pub struct Refusal {
+    pub number: usize,
+    pub place: usize,
+}
+
+pub struct Counted<'a> {
+    pub variables: &'a [Variable],
+    pub rules: usize,
+    pub constraints: usize,
+}
+
+pub struct Program<'a> {
+    pub variables: &'a [Variable],
+    pub rules: Vec<Rule<'a>>,
+    pub constraints: Vec<Constraint<'a>>,
+}
+
+/// Where rules and constraints go as they are read.
+pub trait Sink<'a> {
+    /// So many bytes are left for rules, and then for constraints.
+    fn room(&mut self, _rules: usize, _constraints: usize) {}
+    fn rule(&mut self, _rule: Rule<'a>) {}
+    fn constraint(&mut self, _constraint: Constraint<'a>) {}
+}
+
+/// Keeps nothing.
+pub struct Skip;
+
+impl<'a> Sink<'a> for Skip {}
+
+impl<'a> Sink<'a> for Program<'a> {
+    fn room(&mut self, rules: usize, constraints: usize) {
+        self.rules.reserve((rules / 11).min(RULES));
+        self.constraints.reserve((constraints / 10).min(CONSTRAINTS));
+    }
+
+    fn rule(&mut self, rule: Rule<'a>) {
+        self.rules.push(rule);
+    }
+
+    fn constraint(&mut self, constraint: Constraint<'a>) {
+        self.constraints.push(constraint);
+    }
+}
+
+impl<'a> Program<'a> {
+    pub fn read(file: &'a [u8]) -> Result<Program<'a>, Refusal> {
+        let mut program = Program { variables: &[], rules: Vec::new(), constraints: Vec::new() };
+        program.variables = read(file, &mut program)?.variables;
+        Ok(program)
+    }
+}
+
+pub fn founded(v: &Variable) -> bool {
+    v[3] == 1
+}
+
+pub fn low(v: &Variable) -> i16 {
+    i16::from_be_bytes([v[4], v[5]])
+}
+
+pub fn high(v: &Variable) -> i16 {
+    i16::from_be_bytes([v[6], v[7]])
+}
+
+pub fn number(t: &Term) -> i16 {
+    i16::from_be_bytes([t[2], t[3]])
+}
+
+fn within(z: i16) -> bool {
+    (-30_000..=30_000).contains(&z)
+}
+
+fn coefficient(z: i16) -> bool {
+    (-1_000..=1_000).contains(&z) && z != 0
+}
+
+fn variable_in_order(v: &Variable) -> bool {
+    v[..3] == [1, 0, 5] && v[3] <= 1 && low(v) >= -30_000 && high(v) <= 30_000 && low(v) <= high(v)
+}
+
+/// The value of a field of this tag that is whole, and the bytes after it; a body's length takes one byte.
+fn value<'a>(rest: &'a [u8], tag: u8, before_terms: usize) -> Option<(&'a [u8], &'a [Term], &'a [u8])> {
+    let [t, 0, length, tail @ ..] = rest else { return None };
+    let length = *length as usize;
+    if *t != tag || length < before_terms || length > before_terms + 64 || length > tail.len() {
+        return None;
+    }
+    let (value, after) = tail.split_at(length);
+    let (start, body) = value.split_at(before_terms);
+    let (terms, over) = body.as_chunks();
+    over.is_empty().then_some((start, terms, after))
+}
+
+struct Bodies<'a> {
+    variables: &'a [Variable],
+    /// The last body in which a variable stood.
+    stood: [u16; VARIABLES],
+    body: u16,
+    /// The mixed places: the number of bytes from the rule's field on, its head and its variable.
+    mixed: Vec<(usize, u8, u8)>,
+}
+
+impl Bodies<'_> {
+    /// Declared variables, none twice in this body, and each term as the form asks.
+    fn terms(&mut self, terms: &[Term], fits: impl Fn(&Term) -> bool) -> bool {
+        let mut fine = true;
+        for t in terms {
+            let x = t[0] as usize;
+            fine &= fits(t) & (x < self.variables.len()) & (self.stood[x] != self.body);
+            self.stood[x] = self.body;
+        }
+        fine
+    }
+
+    fn sum(&mut self, terms: &[Term]) -> bool {
+        self.terms(terms, |t| (t[1] == 0) & coefficient(number(t)))
+    }
+
+    fn plain(&mut self, terms: &[Term]) -> bool {
+        self.terms(terms, |t| t[1..] == [0, 0, 0])
+    }
+
+    fn literals(&mut self, terms: &[Term]) -> bool {
+        self.terms(terms, |t| (t[1].wrapping_sub(1) < 2) & within(number(t)))
+    }
+
+    fn rule(&mut self, rule: &Rule, left: usize) -> bool {
+        self.body += 1;
+        let terms = rule.terms;
+        let head = self.variables.get(rule.head as usize).is_some_and(founded);
+        head && within(rule.c)
+            && match (rule.form, terms.len()) {
+                (1, _) => self.sum(terms),
+                (2 | 3, 1..) => self.plain(terms),
+                (4, 2) => self.plain(terms) && terms.iter().all(|t| low(&self.variables[t[0] as usize]) >= 0),
+                (5, 1) => {
+                    let fine = self.plain(terms);
+                    if fine && directions(self.variables, rule, 0) == (true, true) {
+                        self.mixed.push((left, rule.head, terms[0][0]));
+                    }
+                    fine
+                }
+                (6, 1..) => self.literals(terms),
+                (7, 2..) => self.plain(&terms[..1]) && self.literals(&terms[1..]),
+                _ => false,
+            }
+    }
+
+    fn constraint(&mut self, constraint: &Constraint) -> bool {
+        self.body += 1;
+        match (constraint.form, constraint.terms.len()) {
+            (1, _) => within(constraint.c) && self.sum(constraint.terms),
+            (2, 1..) => constraint.c == 0 && self.literals(constraint.terms),
+            _ => false,
+        }
+    }
+}
+
+fn rule<'a>(start: &[u8], terms: &'a [Term]) -> Rule<'a> {
+    Rule { form: start[0], head: start[1], c: i16::from_be_bytes([start[2], start[3]]), terms }
+}
+
+pub fn read<'a>(file: &'a [u8], to: &mut impl Sink<'a>) -> Result<Counted<'a>, Refusal> {
+    if file.len() > BYTES {
+        return Err(Refusal { number: 1, place: 0 });
+    }
+    let fields = file.as_chunks().0;
+    let count = fields.iter().take(VARIABLES).take_while(|v| variable_in_order(v)).count();
+    let variables = &fields[..count];
+    let mut n = Counted { variables, rules: 0, constraints: 0 };
+    let mut bodies = Bodies { variables, stood: [0; VARIABLES], body: 0, mixed: Vec::new() };
+    let mut rest = &file[8 * count..];
+    to.room(rest.len(), 0);
+    while let Some((start, terms, after)) = value(rest, 2, 4) {
+        let rule = rule(start, terms);
+        if n.rules == RULES || !bodies.rule(&rule, rest.len()) {
+            break;
+        }
+        to.rule(rule);
+        n.rules += 1;
+        rest = after;
+    }
+    to.room(0, rest.len());
+    while let Some((start, terms, after)) = value(rest, 3, 3) {
+        let constraint = Constraint { form: start[0], c: i16::from_be_bytes([start[1], start[2]]), terms };
+        if n.constraints == CONSTRAINTS || !bodies.constraint(&constraint) {
+            break;
+        }
+        to.constraint(constraint);
+        n.constraints += 1;
+        rest = after;
+    }
+    if !rest.is_empty() {
+        return Err(Refusal { number: why(rest, &n), place: file.len() - rest.len() });
+    }
+    match first_offending(file, &n, &bodies.mixed) {
+        Some(left) => Err(Refusal { number: 13, place: file.len() - left }),
+        None => Ok(n),
+    }
+}
+
+/// Whether a place pushes up, and whether it pushes down.
+pub fn directions(variables: &[Variable], rule: &Rule, i: usize) -> (bool, bool) {
+    let t = &rule.terms[i];
+    let falls = match rule.form {
+        1 => number(t) < 0,
+        5 => {
+            let v = &variables[t[0] as usize];
+            return (low(v) >= 0 || high(v) > 0, low(v) < 0);
+        }
+        6 | 7 => t[1] == 2,
+        _ => false,
+    };
+    (!falls, falls)
+}
+
+/// The first rule with a mixed variable in its head's component, by the number of bytes from its field on.
+fn first_offending(file: &[u8], n: &Counted, mixed: &[(usize, u8, u8)]) -> Option<usize> {
+    if mixed.is_empty() {
+        return None;
+    }
+    let mut graph = Graph::new(n.variables.len());
+    let mut rest = &file[8 * n.variables.len()..];
+    while let Some((start, terms, after)) = value(rest, 2, 4) {
+        let rule = rule(start, terms);
+        let terms = terms.iter();
+        match rule.form {
+            1 => graph.edges(rule.head, terms.filter(|t| number(t) > 0).map(|t| t[0])),
+            5 if !directions(n.variables, &rule, 0).0 => {}
+            6 | 7 => graph.edges(rule.head, terms.filter(|t| t[1] != 2).map(|t| t[0])),
+            _ => graph.edges(rule.head, terms.map(|t| t[0])),
+        }
+        rest = after;
+    }
+    let places = graph.components();
+    let component = |v: u8| places[v as usize].0;
+    mixed.iter().find(|(_, head, x)| component(*head) == component(*x)).map(|(left, ..)| *left)
+}
+
+/// The number of the first refusal from 2 to 12 of the field at the start of `rest`, after so many fields.
+#[cold]
+fn why(rest: &[u8], n: &Counted) -> usize {
+    let [tag, long, short, tail @ ..] = rest else { return 2 };
+    let length = 256 * *long as usize + *short as usize;
+    if length > tail.len() {
+        return 2;
+    }
+    let value = &tail[..length];
+    let declared = n.variables.len();
+    let before = if n.constraints > 0 {
+        3
+    } else if n.rules > 0 {
+        2
+    } else {
+        u8::from(declared > 0)
+    };
+    let (full, start) = match tag {
+        1 => (declared == VARIABLES, 5),
+        2 => (n.rules == RULES, 4),
+        3 => (n.constraints == CONSTRAINTS, 3),
+        _ => return 3,
+    };
+    if *tag < before {
+        return 4;
+    }
+    if full {
+        return 5;
+    }
+    let most = if *tag == 1 { 0 } else { 64 };
+    if length < start || length > start + most || (length - start) % 4 != 0 {
+        return 6;
+    }
+    if *tag == 1 {
+        return if value[0] > 1 { 7 } else { 8 };
+    }
+    let terms: &[Term] = value[start..].as_chunks().0;
+    let c = i16::from_be_bytes([value[start - 2], value[start - 1]]);
+    // A constraint's forms are those of a sum and of an if without a head.
+    let (form, head) = match (*tag, value[0]) {
+        (2, form @ 1..=7) => (form, Some(value[1] as usize)),
+        (3, 1) => (1, None),
+        (3, 2) if c == 0 => (6, None),
+        _ => return 7,
+    };
+    let literal = |i: usize| form == 6 || form == 7 && i > 0;
+    let wrong = |(i, t): (usize, &Term)| match literal(i) {
+        true => t[1] != 1 && t[1] != 2,
+        false => t[1] != 0 || form != 1 && number(t) != 0,
+    };
+    let outside = |(i, t): (usize, &Term)| if literal(i) { !within(number(t)) } else { form == 1 && !coefficient(number(t)) };
+    let count = match form {
+        1 => true,
+        4 => terms.len() == 2,
+        5 => terms.len() == 1,
+        7 => terms.len() >= 2,
+        _ => !terms.is_empty(),
+    };
+    if terms.iter().enumerate().any(wrong) {
+        7
+    } else if !within(c) || terms.iter().enumerate().any(outside) {
+        8
+    } else if head.is_some_and(|h| !n.variables.get(h).is_some_and(founded)) || terms.iter().any(|t| t[0] as usize >= declared) {
+        9
+    } else if !count {
+        10
+    } else if (0..terms.len()).any(|i| terms[..i].iter().any(|t| t[0] == terms[i][0])) {
+        11
+    } else {
+        12
+    }
+}

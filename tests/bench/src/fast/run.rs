@@ -1,0 +1,391 @@
+//! The least model. A few sweeps over the rules as they stand are enough for most plans; then the reduct is written out, its constant parts
+//! folded, and run component by component, each round by round over the rules that wait.
+use super::graph::Graph;
+use super::read::{founded, high, low, number, Constraint, Program, Rule, Term};
+use super::set::Set;
+
+pub type Values = [i16; 256];
+
+fn holds(t: &Term, model: &Values, assigned: &Values) -> bool {
+    let x = t[0] as usize;
+    if t[1] == 1 {
+        model[x] >= number(t)
+    } else {
+        assigned[x] < number(t)
+    }
+}
+
+/// What the rule gives where that is more than `than`. Standard variables have their assigned values in the model, so rising places read it.
+pub fn above(program: &Program, rule: &Rule, model: &Values, assigned: &Values, than: i16) -> Option<i32> {
+    let at = |t: &Term| model[t[0] as usize] as i32;
+    let c = rule.c as i32;
+    let given = match (rule.form, rule.terms) {
+        (1, terms) => terms.iter().fold(c, |sum, t| {
+            let k = number(t) as i32;
+            let x = t[0] as usize;
+            sum + k * if k > 0 { model[x] } else { assigned[x] } as i32
+        }),
+        (2, terms) => c + terms.iter().map(at).max()?,
+        (3, terms) => c + terms.iter().map(at).min()?,
+        (4, [a, b]) => c + at(a) * at(b),
+        (5, [t]) => {
+            let rising = low(&program.variables[t[0] as usize]) >= 0;
+            c + if rising { at(t) } else { (assigned[t[0] as usize] as i32).abs() }
+        }
+        (6, literals) => return (rule.c > than && literals.iter().all(|t| holds(t, model, assigned))).then_some(c),
+        (_, [first, literals @ ..]) => {
+            let given = c + at(first);
+            return (given > than as i32 && literals.iter().all(|t| holds(t, model, assigned))).then_some(given);
+        }
+        _ => return None,
+    };
+    (given > than as i32).then_some(given)
+}
+
+pub fn satisfied(constraint: &Constraint, values: &Values) -> bool {
+    if constraint.form == 1 {
+        constraint.terms.iter().fold(constraint.c as i32, |sum, t| sum + number(t) as i32 * values[t[0] as usize] as i32) <= 0
+    } else {
+        constraint.terms.iter().any(|t| holds(t, values, values))
+    }
+}
+
+/// The model of a run. In `least` no value passes its high; in `check` none passes the assigned one, since the assignment is a model, and the run
+/// ends when none is short of it.
+struct Run<'a, const CHECK: bool> {
+    program: &'a Program<'a>,
+    assigned: &'a Values,
+    model: Values,
+    short: usize,
+}
+
+/// Ends a run before its rules are settled.
+enum End {
+    NoneShort,
+    NoModel,
+}
+
+impl<const CHECK: bool> Run<'_, CHECK> {
+    fn raise(&mut self, head: u8, to: i32) -> Result<(), End> {
+        let h = head as usize;
+        if !CHECK && to > high(&self.program.variables[h]) as i32 {
+            return Err(End::NoModel);
+        }
+        self.model[h] = to as i16;
+        if CHECK && self.model[h] == self.assigned[h] {
+            self.short -= 1;
+            if self.short == 0 {
+                return Err(End::NoneShort);
+            }
+        }
+        Ok(())
+    }
+
+    /// A head of the check that has its assigned value rises no more.
+    fn full(&self, head: u8) -> bool {
+        CHECK && self.model[head as usize] == self.assigned[head as usize]
+    }
+
+    fn run(&mut self) -> Result<(), End> {
+        for _ in 0..3 {
+            let mut raised = false;
+            for rule in &self.program.rules {
+                if self.full(rule.head) {
+                    continue;
+                }
+                if let Some(to) = above(self.program, rule, &self.model, self.assigned, self.model[rule.head as usize]) {
+                    self.raise(rule.head, to)?;
+                    raised = true;
+                }
+            }
+            if !raised {
+                return Ok(());
+            }
+        }
+        let reduct = Reduct::of(self);
+        let mut waits = vec![0u64; reduct.lifts.len().div_ceil(64)];
+        for part in reduct.lifts.chunk_by(|a, b| a.component == b.component) {
+            self.settle(&reduct, part, &mut waits)?;
+        }
+        Ok(())
+    }
+
+    /// Whether a rule of the reduct raises its head.
+    fn lift(&mut self, reduct: &Reduct, lift: &Lift) -> Result<bool, End> {
+        let given = lift.gives(&reduct.terms, &self.model);
+        if given <= self.model[lift.head as usize] as i32 {
+            return Ok(false);
+        }
+        self.raise(lift.head, given)?;
+        Ok(true)
+    }
+
+    /// Runs one component: whole rounds as long as a good part of its rules lifts, then by the rules that wait.
+    fn settle(&mut self, reduct: &Reduct, part: &[Lift], waits: &mut [u64]) -> Result<(), End> {
+        loop {
+            let mut raised = 0;
+            for lift in part {
+                raised += self.lift(reduct, lift)? as usize;
+            }
+            if raised == 0 {
+                return Ok(());
+            }
+            if 4 * raised < part.len() {
+                break;
+            }
+        }
+        let from = part[0].number as usize;
+        let to = from + part.len();
+        (from..to).for_each(|i| waits[i / 64] |= 1 << (i % 64));
+        loop {
+            let mut at = from;
+            while let Some(i) = next(waits, at, to) {
+                waits[i / 64] &= !(1 << (i % 64));
+                at = i + 1;
+                if self.lift(reduct, &reduct.lifts[i])? {
+                    for &r in reduct.readers(reduct.lifts[i].head) {
+                        waits[r as usize / 64] |= 1 << (r % 64);
+                    }
+                }
+            }
+            if at == from {
+                return Ok(());
+            }
+        }
+    }
+}
+
+/// The first bit from `at` on, below `to`.
+fn next(words: &[u64], at: usize, to: usize) -> Option<usize> {
+    let mut w = at / 64;
+    let mut word = words.get(w)? >> (at % 64) << (at % 64);
+    while word == 0 {
+        w += 1;
+        if 64 * w >= to {
+            return None;
+        }
+        word = words[w];
+    }
+    let i = 64 * w + word.trailing_zeros() as usize;
+    (i < to).then_some(i)
+}
+
+#[derive(Clone, Copy)]
+enum Kind {
+    /// A kept place times a number.
+    One(u8, i16),
+    Sum,
+    Max,
+    Min,
+    Product,
+    If,
+    Carry,
+}
+
+/// A rule of the reduct: the kept places alone, with their numbers; `most` is the least of the other places of a min.
+#[derive(Clone, Copy)]
+struct Lift {
+    kind: Kind,
+    head: u8,
+    component: u8,
+    number: u16,
+    start: u16,
+    end: u16,
+    c: i32,
+    most: i32,
+}
+
+type Kept = (u8, i16);
+
+impl Lift {
+    fn body<'a>(&self, terms: &'a [Kept]) -> &'a [Kept] {
+        &terms[self.start as usize..self.end as usize]
+    }
+
+    fn gives(&self, terms: &[Kept], model: &Values) -> i32 {
+        let at = |t: &Kept| model[t.0 as usize] as i32;
+        let all = |terms: &[Kept]| terms.iter().all(|t| model[t.0 as usize] >= t.1);
+        if let Kind::One(x, k) = self.kind {
+            return self.c + k as i32 * model[x as usize] as i32;
+        }
+        let terms = self.body(terms);
+        match self.kind {
+            Kind::Sum => terms.iter().fold(self.c, |sum, t| sum + t.1 as i32 * at(t)),
+            Kind::Max => self.c + terms.iter().map(at).max().unwrap_or(0),
+            Kind::Min => self.c + terms.iter().map(at).fold(self.most, i32::min),
+            Kind::Product => self.c + at(&terms[0]) * at(&terms[1]),
+            Kind::If if all(terms) => self.c,
+            Kind::Carry if all(&terms[1..]) => self.c + at(&terms[0]),
+            _ => i32::MIN,
+        }
+    }
+}
+
+/// The rules that may still lift a head, by component and turn, and for each variable those of its own component that read it.
+struct Reduct {
+    lifts: Vec<Lift>,
+    terms: Vec<Kept>,
+    starts: Vec<u16>,
+    readers: Vec<u16>,
+}
+
+impl Reduct {
+    fn of<const CHECK: bool>(run: &Run<CHECK>) -> Reduct {
+        let n = run.program.variables.len();
+        let mut lifts = Vec::new();
+        let mut terms = Vec::new();
+        let mut graph = Graph::new(n);
+        for rule in run.program.rules.iter().filter(|r| !run.full(r.head)) {
+            let start = terms.len();
+            let Some(mut lift) = reduced(run.program, rule, run.assigned, &mut terms) else {
+                terms.truncate(start);
+                continue;
+            };
+            graph.edges(rule.head, terms[start..].iter().map(|t| t.0));
+            lift.kind = match (lift.kind, &terms[start..]) {
+                // it has given what it gives
+                (_, []) => continue,
+                (Kind::Sum, &[(x, k)]) => Kind::One(x, k),
+                (Kind::Max | Kind::Carry, &[(x, _)]) => Kind::One(x, 1),
+                (kind, _) => kind,
+            };
+            (lift.start, lift.end) = (start as u16, terms.len() as u16);
+            lifts.push(lift);
+        }
+        let places = graph.components();
+        lifts.sort_by_key(|l| places[l.head as usize]);
+        let mut starts = vec![0u16; n + 1];
+        for (i, l) in lifts.iter_mut().enumerate() {
+            l.number = i as u16;
+            l.component = places[l.head as usize].0;
+        }
+        let within = |l: &Lift, t: &Kept| places[t.0 as usize].0 == l.component;
+        for l in &lifts {
+            for t in l.body(&terms).iter().filter(|t| within(l, t)) {
+                starts[t.0 as usize + 1] += 1;
+            }
+        }
+        for v in 0..n {
+            starts[v + 1] += starts[v];
+        }
+        let mut next = starts.clone();
+        let mut readers = vec![0; starts[n] as usize];
+        for l in &lifts {
+            for t in l.body(&terms).iter().filter(|t| within(l, t)) {
+                readers[next[t.0 as usize] as usize] = l.number;
+                next[t.0 as usize] += 1;
+            }
+        }
+        Reduct { lifts, terms, starts, readers }
+    }
+
+    fn readers(&self, v: u8) -> &[u16] {
+        &self.readers[self.starts[v as usize] as usize..self.starts[v as usize + 1] as usize]
+    }
+}
+
+/// A rule with all but its kept places replaced; nothing where a replaced literal does not hold.
+fn reduced(program: &Program, rule: &Rule, assigned: &Values, terms: &mut Vec<Kept>) -> Option<Lift> {
+    let variable = |t: &Term| &program.variables[t[0] as usize];
+    let is_founded = |t: &Term| founded(variable(t));
+    let value = |t: &Term| assigned[t[0] as usize];
+    let mut lift = Lift { kind: Kind::Sum, head: rule.head, component: 0, number: 0, start: 0, end: 0, c: rule.c as i32, most: i32::MAX };
+    let literals = |literals: &[Term], terms: &mut Vec<Kept>| {
+        for t in literals {
+            if t[1] == 1 && is_founded(t) {
+                terms.push((t[0], number(t)));
+            } else if !holds(t, assigned, assigned) {
+                return None;
+            }
+        }
+        Some(())
+    };
+    match (rule.form, rule.terms) {
+        (1, body) => {
+            for t in body {
+                if number(t) > 0 && is_founded(t) {
+                    terms.push((t[0], number(t)));
+                } else {
+                    lift.c += number(t) as i32 * value(t) as i32;
+                }
+            }
+        }
+        (2, body) => {
+            lift.kind = Kind::Max;
+            terms.extend(body.iter().filter(|t| is_founded(t)).map(|t| (t[0], 0)));
+        }
+        (3, body) => {
+            lift.kind = Kind::Min;
+            for t in body {
+                if is_founded(t) {
+                    terms.push((t[0], 0));
+                } else {
+                    lift.most = lift.most.min(value(t) as i32);
+                }
+            }
+        }
+        (4, [a, b]) => match (is_founded(a), is_founded(b)) {
+            (true, true) => {
+                lift.kind = Kind::Product;
+                terms.extend([(a[0], 0), (b[0], 0)]);
+            }
+            (true, false) => terms.push((a[0], value(b))),
+            (false, true) => terms.push((b[0], value(a))),
+            (false, false) => {}
+        },
+        (5, [t]) => {
+            if low(variable(t)) >= 0 && is_founded(t) {
+                terms.push((t[0], 1));
+            }
+        }
+        (6, body) => {
+            lift.kind = Kind::If;
+            literals(body, terms)?;
+        }
+        (_, [first, body @ ..]) => {
+            if is_founded(first) {
+                lift.kind = Kind::Carry;
+                terms.push((first[0], 0));
+            } else {
+                lift.kind = Kind::If;
+                lift.c += value(first) as i32;
+            }
+            literals(body, terms)?;
+        }
+        _ => {}
+    }
+    Some(lift)
+}
+
+/// The founded variables at their lows, the others as assigned.
+fn start(program: &Program, assigned: &Values) -> Values {
+    let mut model = *assigned;
+    for (z, v) in model.iter_mut().zip(program.variables) {
+        if founded(v) {
+            *z = low(v);
+        }
+    }
+    model
+}
+
+pub fn least(program: &Program, assigned: &Values) -> Option<Values> {
+    let mut run = Run::<false> { program, assigned, model: start(program, assigned), short: 0 };
+    run.run().is_ok().then_some(run.model)
+}
+
+/// The least model and the variables that are short of their assigned values in it, where there are any; the assignment meets every rule.
+pub fn short(program: &Program, assigned: &Values) -> Option<(Values, Set)> {
+    let model = start(program, assigned);
+    let short = model.iter().zip(assigned).filter(|(a, b)| a != b).count();
+    let mut run = Run::<true> { program, assigned, model, short };
+    if short == 0 || run.run().is_err() {
+        return None;
+    }
+    let mut set = Set::EMPTY;
+    for v in 0..program.variables.len() {
+        if run.model[v] != assigned[v] {
+            set.put(v as u8);
+        }
+    }
+    Some((run.model, set))
+}
