@@ -1,6 +1,6 @@
-//! A second checker for founded cover files, written from the specification
-//! alone. Clarity comes before speed: plain structures, plain searches,
-//! naive iteration.
+//! A second checker for founded cover files, written from document 01, the
+//! papers and the settled points alone. Clarity comes before speed: plain
+//! structures, plain searches, naive iteration.
 //!
 //! The four calls are `read`, `least`, `check` and `print`. Each has a twin
 //! ending in `_with` that takes a [`Wrong`]: a deliberate mistake, used to see
