@@ -1,5 +1,5 @@
-//! The three calls written for speed alone: one pass that tries each field, rules and constraints as structs over slices of the file, no table
-//! larger than the file needs, and an end as soon as the answer is known.
+//! The three calls written for speed alone: one pass that tries each field, rules and constraints as structs over slices of the file, graphs and
+//! lists of readers only where they are needed and as large as the file, and an end as soon as the answer is known.
 mod graph;
 mod read;
 mod run;

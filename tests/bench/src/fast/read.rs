@@ -106,8 +106,8 @@ fn variable_in_order(v: &Variable) -> bool {
     v[..3] == [1, 0, 5] && v[3] <= 1 && low(v) >= -30_000 && high(v) <= 30_000 && low(v) <= high(v)
 }
 
-/// The value of a field of this tag that is whole, and the bytes after it; a body's length takes one byte.
-fn value<'a>(rest: &'a [u8], tag: u8, before_terms: usize) -> Option<(&'a [u8], &'a [Term], &'a [u8])> {
+/// What stands before the terms of a whole field of this tag, its terms, and the bytes after it; the length of such a field takes one byte.
+fn value(rest: &[u8], tag: u8, before_terms: usize) -> Option<(&[u8], &[Term], &[u8])> {
     let [t, 0, length, tail @ ..] = rest else { return None };
     let length = *length as usize;
     if *t != tag || length < before_terms || length > before_terms + 64 || length > tail.len() {
