@@ -1,4 +1,4 @@
--- Readings by their size, and one more place of a body.
+-- Readings by their size, and one more position of a body.
 use Prim.Native.Nat.{ℕ, zero, suc, _+_, _-_, _*_, _^_, _<_, _≤_}
 use mathlib.Core.Path.{_≡_, refl, ap, _∙_}
 use mathlib.Core.List.{List}
@@ -12,9 +12,12 @@ use lib.Signed.{ltZ}
 use lib.ListN.{length, getD}
 use Rattle.format.specs.Limits.{maxNumber, maxCoefficient}
 use Rattle.format.proofs.Ints.{abs-add, abs-mul-le}
-use Rattle.program.specs.Program.{Term, termIn}
+use Rattle.program.specs.Program.{termIn}
 use Rattle.program.specs.Evaluate.{sumBelow, larger, smaller, largestTo, smallestTo, holds, allHold}
-use Rattle.bodies.specs.Readings.{bit, readAt, readingOf, weighted, literal, Small, Coefficients}
+use Rattle.words.specs.Bit.{bit}
+use Rattle.bodies.specs.Readings.{readAt, readingOf, weighted}
+use Rattle.program.specs.declared.Term.{Term}
+use Rattle.program.specs.Evaluable.{Small, Coefficients}
 
 -- ---- readings
 
@@ -26,7 +29,7 @@ module _ (kept : ℕ) (first second : List ℤ) where
   read-second i x h = simp h
 
   module _ (ts : List Term) (i : ℕ) where
-    -- the variable of term i, read at place i
+    -- the variable of term i, read at position i
     pub reading-is : {x : ℕ} {v w : ℤ} → w ≡ v → v ≡ readAt kept first second i x → x ≡ termIn ts i .variable → w ≡ readingOf kept first second ts i
     unfolding readingOf
     reading-is p q e = p ∙ q ∙ ap (readAt kept first second i) e
@@ -90,7 +93,7 @@ picked-small : (t : Bool) (a b : ℤ) {m : ℕ} → natAbs a ≤ m → natAbs b 
 picked-small true a b h k = k
 picked-small false a b h k = h
 
--- the place before i, and i
+-- the position before i, and i
 one-before : (i : ℕ) → 1 ≤ i → (i ≡ suc (i - 1)) × (suc (i - 1) ≡ i + 1 - 1)
 one-before i h = (omega arith, omega arith)
 
@@ -130,7 +133,3 @@ hold-none ts at = refl
 pub hold-more : (ts : List Term) (at : ℕ → ℤ) (n : ℕ) → (allHold ts at n && holds (termIn ts n) (at n)) ≡ allHold ts at (n + 1)
 unfolding allHold
 hold-more ts at n = rw add-one
-
--- a literal by its op, number and value, and the literal that a term is
-pub met-is : (t : Term) {op : ℕ} {n a b : ℤ} → op ≡ t .op → n ≡ t .number → a ≡ b → literal op n a ≡ holds t b
-met-is t p q e = rw (p, q, e)

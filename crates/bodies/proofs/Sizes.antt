@@ -11,7 +11,8 @@ use borrow.Author.Tests.{le-ltb, ne-eqb}
 use mir.Syntax.{w64}
 use mir.Val.{SFits}
 use Rattle.format.proofs.Ints.{abs-add, abs-mul-le, sfits-abs}
-use Rattle.bodies.specs.Readings.{literal}
+use Rattle.program.specs.Evaluate.{holds}
+use Rattle.program.specs.declared.Term.{Term}
 
 pub sum-fits : (a b : ℤ) → natAbs a + natAbs b < 2 ^ 63 → SFits w64 (a +ℤ b)
 sum-fits a b h = sfits-abs (a +ℤ b) (natAbs a + natAbs b) (abs-add a b) h
@@ -29,12 +30,12 @@ size-positive (pos n) t = refl
 size-positive (negsuc n) t = let z : _≡_ {A = ℕ} 0 1 = cc in absurd (omega arith)
 
 -- a literal, by its op
-module _ (op : ℕ) (number a : ℤ) where
-  pub literal-least : op ≡ 1 → leZ number a ≡ literal op number a
+module _ (t : Term) (a : ℤ) where
+  pub literal-least : t .op ≡ 1 → leZ (t .number) a ≡ holds t a
   literal-least h = rw h
 
-  pub literal-below : op ≡ 2 → ltZ a number ≡ literal op number a
+  pub literal-below : t .op ≡ 2 → ltZ a (t .number) ≡ holds t a
   literal-below h = rw h
 
-  pub literal-plain : (op ≡ 1 → ⊥) → (op ≡ 2 → ⊥) → true ≡ literal op number a
-  literal-plain h k = simp (ne-eqb op 1 h, ne-eqb op 2 k)
+  pub literal-plain : (t .op ≡ 1 → ⊥) → (t .op ≡ 2 → ⊥) → true ≡ holds t a
+  literal-plain h k = simp (ne-eqb (t .op) 1 h, ne-eqb (t .op) 2 k)

@@ -1,18 +1,19 @@
-// A body read in two valuations: place i in `first` where bit i of `kept` is set, and in `second` else.
+// A body read in two valuations: position i in `first` where bit i of `kept` is set, and in `second` else.
 ghost use mathlib.Core.Path.{_≡_};
-ghost use Prim.Native.Nat.{_+_, _-_, _*_, _<_, _≤_};
+ghost use Prim.Native.Nat.{_+_, _-_, _*_, _/_, _<_, _≤_};
 ghost use lib.ListN.{length};
 ghost use lib.IntN.{natAbs, _+ℤ_, _*ℤ_};
 ghost use Rattle.format.specs.Limits.{maxTerms, maxNumber, maxCoefficient};
 ghost use Rattle.program.specs.Tables.{anyBelow};
 ghost use Rattle.program.specs.Program.{termsOf, termIn};
 ghost use Rattle.program.specs.Evaluate.{sumBelow, largestTo, smallestTo, holds, allHold};
-ghost use Rattle.bodies.specs.Readings.{readAt, readingOf, weighted, Small, Coefficients};
+ghost use Rattle.bodies.specs.Readings.{readAt, readingOf, weighted};
+ghost use Rattle.program.specs.Evaluable.{Small, Coefficients};
 use format::Format;
 
 pub mod numbers;
 
-// The value of variable x at place i.
+// The value of variable x at position i.
 fn read(
     x: u8,
     i: usize,
@@ -31,8 +32,8 @@ fn read(
     }
 }
 
-// The value at place i of a body.
-pub fn read_place(
+// The value at position i of a body.
+pub fn read_position(
     body: &[u8],
     i: usize,
     kept: u32,
@@ -63,7 +64,7 @@ fn weigh(
     numbers::times(term.number, read(term.variable, i, kept, first, second))
 }
 
-// Whether the literal at place i holds.
+// Whether the literal at position i holds.
 fn is_met(
     body: &[u8],
     i: usize,
@@ -75,11 +76,7 @@ fn is_met(
     ensures { λ r. ⌜ r ≡ holds (termIn (termsOf (now (body .entry))) i) (readingOf kept (now (first .entry)) (now (second .entry)) (termsOf (now (body .entry))) i) ⌝ }
 {
     let term = parts::terms::term(body, i);
-    numbers::holds(
-        term.op,
-        term.number,
-        read(term.variable, i, kept, first, second),
-    )
+    numbers::holds(term, read(term.variable, i, kept, first, second))
 }
 
 // c and, for each term, its number times its value.
@@ -90,14 +87,14 @@ pub fn sum(
     first: &[i64; Format::MAX_VARIABLES],
     second: &[i64; Format::MAX_VARIABLES],
 ) -> i64
-    requires { ⌜ (natAbs c ≤ maxNumber) × (length (now body) ≤ 4 * maxTerms) ⌝ }
+    requires { ⌜ (natAbs c ≤ maxNumber) × (length (now body) / 4 ≤ maxTerms) ⌝ }
     requires { ⌜ Coefficients (termsOf (now body)) ⌝ }
     requires { ⌜ Small (now first) × Small (now second) ⌝ }
     ensures { λ r. ⌜ r ≡ c +ℤ sumBelow (weighted (termsOf (now (body .entry))) (readingOf kept (now (first .entry)) (now (second .entry)) (termsOf (now (body .entry))))) (length (termsOf (now (body .entry)))) ⌝ }
 {
-    let n = body.len() / 4;
+    let terms = body.len() / 4;
     let mut total: i64 = 0;
-    for i in 0..n {
+    for i in 0..terms {
         total = numbers::plus(total, weigh(body, i, kept, first, second));
     }
     numbers::plus(c, total)
@@ -110,13 +107,13 @@ pub fn largest(
     first: &[i64; Format::MAX_VARIABLES],
     second: &[i64; Format::MAX_VARIABLES],
 ) -> i64
-    requires { ⌜ (4 ≤ length (now body)) × (length (now body) ≤ 4 * maxTerms) ⌝ }
+    requires { ⌜ (4 ≤ length (now body)) × (length (now body) / 4 ≤ maxTerms) ⌝ }
     ensures { λ r. ⌜ r ≡ largestTo (readingOf kept (now (first .entry)) (now (second .entry)) (termsOf (now (body .entry)))) (length (termsOf (now (body .entry))) - 1) ⌝ }
 {
     let n = body.len() / 4;
-    let mut found = read_place(body, 0, kept, first, second);
+    let mut found = read_position(body, 0, kept, first, second);
     for i in 1..n {
-        found = numbers::larger(found, read_place(body, i, kept, first, second));
+        found = numbers::larger(found, read_position(body, i, kept, first, second));
     }
     found
 }
@@ -128,13 +125,13 @@ pub fn smallest(
     first: &[i64; Format::MAX_VARIABLES],
     second: &[i64; Format::MAX_VARIABLES],
 ) -> i64
-    requires { ⌜ (4 ≤ length (now body)) × (length (now body) ≤ 4 * maxTerms) ⌝ }
+    requires { ⌜ (4 ≤ length (now body)) × (length (now body) / 4 ≤ maxTerms) ⌝ }
     ensures { λ r. ⌜ r ≡ smallestTo (readingOf kept (now (first .entry)) (now (second .entry)) (termsOf (now (body .entry)))) (length (termsOf (now (body .entry))) - 1) ⌝ }
 {
     let n = body.len() / 4;
-    let mut found = read_place(body, 0, kept, first, second);
+    let mut found = read_position(body, 0, kept, first, second);
     for i in 1..n {
-        found = numbers::smaller(found, read_place(body, i, kept, first, second));
+        found = numbers::smaller(found, read_position(body, i, kept, first, second));
     }
     found
 }
@@ -151,8 +148,8 @@ pub fn product(
     ensures { λ r. ⌜ r ≡ readingOf kept (now (first .entry)) (now (second .entry)) (termsOf (now (body .entry))) 0 *ℤ readingOf kept (now (first .entry)) (now (second .entry)) (termsOf (now (body .entry))) 1 ⌝ }
 {
     numbers::times(
-        read_place(body, 0, kept, first, second),
-        read_place(body, 1, kept, first, second),
+        read_position(body, 0, kept, first, second),
+        read_position(body, 1, kept, first, second),
     )
 }
 
@@ -163,13 +160,13 @@ pub fn all_hold(
     first: &[i64; Format::MAX_VARIABLES],
     second: &[i64; Format::MAX_VARIABLES],
 ) -> bool
-    requires { ⌜ length (now body) ≤ 4 * maxTerms ⌝ }
+    requires { ⌜ length (now body) / 4 ≤ maxTerms ⌝ }
     ensures { λ r. ⌜ r ≡ allHold (termsOf (now (body .entry))) (readingOf kept (now (first .entry)) (now (second .entry)) (termsOf (now (body .entry)))) (length (termsOf (now (body .entry)))) ⌝ }
 {
     let n = body.len() / 4;
     let mut all = true;
-    for place in 0..n {
-        all = all & is_met(body, place, kept, first, second);
+    for i in 0..n {
+        all = all & is_met(body, i, kept, first, second);
     }
     all
 }
@@ -181,13 +178,13 @@ pub fn any_holds(
     first: &[i64; Format::MAX_VARIABLES],
     second: &[i64; Format::MAX_VARIABLES],
 ) -> bool
-    requires { ⌜ length (now body) ≤ 4 * maxTerms ⌝ }
+    requires { ⌜ length (now body) / 4 ≤ maxTerms ⌝ }
     ensures { λ r. ⌜ r ≡ anyBelow (length (termsOf (now (body .entry)))) (λ i. holds (termIn (termsOf (now (body .entry))) i) (readingOf kept (now (first .entry)) (now (second .entry)) (termsOf (now (body .entry))) i)) ⌝ }
 {
     let n = body.len() / 4;
     let mut any = false;
-    for place in 0..n {
-        any = any | is_met(body, place, kept, first, second);
+    for i in 0..n {
+        any = any | is_met(body, i, kept, first, second);
     }
     any
 }

@@ -2,8 +2,8 @@
 ghost use mathlib.Core.Path.{_≡_};
 ghost use Prim.Native.Nat.{_+_, _*_, _^_, _<_};
 ghost use lib.IntN.{pos, natAbs, _+ℤ_, _*ℤ_};
-ghost use Rattle.program.specs.Evaluate.{larger, smaller};
-ghost use Rattle.bodies.specs.Readings.{literal};
+ghost use Rattle.program.specs.Evaluate.{larger, smaller, holds};
+use program::Term;
 
 pub fn plus(a: i64, b: i64) -> i64
     requires { ⌜ natAbs a + natAbs b < 2 ^ 63 ⌝ }
@@ -39,10 +39,12 @@ pub fn size(a: i64) -> i64
     if a < 0 { 0 - a } else { a }
 }
 
-// Whether a literal of this op and number holds at a value; a plain term asks nothing.
-pub fn holds(op: u8, number: i64, value: i64) -> bool
-    ensures { λ r. ⌜ r ≡ literal op number value ⌝ }
+// Whether a literal holds at a value; a plain term asks nothing.
+pub fn holds(t: Term, value: i64) -> bool
+    ensures { λ r. ⌜ r ≡ holds t value ⌝ }
 {
+    let op = t.op;
+    let number = t.number;
     match op {
         1 => value >= number,
         2 => value < number,

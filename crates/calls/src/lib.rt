@@ -4,27 +4,13 @@ ghost use mathlib.Core.List.{List};
 ghost use Prim.Native.Nat.{ℕ, _≤_};
 ghost use lib.ListN.{length};
 ghost use Rattle.format.specs.Limits.{maxVariables};
-ghost use Rattle.program.specs.Reading.{Reads, accepted};
-ghost use Rattle.meaning.specs.Calls.{checkBytes, leastBytes, denialNumber, denialPlace, Opened};
+ghost use Rattle.program.specs.Reading.{AcceptedAs};
+ghost use Rattle.meaning.specs.Calls.{denialNumber, denialPlace, Opened};
 use meaning::Denied;
 use meaning::Opening;
 use program::Counts;
 use program::Reading;
-
-pub struct Call {}
-
-impl Call {
-    // The bytes of the lent buffer that each call asks for a variable.
-    pub const LEAST: usize = 2;
-
-    pub const CHECK: usize = 12;
-
-    // The constants of the code are those of the specification.
-    pub fn quoted()
-        ensures { λ _. do ⌜ (← ⟦Call::LEAST⟧ .entry) ≡ leastBytes ⌝ }
-        ensures { λ _. do ⌜ (← ⟦Call::CHECK⟧ .entry) ≡ checkBytes ⌝ }
-    {}
-}
+ghost use Rattle.calls.specs.Asked.{mostAsked};
 
 // The number of a call's refusal, and its place.
 pub fn denial_number(why: Denied) -> usize
@@ -49,8 +35,8 @@ pub fn denial_place(why: Denied) -> usize
 
 // A file that is accepted with these counts.
 fn fitted(assignment: &[u8], room: usize, bytes: usize, counts: Counts) -> Opening
-    requires { ⌜ (bytes ≤ checkBytes) × (counts .variables ≤ maxVariables) ⌝ }
-    ensures { λ r. ⌜ ((s b : List ℕ) → length b ≡ room → Reads s (accepted (counts .variables) (counts .rules) (counts .constraints)) → Opened bytes s (now (assignment .entry)) b r) ⌝ }
+    requires { ⌜ (bytes ≤ mostAsked) × (counts .variables ≤ maxVariables) ⌝ }
+    ensures { λ r. ⌜ ((s b : List ℕ) → length b ≡ room → AcceptedAs s counts → Opened bytes s (now (assignment .entry)) b r) ⌝ }
 {
     let n = counts.variables;
     if assignment.len() != 2 * n {
@@ -64,7 +50,7 @@ fn fitted(assignment: &[u8], room: usize, bytes: usize, counts: Counts) -> Openi
 
 // So many bytes for each variable are asked of a buffer that has `room`.
 pub fn open(file: &[u8], assignment: &[u8], room: usize, bytes: usize) -> Opening
-    requires { ⌜ bytes ≤ checkBytes ⌝ }
+    requires { ⌜ bytes ≤ mostAsked ⌝ }
     ensures { λ r. ⌜ ((b : List ℕ) → length b ≡ room → Opened bytes (now (file .entry)) (now (assignment .entry)) b r) ⌝ }
 {
     match reader::read(file) {

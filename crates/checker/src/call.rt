@@ -1,35 +1,46 @@
 // The call check.
 ghost use mathlib.Core.Path.{_≡_};
-ghost use Prim.Native.Nat.{ℕ, _+_, _*_, _<_, _≤_};
+ghost use Prim.Native.Nat.{ℕ, _*_, _<_, _≤_};
 ghost use lib.ListN.{length};
-ghost use Rattle.program.specs.Fields.{place};
-ghost use Rattle.program.specs.Program.{Program, program};
-ghost use Rattle.program.specs.Reading.{Reads, accepted, Accepts, Whole};
-ghost use Rattle.meaning.specs.Calls.{checkBytes};
+ghost use Rattle.program.specs.Program.{Program};
+ghost use Rattle.program.specs.Reading.{AcceptedAs, Accepts};
 ghost use Rattle.meaning.specs.Founded.{Within};
 ghost use Rattle.meaning.specs.Reduct.{system};
 ghost use Rattle.meaning.specs.Stable.{RuleMet};
-ghost use Rattle.tables.specs.Tabled.{Tabled};
-ghost use Rattle.verdict.specs.Checks.{answerOf, Judged, Checks};
+ghost use Rattle.reader.specs.Parts.{constraintPlace};
+ghost use Rattle.tables.specs.Tabled.{TablesOf};
+ghost use Rattle.verdict.specs.Checks.{answerOf, Judged, Checks, checkBytes};
 ghost use Rattle.verdict.specs.Demands.{Demands};
 ghost use Rattle.program.specs.Readings.{valued};
 use crate::constraints::first_unmet_constraint;
 use crate::rules::first_unmet_rule;
-use calls::Call;
 use calls::open;
-use comparison::founded::founded;
+use comparison::comparing::compare;
 use format::Format;
 use meaning::Opening;
 use program::Counts;
-use reduct::values;
-use reduct::values::Outside;
+use reduct::loading;
+use reduct::loading::Outside;
 use tables::Tables;
 use tables::fill_tables;
 use verdict::Verdict;
 use words::Found;
 
+// What the call asks of its report.
+pub struct Asks {}
+
+impl Asks {
+    // The bytes for each variable.
+    pub const BYTES: usize = 12;
+
+    // The constant of the code is that of the specification.
+    pub fn quoted()
+        ensures { λ _. do ⌜ (← ⟦Asks::BYTES⟧ .entry) ≡ checkBytes ⌝ }
+    {}
+}
+
 // An assignment that lies in its ranges and meets every rule; the constraints begin at `start`.
-fn constrained(
+fn check_constraints(
     file: &[u8],
     counts: Counts,
     start: usize,
@@ -39,9 +50,9 @@ fn constrained(
     values: &[i64; Format::MAX_VARIABLES],
     report: &mut [u8],
 ) -> Verdict
-    requires { ⌜ Reads (now file) (accepted (counts .variables) (counts .rules) (counts .constraints)) ⌝ }
-    requires { ⌜ start ≡ place (now file) (counts .variables + counts .rules) ⌝ }
-    requires { ⌜ ((k : ℕ) → Whole (now file) k → Tabled (now file) (program (now file) k) (counts .rules) (now places) (now masks) (now readers)) ⌝ }
+    requires { ⌜ AcceptedAs (now file) counts ⌝ }
+    requires { ⌜ ((P : Program) → Accepts (now file) P → start ≡ constraintPlace (now file) P 0) ⌝ }
+    requires { ⌜ TablesOf (now file) (now places) (now masks) (now readers) ⌝ }
     requires { ⌜ ((P : Program) → Accepts (now file) P → Within (system P) (valued (now values))) ⌝ }
     requires { ⌜ ((P : Program) → Accepts (now file) P → (i : ℕ) → i < length (P .rules) → RuleMet P (valued (now values)) i) ⌝ }
     requires { ⌜ checkBytes * counts .variables ≤ length (now report) ⌝ }
@@ -50,18 +61,18 @@ fn constrained(
     let unmet = first_unmet_constraint(file, start, counts, values);
     match unmet {
         Found::At(i) => Verdict::Constraint(i),
-        Found::Nothing => founded(file, counts, places, masks, readers, values, report),
+        Found::Nothing => compare(file, counts, places, masks, readers, values, report),
     }
 }
 
 // An assignment that lies in its ranges.
-fn ruled(
+fn check_rules(
     file: &[u8],
     counts: Counts,
     values: &[i64; Format::MAX_VARIABLES],
     report: &mut [u8],
 ) -> Verdict
-    requires { ⌜ Reads (now file) (accepted (counts .variables) (counts .rules) (counts .constraints)) ⌝ }
+    requires { ⌜ AcceptedAs (now file) counts ⌝ }
     requires { ⌜ ((P : Program) → Accepts (now file) P → Within (system P) (valued (now values))) ⌝ }
     requires { ⌜ checkBytes * counts .variables ≤ length (now report) ⌝ }
     ensures { λ r. ⌜ ((P : Program) → Accepts (now (file .entry)) P → Judged P (valued (now (values .entry))) (now (report .entry)) (answerOf r) (now (report .exit))) ⌝ }
@@ -74,7 +85,7 @@ fn ruled(
     match unmet {
         Found::At(i) => Verdict::Rule(i),
         Found::Nothing => {
-            constrained(
+            check_constraints(
                 file,
                 counts,
                 start,
@@ -89,18 +100,18 @@ fn ruled(
 }
 
 // A call that is not turned down.
-fn judged(file: &[u8], assignment: &[u8], report: &mut [u8], counts: Counts) -> Verdict
-    requires { ⌜ Reads (now file) (accepted (counts .variables) (counts .rules) (counts .constraints)) ⌝ }
+fn check_ranges(file: &[u8], assignment: &[u8], report: &mut [u8], counts: Counts) -> Verdict
+    requires { ⌜ AcceptedAs (now file) counts ⌝ }
     requires { ⌜ (length (now assignment) ≡ 2 * counts .variables) × (checkBytes * counts .variables ≤ length (now report)) ⌝ }
     ensures { λ r. ⌜ Checks (now (file .entry)) (now (assignment .entry)) (now (report .entry)) (answerOf r) (now (report .exit)) ⌝ }
 {
     let n = counts.variables;
     let mut loaded = [0i64; Format::MAX_VARIABLES];
-    values::load(assignment, &mut loaded);
-    let outside = values::first_outside(file, n, &loaded);
+    loading::load(assignment, &mut loaded);
+    let outside = loading::first_outside(file, n, &loaded);
     match outside {
         Outside::At(v) => Verdict::Range(v),
-        Outside::Nowhere => ruled(file, counts, &loaded, report),
+        Outside::Nowhere => check_rules(file, counts, &loaded, report),
     }
 }
 
@@ -109,8 +120,8 @@ pub fn check(file: &[u8], assignment: &[u8], report: &mut [u8]) -> Verdict
     ensures { λ r. ⌜ Checks (now (file .entry)) (now (assignment .entry)) (now (report .entry)) (answerOf r) (now (report .exit)) ⌝ }
     ensures { λ r. ⌜ Demands (now (file .entry)) (now (assignment .entry)) (now (report .entry)) (answerOf r) (now (report .exit)) ⌝ }
 {
-    match open(file, assignment, report.len(), Call::CHECK) {
+    match open(file, assignment, report.len(), Asks::BYTES) {
         Opening::Closed(why) => Verdict::Refused(why),
-        Opening::Open(counts) => judged(file, assignment, report, counts),
+        Opening::Open(counts) => check_ranges(file, assignment, report, counts),
     }
 }

@@ -1,17 +1,17 @@
 // The constraints under an assignment.
 ghost use mathlib.Core.Path.{_≡_};
-ghost use Prim.Native.Nat.{_+_};
 ghost use lib.ListN.{length};
-ghost use Rattle.program.specs.Fields.{place};
 ghost use Rattle.program.specs.Program.{Program};
-ghost use Rattle.program.specs.Reading.{Reads, accepted, Accepts};
-ghost use Rattle.bodies.specs.Readings.{Small};
+ghost use Rattle.program.specs.Reading.{AcceptedAs, Accepts};
+ghost use Rattle.reader.specs.Parts.{constraintPlace};
 ghost use Rattle.meaning.specs.Stable.{ConstraintMet};
 ghost use Rattle.checker.specs.Met.{UnmetIs};
 ghost use Rattle.program.specs.Readings.{valued};
+ghost use Rattle.program.specs.Evaluable.{Small};
 use evaluation::constraints;
-use fields::cursor;
 use format::Format;
+use parts::places::next_at;
+use parts::places::value_at;
 use program::Counts;
 use words::Found;
 
@@ -22,8 +22,8 @@ pub fn first_unmet_constraint(
     counts: Counts,
     assigned: &[i64; Format::MAX_VARIABLES],
 ) -> Found
-    requires { ⌜ Reads (now file) (accepted (counts .variables) (counts .rules) (counts .constraints)) ⌝ }
-    requires { ⌜ start ≡ place (now file) (counts .variables + counts .rules) ⌝ }
+    requires { ⌜ AcceptedAs (now file) counts ⌝ }
+    requires { ⌜ ((P : Program) → Accepts (now file) P → start ≡ constraintPlace (now file) P 0) ⌝ }
     requires { ⌜ Small (now assigned) ⌝ }
     ensures { λ r. ⌜ ((P : Program) → Accepts (now (file .entry)) P → UnmetIs (ConstraintMet P (valued (now (assigned .entry)))) (length (P .constraints)) r) ⌝ }
 {
@@ -31,13 +31,10 @@ pub fn first_unmet_constraint(
     let mut at = start;
     let mut i = 0;
     while i < n {
-        let e = cursor::extent_at(file, at);
-        let from = e.start;
-        let len = e.len;
-        if !constraints::satisfied(&file[from..from + len], assigned) {
+        if !constraints::satisfied(value_at(file, at), assigned) {
             return Found::At(i);
         }
-        at = e.next;
+        at = next_at(file, at);
         i += 1;
     }
     Found::Nothing

@@ -1,11 +1,11 @@
 // The rules under an assignment.
 ghost use Rattle.program.specs.Program.{Program};
-ghost use Rattle.bodies.specs.Readings.{Small};
 ghost use lib.ListN.{length};
 ghost use Rattle.meaning.specs.Stable.{RuleMet};
 ghost use Rattle.tables.specs.Laid.{Placed, Laid};
 ghost use Rattle.checker.specs.Met.{UnmetIs};
 ghost use Rattle.program.specs.Readings.{valued};
+ghost use Rattle.program.specs.Evaluable.{Small};
 use format::Format;
 use program::Counts;
 use run::Demand;

@@ -8,41 +8,36 @@ use borrow.Author.Tests.{eqb-true}
 use lib.Dec.{T, eqb, not-T, ltb, ltb→lt, nltb→le}
 use lib.IntN.{ℤ, pos}
 use lib.ListN.{length, drop}
-use lib.Signed.{leZ}
 use Rattle.format.specs.Limits.{maxVariables}
 use Rattle.words.specs.Bit.{one-if, countFrom}
-use Rattle.program.specs.Program.{Program, Variable, ruleIn, variableIn, variablesAt}
+use Rattle.program.specs.Program.{Program, ruleIn, variableIn, variablesAt}
 use Rattle.program.specs.Variables as variables
-use Rattle.program.specs.Reading.{Reads, accepted, Accepts}
+use Rattle.program.specs.Reading.{AcceptedAs, Accepts}
 use Rattle.program.specs.Directions.{direction}
 use Rattle.program.specs.declared.Counts.{Counts}
 use Rattle.program.specs.declared.Direction.{Direction}
 use Rattle.program.proofs.Conditions.{never, both, some-below}
 use Rattle.program.proofs.Promises.{Promises, accepts-promises}
-use Rattle.program.proofs.Unique.{accepts-unique}
-use Rattle.bodies.specs.Readings.{Small}
-use Rattle.validity.proofs.RuleLaws.{variables-few}
-use Rattle.reader.proofs.Published as published
+use Rattle.reader.proofs.Published.{reads-accepts, counts-of, variables-are, program-limited}
 use Rattle.meaning.specs.Founded.{Model, Least}
 use Rattle.meaning.specs.Reduct.{system}
 use Rattle.meaning.specs.Stable.{Meets}
-use Rattle.meaning.specs.Calls.{checkBytes}
 use Rattle.run.specs.Running.{EndsWith}
-use Rattle.tables.specs.Laid.{Placed, Laid}
 use Rattle.run.specs.declared.Ending.{Ending}
 use Rattle.run.specs.declared.Ending.the-variants as ending
-use Rattle.meaning.proofs.Tests.{cases, is-true, is-test, and-left}
 use Rattle.meaning.proofs.InRanges.{founded-declared, past-zero, within-small}
-use Rattle.reader.proofs.Accepted.{accept, counted}
 use Rattle.meaning.proofs.Theory.{self-model, self-least-iff}
 use Rattle.meaning.proofs.Monotone.{laws}
-use Rattle.report.specs.Report.{bytesIn, ascending, boundsOf, conditionsOf, asksMost, asksLeast, askedBy, asked, shown, bounds, conditions, reported}
+use Rattle.report.specs.Report.{bytesIn, ascending, boundsOf, conditionsOf, asksMost, asksLeast, askedAt, askedBy, asked, shown, bounds, conditions, reported}
 use Rattle.report.proofs.Entries.{ascending-past, bounds-count, conditions-count}
-use Rattle.verdict.specs.Checks.{Answer, unfounded, stable, answerOf, Judged, not-founded, founded}
+use Rattle.verdict.specs.Checks.{Answer, unfounded, stable, answerOf, Judged, not-founded, founded, checkBytes}
 use Rattle.comparison.specs.Shows.{ShowsSets}
 use Rattle.verdict.specs.declared.Verdict.{Verdict}
-use Rattle.tables.proofs.LaidLaws.{placed-in}
 use Rattle.program.specs.Readings.{Valuation, bodyVariable, kept, valued}
+use Rattle.program.specs.declared.Variable.{Variable}
+use Rattle.program.specs.Evaluable.{Small}
+use Rattle.program.proofs.Tests.{cases, is-true, is-test}
+use Rattle.program.proofs.Variables.{short-founded}
 
 -- ---- counts
 
@@ -92,19 +87,19 @@ module _ {P : Program} (promised : Promises P) where
   shown-past θ m v h = go (shown P θ m v) refl
     where
       go : (b : Bool) → shown P θ m v ≡ b → b ≡ false
-      go true e = let l = founded-declared (P .variables) v (and-left (system P .founded v) (not (leZ (θ v) (m v))) (is-test e)) in let f : ⊥ = omega arith in absurd f
+      go true e = let l = founded-declared (P .variables) v (short-founded (variableIn (P .variables) v) (θ v) (m v) (is-test e)) in let f : ⊥ = omega arith in absurd f
       go false e = refl
 
   pub asked-past : (set : ℕ → Bool) (asks : Direction → Bool → Bool) (v : ℕ) → length (P .variables) ≤ v → asked P set asks v ≡ false
-  unfolding asked askedBy
+  unfolding asked askedBy askedAt
   asked-past set asks v h = go (asked P set asks v) refl
     where
       go : (b : Bool) → asked P set asks v ≡ b → b ≡ false
       go false e = refl
       go true e =
-          let i = some-below (length (P .rules)) (λ i. set (ruleIn (P .rules) i .head) && askedBy P set asks (ruleIn (P .rules) i) v) e in
+          let i = some-below (length (P .rules)) (λ i. set (ruleIn (P .rules) i .head) && askedBy (P .variables) set asks (ruleIn (P .rules) i) v) e in
           let r = ruleIn (P .rules) (i .0) in
-          let q = both (set (r .head)) (askedBy P set asks r v) (i .2) in
+          let q = both (set (r .head)) (askedBy (P .variables) set asks r v) (i .2) in
           let j = some-below (length (r .terms)) (λ j. asks (direction (P .variables) r j) (kept (P .variables) r j && set (bodyVariable r j)) && eqb (bodyVariable r j) v) (q .1) in
           let w = both (asks (direction (P .variables) r (j .0)) (kept (P .variables) r (j .0) && set (bodyVariable r (j .0)))) (eqb (bodyVariable r (j .0)) v) (j .2) in
           let l = promised .rules (i .0) (i .1) .body .terms (j .0) (j .1) .declared in
@@ -113,9 +108,9 @@ module _ {P : Program} (promised : Promises P) where
 -- ---- the verdict
 
 -- the run ends in the least model
-pub ends-least : {P : Program} {θ m : Valuation} → Meets P θ → (r : Ending) → EndsWith P θ m r → Least (system P) θ m
-ends-least t ending.Model l = l
-ends-least {θ = θ} t ending.NoModel n = absurd (n θ (self-model (t .ranges) (t .rules)))
+pub ends-least : (P : Program) {θ m : Valuation} → Meets P θ → (r : Ending) → EndsWith P θ m r → Least (system P) θ m
+ends-least P t ending.Model l = l
+ends-least P {θ} t ending.NoModel n = absurd (n θ (self-model (t .ranges) (t .rules)))
 
 module _ {P : Program} (promised : Promises P) (few : length (P .variables) ≤ maxVariables) {θ m : Valuation} (meets : Meets P θ) (least : Least (system P) θ m)
     (set : ℕ → Bool) (is : (v : ℕ) → set v ≡ shown P θ m v) (b : List ℕ) where
@@ -128,7 +123,7 @@ module _ {P : Program} (promised : Promises P) (few : length (P .variables) ≤ 
       none : (v : ℕ) → T (not (shown P θ m v))
       none v = not-T (shown P θ m v) (λ t. never (is v ∙ is-true (shown P θ m v) t)
           (count-none set 0 maxVariables e v (omega arith)
-          (let l = founded-declared (P .variables) v (and-left (system P .founded v) (not (leZ (θ v) (m v))) t) in omega arith)))
+          (let l = founded-declared (P .variables) v (short-founded (variableIn (P .variables) v) (θ v) (m v) t) in omega arith)))
 
   module _ (most lower : ℕ → Bool) (most-is : (v : ℕ) → most v ≡ asked P set asksMost v) (least-is : (v : ℕ) → lower v ≡ asked P set asksLeast v) where
     same-most : most ≡ asked P (shown P θ m) asksMost
@@ -180,52 +175,44 @@ module _ {P : Program} (promised : Promises P) (few : length (P .variables) ≤ 
 
 -- ---- a file with these counts, in which every program that it means is met by θ
 
-module _ (s : List ℕ) (k : Counts) (r : Reads s (accepted (k .variables) (k .rules) (k .constraints))) (θ : List ℤ)
+module _ (s : List ℕ) (k : Counts) (r : AcceptedAs s k) (θ : List ℤ)
     (meets : (P : Program) → Accepts s P → Meets P (valued θ)) where
-  few-variables : k .variables ≤ maxVariables
-  few-variables = variables-few (counted s k r)
-
-  same-count : {P : Program} → Accepts s P → length (P .variables) ≡ k .variables
-  same-count x = let e = ap (λ (Q : Program). length (Q .variables)) (accepts-unique (accept s k r .accepts) x) in omega (arith, accept s k r .variables-are)
-
   -- past the last variable the assignment is 0, as the model is before the run
   pub starts-past : (m : Valuation) → ((v : ℕ) → m v ≡ pos 0) → (v : ℕ) → k .variables ≤ v → m v ≡ valued θ v
   starts-past m z v h =
-      let x = accept s k r .accepts in
-      z v ∙ sym (past-zero (accept s k r .meant) (meets (accept s k r .meant) x .ranges) v (omega (arith, same-count x)))
+      let a = reads-accepts r in
+      z v ∙ sym (past-zero (a .meant) (meets (a .meant) (a .accepts) .ranges) v (omega (arith, a .variables-are)))
 
   pub assigned-small : Small θ
-  assigned-small = within-small (accepts-promises (accept s k r .accepts)) θ (meets (accept s k r .meant) (accept s k r .accepts) .ranges)
+  assigned-small = let a = reads-accepts r in within-small (accepts-promises (a .accepts)) θ (meets (a .meant) (a .accepts) .ranges)
 
   -- the run has ended in m
   module _ (m : List ℤ) (e : Ending) (ends : (P : Program) → Accepts s P → EndsWith P (valued θ) (valued m) e) (b : List ℕ) where
     least : (P : Program) (x : Accepts s P) → Least (system P) (valued θ) (valued m)
-    least P x = ends-least (meets P x) e (ends P x)
+    least P x = ends-least P (meets P x) e (ends P x)
 
     model-small : Small m
-    model-small = within-small (accepts-promises (accept s k r .accepts)) m (least (accept s k r .meant) (accept s k r .accepts) .model .within)
+    model-small = let a = reads-accepts r in within-small (accepts-promises (a .accepts)) m (least (a .meant) (a .accepts) .model .within)
 
-    module _ (set : ℕ → Bool) (is : (v : ℕ) → set v ≡ (variables.founded (variableIn (variablesAt s (k .variables)) v) && not (leZ (valued θ v) (valued m v)))) where
+    module _ (set : ℕ → Bool) (is : (v : ℕ) → set v ≡ variables.short (variableIn (variablesAt s (k .variables)) v) (valued θ v) (valued m v)) where
       set-is : (P : Program) → Accepts s P → (v : ℕ) → set v ≡ shown P (valued θ) (valued m) v
       set-is P x v =
-          is v ∙ ap (λ (vs : List Variable). variables.founded (variableIn vs v) && not (leZ (valued θ v) (valued m v)))
-          (sym (published.variables-are x ∙ ap (variablesAt s) (same-count x)))
+          is v ∙ ap (λ (vs : List Variable). variables.short (variableIn vs v) (valued θ v) (valued m v)) (sym (variables-are r x))
 
       few-in : (P : Program) → Accepts s P → length (P .variables) ≤ maxVariables
-      few-in P x = omega (arith, same-count x, few-variables)
+      few-in P x = program-limited x .few-variables
 
       pub none-short : countFrom set 0 maxVariables ≡ 0 → (P : Program) → Accepts s P → Judged P (valued θ) b stable b
       none-short q P x = all-founded (accepts-promises x) (few-in P x) (meets P x) (least P x) set (set-is P x) b q
 
-      module _ {ps ms : List ℕ} (l : Laid s k ps ms) (most lower : ℕ → Bool)
-          (most-is : (P : Program) → Placed s P ps ms → (v : ℕ) → most v ≡ asked P set asksMost v)
-          (least-is : (P : Program) → Placed s P ps ms → (v : ℕ) → lower v ≡ asked P set asksLeast v) where
+      module _ (most lower : ℕ → Bool) (most-is : (P : Program) → Accepts s P → (v : ℕ) → most v ≡ asked P set asksMost v)
+          (least-is : (P : Program) → Accepts s P → (v : ℕ) → lower v ≡ asked P set asksLeast v) where
         pub shown-room : checkBytes * k .variables ≤ length b
             → 4 * (countFrom set 0 maxVariables + (countFrom most 0 maxVariables + countFrom lower 0 maxVariables)) ≤ length b
         shown-room h =
-            let x = accept s k r .accepts in let P = accept s k r .meant in
-            room-enough (accepts-promises x) (few-in P x) (meets P x) (least P x) set (set-is P x) b most lower (most-is P (placed-in l P x)) (least-is P (placed-in l P x))
-            (omega (arith, same-count x))
+            let x = reads-accepts r .accepts in let P = reads-accepts r .meant in
+            room-enough (accepts-promises x) (few-in P x) (meets P x) (least P x) set (set-is P x) b most lower (most-is P x) (least-is P x)
+            (omega (arith, counts-of r x .variables-are))
 
         pub shown-small : Small m × Small θ
         shown-small = (model-small, assigned-small)
@@ -233,4 +220,4 @@ module _ (s : List ℕ) (k : Counts) (r : Reads s (accepted (k .variables) (k .r
         pub some-short : (countFrom set 0 maxVariables ≡ 0 → ⊥) → (b′ : List ℕ) (v : Verdict) → ShowsSets set most lower (valued m) (valued θ) b b′ v
             → (P : Program) → Accepts s P → Judged P (valued θ) b (answerOf v) b′
         some-short q b′ v w P x =
-            all-shown (accepts-promises x) (few-in P x) (meets P x) (least P x) set (set-is P x) b most lower (most-is P (placed-in l P x)) (least-is P (placed-in l P x)) q b′ v w
+            all-shown (accepts-promises x) (few-in P x) (meets P x) (least P x) set (set-is P x) b most lower (most-is P x) (least-is P x) q b′ v w

@@ -11,8 +11,20 @@ use Rattle.verdict.specs.Checks.{unfounded, answerOf}
 use Rattle.verdict.specs.declared.Verdict.{Verdict}
 use Rattle.program.specs.Readings.{Valuation}
 
--- the answer and the report b′ show a set with its bounds m, and its conditions with the values θ
+-- how many variables a set has
+abbrev pub sizeOf : (ℕ → Bool) → ℕ
+sizeOf set = countFrom set 0 maxVariables
+
+-- how many entries show a set and its conditions
+abbrev pub entryCount : (ℕ → Bool) → (ℕ → Bool) → (ℕ → Bool) → ℕ
+entryCount set most least = sizeOf set + (sizeOf most + sizeOf least)
+
+-- the report that was b, with a set and its bounds m, and its conditions with the values θ, from its first byte on
+abbrev pub withSets : (ℕ → Bool) → (ℕ → Bool) → (ℕ → Bool) → Valuation → Valuation → List ℕ → List ℕ
+withSets set most least m θ b =
+    bytesIn (ascending (boundsOf set m) maxVariables ++ ascending (conditionsOf most least θ) maxVariables) ++ drop (4 * entryCount set most least) b
+
+-- the answer and the report b′ show them
 pub record ShowsSets (set most least : ℕ → Bool) (m θ : Valuation) (b b′ : List ℕ) (r : Verdict) : Type 0 where
-  pub answer : answerOf r ≡ unfounded (countFrom set 0 maxVariables) (countFrom most 0 maxVariables + countFrom least 0 maxVariables)
-  pub bytes : b′ ≡ bytesIn (ascending (boundsOf set m) maxVariables ++ ascending (conditionsOf most least θ) maxVariables)
-      ++ drop (4 * (countFrom set 0 maxVariables + (countFrom most 0 maxVariables + countFrom least 0 maxVariables))) b
+  pub answer : answerOf r ≡ unfounded (sizeOf set) (sizeOf most + sizeOf least)
+  pub bytes : b′ ≡ withSets set most least m θ b

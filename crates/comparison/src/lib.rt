@@ -1,3 +1,3 @@
 // Stable or unfounded: the least model compared with the assignment, and the report.
-pub mod founded;
+pub mod comparing;
 pub mod reporting;

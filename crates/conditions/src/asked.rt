@@ -1,47 +1,41 @@
 // What the rules with a head in a set ask of the assignment.
 ghost use mathlib.Core.Path.{_≡_};
 ghost use Prim.Native.Nat.{ℕ};
-ghost use Rattle.program.specs.Program.{Program, variablesAt};
-ghost use Rattle.program.specs.Fields.{valueAt};
 ghost use Rattle.words.specs.Bit.{has};
+ghost use Rattle.program.specs.Fields.{valueAt};
+ghost use Rattle.program.specs.Program.{Program, ruleOf, variablesAt};
+ghost use Rattle.program.specs.Reading.{AcceptedAs, Accepts};
 ghost use Rattle.tables.specs.Entries.{RuleHere};
-ghost use Rattle.tables.specs.Laid.{Placed, Laid};
+ghost use Rattle.tables.specs.Laid.{PlacesOf};
 ghost use Rattle.report.specs.Report.{asked, asksMost, asksLeast};
-ghost use Rattle.conditions.specs.Asking.{Grown, asksInto};
-use crate::places::Asked;
-use crate::places::ask_rule;
-use fields::cursor;
+ghost use Rattle.conditions.specs.Asking.{AsksMore, askedInto};
+use crate::asking::Asked;
+use crate::asking::ask_rule;
 use format::Format;
+use parts::places::value_at;
+use parts::rules;
 use program::Counts;
 use sets::Set;
 
 // What the rule whose field stands at `at` asks, where its head is in the set.
-fn ask_field(before: Asked, file: &[u8], variables: usize, at: usize, mask: u32, set: Set) -> Asked
+fn ask_field(before: Asked, file: &[u8], variables: usize, at: usize, set: Set) -> Asked
     requires { ⌜ RuleHere (now file) variables at ⌝ }
-    ensures { λ r. ⌜ Grown before r (asksInto (variablesAt (now (file .entry)) variables) (has (set .words)) (valueAt (now (file .entry)) at) mask) ⌝ }
+    ensures { λ r. ⌜ AsksMore before r (askedInto (variablesAt (now (file .entry)) variables) (has (set .words)) (ruleOf (valueAt (now (file .entry)) at))) ⌝ }
 {
-    let e = cursor::extent_at(file, at);
-    let start = e.start;
-    let len = e.len;
-    let end = start + len;
-    let head = file[start + 1];
-    if !set.contains(head) {
+    let value = value_at(file, at);
+    let rule = rules::header(value);
+    if !set.contains(rule.head) {
         return before;
     }
-    ask_rule(before, file, variables, &file[start..end], mask, set)
+    ask_rule(before, file, variables, value, set)
 }
 
 // The variables with a condition 'at most' and those with one 'at least', from the rules with a head in the set.
-pub fn asked(
-    file: &[u8],
-    counts: Counts,
-    places: &[usize; Format::MAX_RULES],
-    masks: &[u32; Format::MAX_RULES],
-    set: Set,
-) -> Asked
-    requires { ⌜ Laid (now file) counts (now places) (now masks) ⌝ }
-    ensures { λ r. ⌜ ((P : Program) → Placed (now (file .entry)) P (now (places .entry)) (now (masks .entry)) → (v : ℕ) → has (r .most .words) v ≡ asked P (has (set .words)) asksMost v) ⌝ }
-    ensures { λ r. ⌜ ((P : Program) → Placed (now (file .entry)) P (now (places .entry)) (now (masks .entry)) → (v : ℕ) → has (r .least .words) v ≡ asked P (has (set .words)) asksLeast v) ⌝ }
+pub fn asked(file: &[u8], counts: Counts, places: &[usize; Format::MAX_RULES], set: Set) -> Asked
+    requires { ⌜ AcceptedAs (now file) counts ⌝ }
+    requires { ⌜ PlacesOf (now file) (now places) ⌝ }
+    ensures { λ r. ⌜ ((P : Program) → Accepts (now (file .entry)) P → (v : ℕ) → has (r .most .words) v ≡ asked P (has (set .words)) asksMost v) ⌝ }
+    ensures { λ r. ⌜ ((P : Program) → Accepts (now (file .entry)) P → (v : ℕ) → has (r .least .words) v ≡ asked P (has (set .words)) asksLeast v) ⌝ }
 {
     let n = counts.variables;
     let rules = counts.rules;
@@ -53,8 +47,7 @@ pub fn asked(
     let mut i = 0;
     while i < rules {
         let at = places[i];
-        let mask = masks[i];
-        let next = ask_field(all, file, n, at, mask, set);
+        let next = ask_field(all, file, n, at, set);
         all = next;
         i += 1;
     }

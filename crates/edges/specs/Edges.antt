@@ -1,23 +1,16 @@
--- What the code finds of the places of a rule, rows being a test of two variables.
-use Prim.Native.Nat.{ℕ, _+_, _*_, _<_, _≤_}
+-- What the code finds of the positions of a rule, rows being a test of two variables.
+use Prim.Native.Nat.{ℕ, _<_}
 use mathlib.Core.Path.{_≡_}
 use mathlib.Core.List.{List}
 use mathlib.Core.Bool.{Bool, _||_, _&&_}
-use lib.ListN.{length, getD}
+use lib.ListN.{length}
 use lib.Dec.{eqb}
 use Rattle.format.specs.Limits.{maxVariables}
 use Rattle.program.specs.Tables.{anyBelow}
-use Rattle.program.specs.Program.{Variable, Rule, ruleOf, termIn}
+use Rattle.program.specs.Program.{Rule, termIn}
 use Rattle.program.specs.Directions.{direction, isRising, isMixed}
 use Rattle.program.specs.declared.Direction.{Direction}
-
--- v is the value of a rule in a file of n variables: it has a rule's length, and its variables are declared
-pub record Standing (s : List ℕ) (n : ℕ) (v : List ℕ) : Type 0 where
-  pub inside : 8 * n ≤ length s
-  pub few : n ≤ maxVariables
-  pub sized : length v ≡ 4 + 4 * length (ruleOf v .terms)
-  pub head : getD v 1 0 < n
-  pub declared : (i : ℕ) → i < length (ruleOf v .terms) → getD v (4 + 4 * i) 0 < n
+use Rattle.program.specs.declared.Variable.{Variable}
 
 -- r′ is r with the edges of e
 pub record Grown (r r′ e : ℕ → ℕ → Bool) : Type 0 where
@@ -28,11 +21,11 @@ pub record Grown (r r′ e : ℕ → ℕ → Bool) : Type 0 where
 unfoldable pub anyMixed : List Variable → Rule → Bool
 anyMixed vs r = anyBelow (length (r .terms)) (λ i. isMixed (direction vs r i))
 
--- a place that pushes this way draws an edge
+-- a position that pushes this way draws an edge
 abbrev pub drawsEdge : Direction → Bool
 drawsEdge d = isRising d || isMixed d
 
--- place i draws an edge from x to y
+-- position i draws an edge from x to y
 unfoldable pub drawsAt : List Variable → Rule → ℕ → ℕ → ℕ → Bool
 drawsAt vs r i x y = eqb (r .head) x && (eqb (termIn (r .terms) i .variable) y && drawsEdge (direction vs r i))
 

@@ -3,48 +3,37 @@ ghost use mathlib.Core.Path.{_≡_};
 ghost use Prim.Native.Nat.{_<_};
 ghost use lib.ListN.{length};
 ghost use Rattle.program.specs.Program.{ruleOf, variablesAt};
-ghost use Rattle.program.specs.Directions.{direction};
+ghost use Rattle.parts.specs.Values.{Standing};
 ghost use Rattle.reach.specs.Rows.{rowsLength, rowHas};
-ghost use Rattle.edges.specs.Edges.{Standing, Grown, drawsEdge, drawsAt, drawsIn};
-use parts::directions;
-use program::Direction;
+ghost use Rattle.edges.specs.Edges.{Grown, drawsAt, drawsIn};
+use parts::rules;
+use positions::position_at;
 use reach::Rows;
 use reach::mark;
 
-pub mod places;
+pub mod mixed;
 
-// Whether a place that pushes this way draws an edge.
-fn draws_edge(d: Direction) -> bool
-    ensures { λ r. ⌜ r ≡ drawsEdge d ⌝ }
-{
-    match d {
-        Direction::Rising => true,
-        Direction::Falling => false,
-        Direction::Mixed => true,
-    }
-}
-
-// Whether place i of the rule in a field's value draws an edge.
-fn draws_place(file: &[u8], variables: usize, value: &[u8], i: usize) -> bool
-    requires { ⌜ Standing (now file) variables (now value) ⌝ }
-    requires { ⌜ i < length (ruleOf (now value) .terms) ⌝ }
-    ensures { λ r. ⌜ r ≡ drawsEdge (direction (variablesAt (now (file .entry)) variables) (ruleOf (now (value .entry))) i) ⌝ }
-{
-    draws_edge(directions::direction(file, variables, value, i))
-}
-
-// The edge that place i draws.
-fn mark_place(rows: &mut [u64; Rows::LENGTH], file: &[u8], variables: usize, value: &[u8], i: usize)
+// The edge that position i of the rule in a field's value draws, if it rises or is mixed.
+fn mark_position(
+    rows: &mut [u64; Rows::LENGTH],
+    file: &[u8],
+    variables: usize,
+    value: &[u8],
+    i: usize,
+)
     requires { ⌜ Standing (now file) variables (now value) ⌝ }
     requires { ⌜ (i < length (ruleOf (now value) .terms)) × (length (now rows) ≡ rowsLength) ⌝ }
     ensures { λ _. ⌜ length (now (rows .exit)) ≡ rowsLength ⌝ }
     ensures { λ _. ⌜ Grown (rowHas (now (rows .entry))) (rowHas (now (rows .exit))) (drawsAt (variablesAt (now (file .entry)) variables) (ruleOf (now (value .entry))) i) ⌝ }
 {
-    if !draws_place(file, variables, value, i) {
+    let p = position_at(file, variables, value, i);
+    let d = p.direction;
+    if d.is_falling() {
         return;
     }
-    let head = format::wide(value[1]);
-    let x = format::wide(value[4 + 4 * i]);
+    let rule = rules::header(value);
+    let head = format::wide(rule.head);
+    let x = format::wide(p.variable);
     mark(rows, head, x);
 }
 
@@ -55,10 +44,10 @@ pub fn mark_rule(rows: &mut [u64; Rows::LENGTH], file: &[u8], variables: usize, 
     ensures { λ _. ⌜ length (now (rows .exit)) ≡ rowsLength ⌝ }
     ensures { λ _. ⌜ Grown (rowHas (now (rows .entry))) (rowHas (now (rows .exit))) (drawsIn (variablesAt (now (file .entry)) variables) (ruleOf (now (value .entry)))) ⌝ }
 {
-    let n = value.len() / 4 - 1;
+    let n = rules::positions(value);
     let mut i = 0;
     while i < n {
-        mark_place(rows, file, variables, value, i);
+        mark_position(rows, file, variables, value, i);
         i += 1;
     }
 }

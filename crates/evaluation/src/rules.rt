@@ -1,57 +1,69 @@
-// What a rule gives when place i of its body is read in `first` where bit i of `kept` is set, and in `second` else.
+// What a rule gives when position i of its body is read in `first` where bit i of `kept` is set, and in `second` else.
 ghost use mathlib.Core.Path.{_≡_};
-ghost use Prim.Native.Nat.{_+_, _*_};
-ghost use lib.ListN.{length, drop};
+ghost use mathlib.Core.Bool.{false};
+ghost use Prim.Native.Nat.{_/_, _≤_};
+ghost use lib.ListN.{length};
+ghost use Rattle.format.specs.Limits.{maxTerms};
 ghost use Rattle.program.specs.Program.{ruleOf, termsOf};
-ghost use Rattle.program.specs.Evaluate.{onlyIf, evaluate};
-ghost use Rattle.bodies.specs.Readings.{readingOf, headless, Small, Evaluable};
+ghost use Rattle.program.specs.Evaluate.{allHold, amount, evaluate};
+ghost use Rattle.program.specs.Evaluable.{Small, Plain, hasLiterals, Evaluable};
+ghost use Rattle.parts.specs.Values.{ruleHeader, headed};
+ghost use Rattle.bodies.specs.Readings.{readingOf};
 use bodies::numbers;
 use format::Format;
+use parts::rules;
+use parts::rules::RuleHeader;
 use program::Given;
 
-// The value of a rule that gives it only if its literals hold.
-fn only_if(met: bool, a: i64) -> Given
-    ensures { λ r. ⌜ r ≡ onlyIf met a ⌝ }
-{
-    if met { Given::Value(a) } else { Given::Nothing }
-}
-
-// A rule by its form, c and body.
-fn evaluated(
+// Whether every literal of a body holds; only forms 6 and 7 have literals.
+fn is_met(
     form: u8,
-    c: i64,
     body: &[u8],
     kept: u32,
     first: &[i64; Format::MAX_VARIABLES],
     second: &[i64; Format::MAX_VARIABLES],
-) -> Given
-    requires { ⌜ Evaluable (headless form c (termsOf (now body))) ⌝ }
-    requires { ⌜ length (now body) ≡ 4 * length (termsOf (now body)) ⌝ }
-    requires { ⌜ Small (now first) × Small (now second) ⌝ }
-    ensures { λ r. ⌜ r ≡ evaluate (headless form c (termsOf (now (body .entry)))) (readingOf kept (now (first .entry)) (now (second .entry)) (termsOf (now (body .entry)))) ⌝ }
+) -> bool
+    requires { ⌜ length (now body) / 4 ≤ maxTerms ⌝ }
+    requires { ⌜ (hasLiterals form ≡ false → Plain (termsOf (now body))) ⌝ }
+    ensures { λ r. ⌜ r ≡ allHold (termsOf (now (body .entry))) (readingOf kept (now (first .entry)) (now (second .entry)) (termsOf (now (body .entry)))) (length (termsOf (now (body .entry)))) ⌝ }
 {
     match form {
-        1 => Given::Value(bodies::sum(c, body, kept, first, second)),
-        2 => Given::Value(numbers::plus(c, bodies::largest(body, kept, first, second))),
-        3 => Given::Value(numbers::plus(c, bodies::smallest(body, kept, first, second))),
-        4 => Given::Value(numbers::plus(c, bodies::product(body, kept, first, second))),
-        5 => {
-            let only = bodies::read_place(body, 0, kept, first, second);
-            Given::Value(numbers::plus(c, numbers::size(only)))
-        }
-        6 => only_if(bodies::all_hold(body, kept, first, second), c),
-        7 => {
-            let carried = bodies::read_place(body, 0, kept, first, second);
-            only_if(
-                bodies::all_hold(body, kept, first, second),
-                numbers::plus(c, carried),
-            )
-        }
-        0 | 8..=255 => Given::Nothing,
+        6 => bodies::all_hold(body, kept, first, second),
+        7 => bodies::all_hold(body, kept, first, second),
+        0..=5 | 8..=255 => true,
     }
 }
 
-// The rule in a field's value: form (1), head (1), c (2), terms.
+// What the rule with this header and body amounts to.
+fn amount(
+    rule: RuleHeader,
+    body: &[u8],
+    kept: u32,
+    first: &[i64; Format::MAX_VARIABLES],
+    second: &[i64; Format::MAX_VARIABLES],
+) -> i64
+    requires { ⌜ Evaluable (headed rule (termsOf (now body))) ⌝ }
+    requires { ⌜ Small (now first) × Small (now second) ⌝ }
+    ensures { λ r. ⌜ r ≡ amount (headed rule (termsOf (now (body .entry)))) (readingOf kept (now (first .entry)) (now (second .entry)) (termsOf (now (body .entry)))) ⌝ }
+{
+    let form = rule.form;
+    let c = rule.c;
+    match form {
+        1 => bodies::sum(c, body, kept, first, second),
+        2 => numbers::plus(c, bodies::largest(body, kept, first, second)),
+        3 => numbers::plus(c, bodies::smallest(body, kept, first, second)),
+        4 => numbers::plus(c, bodies::product(body, kept, first, second)),
+        5 => {
+            let only = bodies::read_position(body, 0, kept, first, second);
+            numbers::plus(c, numbers::size(only))
+        }
+        6 => c,
+        7 => numbers::plus(c, bodies::read_position(body, 0, kept, first, second)),
+        0 | 8..=255 => c,
+    }
+}
+
+// The rule in a field's value.
 pub fn gives(
     value: &[u8],
     kept: u32,
@@ -59,11 +71,14 @@ pub fn gives(
     second: &[i64; Format::MAX_VARIABLES],
 ) -> Given
     requires { ⌜ Evaluable (ruleOf (now value)) ⌝ }
-    requires { ⌜ length (now value) ≡ 4 + 4 * length (ruleOf (now value) .terms) ⌝ }
+    requires { ⌜ ruleHeader ≤ length (now value) ⌝ }
     requires { ⌜ Small (now first) × Small (now second) ⌝ }
-    ensures { λ r. ⌜ r ≡ evaluate (ruleOf (now (value .entry))) (readingOf kept (now (first .entry)) (now (second .entry)) (termsOf (drop 4 (now (value .entry))))) ⌝ }
+    ensures { λ r. ⌜ r ≡ evaluate (ruleOf (now (value .entry))) (readingOf kept (now (first .entry)) (now (second .entry)) (ruleOf (now (value .entry)) .terms)) ⌝ }
 {
-    let form = value[0];
-    let c = format::signed_at(value, 2);
-    evaluated(form, c, &value[4..], kept, first, second)
+    let rule = rules::header(value);
+    let body = rules::body(value);
+    if !is_met(rule.form, body, kept, first, second) {
+        return Given::Nothing;
+    }
+    Given::Value(amount(rule, body, kept, first, second))
 }

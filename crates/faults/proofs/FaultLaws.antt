@@ -4,25 +4,20 @@ use mathlib.Core.Path.{_≡_, sym, ap, _∙_}
 use mathlib.Core.List.{List}
 use mathlib.Core.Bool.{Bool, false, _||_}
 use lib.Dec.{leb}
-use lib.IntN.{ℤ}
 use Rattle.program.specs.Tables.{anyBelow}
-use Rattle.program.specs.Program.{Variable, Term, termIn, variablesAt}
+use Rattle.program.specs.Program.{termIn, variablesAt}
 use Rattle.program.specs.Refusals.{undeclaredTerm, wrongTerm, outsideTerm, repeatedTerm, negativeTerm}
 use Rattle.program.proofs.Conditions.{any-more}
 use Rattle.program.proofs.Places.{variables-length}
-use Rattle.parts.specs.Terms.{Means}
-use Rattle.parts.specs.declared.Term as code
 use Rattle.faults.specs.Faults.{TermFaults, FaultsBelow}
 use Rattle.faults.specs.declared.Faults.{Faults}
+use Rattle.program.specs.declared.Variable.{Variable}
+use Rattle.program.specs.declared.Term.{Term}
 
 -- a variable past the declared ones
 pub undeclared-term : (s : List ℕ) (n : ℕ) (t : Term) → leb n (t .variable) ≡ undeclaredTerm (variablesAt s n) t
 unfolding undeclaredTerm
 undeclared-term s n t = ap (λ (m : ℕ). leb m (t .variable)) (sym (variables-length s n))
-
--- the code's term, as a record
-pub term-is : {r : code.Term} {t : Term} → Means r t → record { variable = r .variable; op = r .op; number = r .number } ≡ t
-term-is m = λ i. record { variable = m .variable i; op = m .op i; number = m .number i }
 
 module _ (vs : List Variable) (form : ℕ) (ts : List Term) where
   pub faults-none : (r : Faults) → (r .form ≡ false) × (r .range ≡ false) × (r .variable ≡ false) × (r .repeated ≡ false) × (r .negative ≡ false)
@@ -49,20 +44,13 @@ module _ (vs : List Variable) (form : ℕ) (ts : List Term) where
   faults-done i n r e h = rw e at h
 
 -- the tests of one term
-module _ (s : List ℕ) (n form i : ℕ) (ts : List Term) (r : code.Term) (z : ℤ) (m : Means r (termIn ts i)) (same : z ≡ r .number) where
-  pub term-faults : {a b u w g : Bool}
-      → ((x : ℕ) → a ≡ wrongTerm form i (record { variable = x; op = r .op; number = z }))
-      → ((x op : ℕ) → b ≡ outsideTerm form i (record { variable = x; op = op; number = z }))
-      → u ≡ leb n (r .variable)
-      → w ≡ repeatedTerm ts i
-      → ((op : ℕ) (y : ℤ) → g ≡ negativeTerm (variablesAt s n) form (record { variable = r .variable; op = op; number = y }))
-      → TermFaults (variablesAt s n) form ts i (record { form = a; range = b; variable = u; repeated = w; negative = g })
-  term-faults a b u w g =
-      let whole : record { variable = r .variable; op = r .op; number = z } ≡ termIn ts i = (rw same) ∙ term-is m in
-      record {
-        form-is = a (r .variable) ∙ ap (wrongTerm form i) whole;
-        range-is = b (r .variable) (r .op) ∙ ap (outsideTerm form i) whole;
-        variable-is = u ∙ ap (leb n) (m .variable) ∙ undeclared-term s n (termIn ts i);
-        repeated-is = w;
-        negative-is = g (r .op) z ∙ ap (negativeTerm (variablesAt s n) form) whole;
-      }
+module _ (s : List ℕ) (n form i : ℕ) (ts : List Term) {t : Term} (m : t ≡ termIn ts i) where
+  pub term-faults : {a b u w g : Bool} → a ≡ wrongTerm form i t → b ≡ outsideTerm form i t → u ≡ leb n (t .variable) → w ≡ repeatedTerm ts i
+      → g ≡ negativeTerm (variablesAt s n) form t → TermFaults (variablesAt s n) form ts i (record { form = a; range = b; variable = u; repeated = w; negative = g })
+  term-faults a b u w g = record {
+    form-is = a ∙ ap (wrongTerm form i) m;
+    range-is = b ∙ ap (outsideTerm form i) m;
+    variable-is = u ∙ ap (λ (t : Term). leb n (t .variable)) m ∙ undeclared-term s n (termIn ts i);
+    repeated-is = w;
+    negative-is = g ∙ ap (negativeTerm (variablesAt s n) form) m;
+  }

@@ -5,7 +5,7 @@ use mathlib.Core.List.{List}
 use mathlib.Core.Bool.{Bool, true, false, not, _||_}
 use lib.Dec.{eqb}
 use lib.IntN.{ℤ, pos, negsuc, natAbs}
-use lib.ListN.{length, getD, drop, List·getD-eq-default}
+use lib.ListN.{length, getD, List·getD-eq-default}
 use lib.Signed.{ltZ}
 use mir.Syntax.{w64}
 use mir.Val.{SFits, ofZ}
@@ -14,11 +14,13 @@ use borrow.Author.Tests.{eq-eqb, ne-eqb, eqb-false}
 use Rattle.format.specs.Limits.{maxNumber, maxCoefficient}
 use Rattle.format.specs.Numbers.{beyond}
 use Rattle.program.specs.Tables.{anyBelow}
-use Rattle.program.specs.Program.{Variable, Term, termsOf, termIn, variableIn, variableOf, variablesAt, noVariable}
-use Rattle.program.specs.Refusals.{literalPlace, wrongOp, mustBeZero, wrongTerm, outsideTerm, repeatedTerm, negativeTerm}
+use Rattle.program.specs.Program.{termsOf, termIn, variableIn, variablesAt, noVariable}
+use Rattle.program.specs.Refusals.{literalPosition, wrongOp, mustBeZero, wrongTerm, outsideTerm, repeatedTerm, negativeTerm}
 use Rattle.program.proofs.Bodies.{term-at}
 use Rattle.program.proofs.Conditions.{any-more}
-use Rattle.program.proofs.Places.{variables-length, variable-at}
+use Rattle.program.proofs.Places.{variables-length}
+use Rattle.program.specs.declared.Variable.{Variable}
+use Rattle.program.specs.declared.Term.{Term}
 
 -- a number is 0 where its bits are
 pub zero-bits : (z : ℤ) → SFits w64 z → eqb (ofZ w64 z) 0 ≡ eqb (natAbs z) 0
@@ -34,37 +36,37 @@ one-or-two op h k = go (eqb op 1) refl
     go false e = eq-eqb op 2 (let n = eqb-false op 1 e in omega arith)
 
 module _ (form i : ℕ) where
-  pub place-if : form ≡ 6 → true ≡ literalPlace form i
-  unfolding literalPlace
-  place-if h = rw h
+  pub position-if : form ≡ 6 → true ≡ literalPosition form i
+  unfolding literalPosition
+  position-if h = rw h
 
-  pub place-carry : form ≡ 7 → not (eqb i 0) ≡ literalPlace form i
-  unfolding literalPlace
-  place-carry h = rw h
+  pub position-carry : form ≡ 7 → not (eqb i 0) ≡ literalPosition form i
+  unfolding literalPosition
+  position-carry h = rw h
 
-  pub place-plain : (form ≡ 6 → ⊥) → (form ≡ 7 → ⊥) → false ≡ literalPlace form i
-  unfolding literalPlace
-  place-plain h k = simp (ne-eqb form 6 h, ne-eqb form 7 k)
+  pub position-plain : (form ≡ 6 → ⊥) → (form ≡ 7 → ⊥) → false ≡ literalPosition form i
+  unfolding literalPosition
+  position-plain h k = simp (ne-eqb form 6 h, ne-eqb form 7 k)
 
-  pub zero-literal : literalPlace form i ≡ true → false ≡ mustBeZero form i
+  pub zero-literal : literalPosition form i ≡ true → false ≡ mustBeZero form i
   unfolding mustBeZero
   zero-literal h = simp h
 
-  pub zero-plain : literalPlace form i ≡ false → not (eqb form 1) ≡ mustBeZero form i
+  pub zero-plain : literalPosition form i ≡ false → not (eqb form 1) ≡ mustBeZero form i
   unfolding mustBeZero
   zero-plain h = simp h
 
-  pub op-plain : (op : ℕ) (l : Bool) → l ≡ literalPlace form i → op ≡ 0 → l ≡ wrongOp form i op
+  pub op-plain : (op : ℕ) (l : Bool) → l ≡ literalPosition form i → op ≡ 0 → l ≡ wrongOp form i op
   unfolding wrongOp
   op-plain op true e h = rw (← e, h)
   op-plain op false e h = rw (← e, h)
 
-  pub op-literal : (op : ℕ) (l : Bool) → l ≡ literalPlace form i → 1 ≤ op → op ≤ 2 → not l ≡ wrongOp form i op
+  pub op-literal : (op : ℕ) (l : Bool) → l ≡ literalPosition form i → 1 ≤ op → op ≤ 2 → not l ≡ wrongOp form i op
   unfolding wrongOp
   op-literal op true e h k = simp (← e, one-or-two op h k)
   op-literal op false e h k = simp (← e, ne-eqb op 0 (omega arith))
 
-  pub op-unknown : (op : ℕ) (l : Bool) → l ≡ literalPlace form i → 2 < op → true ≡ wrongOp form i op
+  pub op-unknown : (op : ℕ) (l : Bool) → l ≡ literalPosition form i → 2 < op → true ≡ wrongOp form i op
   unfolding wrongOp
   op-unknown op true e h = simp (← e, ne-eqb op 1 (omega arith), ne-eqb op 2 (omega arith))
   op-unknown op false e h = simp (← e, ne-eqb op 0 (omega arith))
@@ -82,19 +84,19 @@ module _ (form i : ℕ) where
     unfolding wrongTerm
     wrong-none h k = simp (h, k)
 
-    pub outside-literal : literalPlace form i ≡ true → beyond maxNumber (t .number) ≡ outsideTerm form i t
+    pub outside-literal : literalPosition form i ≡ true → beyond maxNumber (t .number) ≡ outsideTerm form i t
     unfolding outsideTerm
     outside-literal k = simp k
 
-    pub outside-plain : literalPlace form i ≡ false → (form ≡ 1 → ⊥) → false ≡ outsideTerm form i t
+    pub outside-plain : literalPosition form i ≡ false → (form ≡ 1 → ⊥) → false ≡ outsideTerm form i t
     unfolding outsideTerm
     outside-plain k f = simp (k, ne-eqb form 1 f)
 
-    pub outside-zero : literalPlace form i ≡ false → form ≡ 1 → eqb (natAbs (t .number)) 0 ≡ true → true ≡ outsideTerm form i t
+    pub outside-zero : literalPosition form i ≡ false → form ≡ 1 → eqb (natAbs (t .number)) 0 ≡ true → true ≡ outsideTerm form i t
     unfolding outsideTerm
     outside-zero k f z = simp (k, eq-eqb form 1 f, z)
 
-    pub outside-sum : literalPlace form i ≡ false → form ≡ 1 → eqb (natAbs (t .number)) 0 ≡ false → beyond maxCoefficient (t .number) ≡ outsideTerm form i t
+    pub outside-sum : literalPosition form i ≡ false → form ≡ 1 → eqb (natAbs (t .number)) 0 ≡ false → beyond maxCoefficient (t .number) ≡ outsideTerm form i t
     unfolding outsideTerm
     outside-sum k f z = simp (k, eq-eqb form 1 f, z)
 
@@ -102,11 +104,11 @@ module _ (form i : ℕ) where
 pub variable-byte : (body : List ℕ) (i : ℕ) → 4 * i + 4 ≤ length body → termIn (termsOf body) i .variable ≡ getD body (4 * i) 0
 variable-byte body i h = ap (λ (t : Term). t .variable) (term-at body i (omega arith))
 
--- whether place j has the variable of place i
+-- whether position j has the variable of position i
 abbrev pub same-as : List ℕ → ℕ → ℕ → Bool
 same-as body i j = eqb (termIn (termsOf body) j .variable) (termIn (termsOf body) i .variable)
 
--- the places before i whose variable is that of place i
+-- the positions before i whose variable is that of position i
 module _ (body : List ℕ) (i : ℕ) (h : 4 * i + 4 ≤ length body) where
   pub repeated-more : (j : ℕ) (f : Bool) → j < i → f ≡ anyBelow j (same-as body i)
       → (f || eqb (getD body (4 * j) 0) (getD body (4 * i) 0)) ≡ anyBelow (j + 1) (same-as body i)
@@ -125,15 +127,12 @@ module _ (vs : List Variable) (form : ℕ) (t : Term) where
   unfolding negativeTerm
   negative-low h = simp (eq-eqb form 4 h)
 
--- the low of a variable, by its bytes
-module _ (s : List ℕ) (n form x op : ℕ) (z : ℤ) (h : form ≡ 4) where
-  pub negative-declared : (low : ℤ) → x < n → low ≡ variableOf (drop (8 * x + 3) s) .low
-      → ltZ low (pos 0) ≡ negativeTerm (variablesAt s n) form (record { variable = x; op = op; number = z })
-  negative-declared low k e =
-      ap (λ (y : ℤ). ltZ y (pos 0)) (e ∙ sym (ap (λ (y : Variable). y .low) (variable-at s n x k)))
-      ∙ negative-low (variablesAt s n) form (record { variable = x; op = op; number = z }) h
+-- the low of the term's variable, where that is declared
+module _ (s : List ℕ) (n form : ℕ) (t : Term) (h : form ≡ 4) where
+  pub negative-declared : {x : Variable} → x ≡ variableIn (variablesAt s n) (t .variable) → ltZ (x .low) (pos 0) ≡ negativeTerm (variablesAt s n) form t
+  negative-declared e = ap (λ (y : Variable). ltZ (y .low) (pos 0)) e ∙ negative-low (variablesAt s n) form t h
 
-  pub negative-undeclared : n ≤ x → false ≡ negativeTerm (variablesAt s n) form (record { variable = x; op = op; number = z })
+  pub negative-undeclared : n ≤ t .variable → false ≡ negativeTerm (variablesAt s n) form t
   negative-undeclared k =
       ap (λ (y : Variable). ltZ (y .low) (pos 0)) (sym (List·getD-eq-default (variablesAt s n) noVariable (omega (arith, variables-length s n))))
-      ∙ negative-low (variablesAt s n) form (record { variable = x; op = op; number = z }) h
+      ∙ negative-low (variablesAt s n) form t h

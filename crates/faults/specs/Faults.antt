@@ -4,12 +4,14 @@ use mathlib.Core.Path.{_≡_}
 use mathlib.Core.List.{List, [], _∷_}
 use mathlib.Core.Bool.{Bool}
 use Rattle.program.specs.Tables.{_when_, firstOf, anyBelow}
-use Rattle.program.specs.Program.{Variable, Term, termIn}
+use Rattle.program.specs.Program.{termIn}
 use Rattle.program.specs.Refusals.{wrongTerm, outsideTerm, undeclaredTerm, repeatedTerm, negativeTerm}
 use Rattle.program.specs.Reading.{numberOf}
 use Rattle.faults.specs.declared.Checked.{Checked}
 use Rattle.faults.specs.declared.Checked.the-variants.{Fine, Bad}
 use Rattle.faults.specs.declared.Faults.{Faults}
+use Rattle.program.specs.declared.Variable.{Variable}
+use Rattle.program.specs.declared.Term.{Term}
 
 -- 0 where nothing is wrong
 abbrev pub checkedNumber : Checked → ℕ

@@ -89,14 +89,12 @@ pub fn term_faults(file: &[u8], variables: usize, body: &[u8], form: u8, i: usiz
     ensures { λ r. ⌜ TermFaults (variablesAt (now (file .entry)) variables) form (termsOf (now (body .entry))) i r ⌝ }
 {
     let t = parts::terms::term(body, i);
-    let x = t.variable;
-    let number = t.number;
     Faults {
-        form: by_form::is_wrong_term(t.op, number, form, i),
-        range: by_form::is_outside_term(number, form, i),
-        variable: is_undeclared(variables, x),
+        form: by_form::is_wrong_term(t, form, i),
+        range: by_form::is_outside_term(t, form, i),
+        variable: is_undeclared(variables, t.variable),
         repeated: by_form::is_repeated(body, i),
-        negative: by_form::is_negative(file, variables, form, x),
+        negative: by_form::is_negative(file, variables, form, t),
     }
 }
 

@@ -9,10 +9,11 @@ use native.Mathlib.Omega.{arith}
 use borrow.Author.Tests.{ne-eqb, lt-ltb, le-ltb, le-leb, lt-leb, leb-true}
 use Rattle.format.specs.Limits.{maxVariables, maxRules, maxConstraints}
 use Rattle.program.specs.Fields.{tagAt, lengthAt, nextAt}
-use Rattle.program.specs.Program.{Variable, Program}
+use Rattle.program.specs.Program.{Program}
 use Rattle.program.specs.Refusals.{cutShort, unknownTag, tagBelow, oneTooMany, valueRefusal}
 use Rattle.fields.specs.Standing.{fieldAt}
 use Rattle.values.specs.Lengths.{lengthRefusal}
+use Rattle.program.specs.declared.Variable.{Variable}
 use Rattle.fields.specs.declared.cursor.Field.the-variants.{Whole, Short, End}
 
 module _ (s : List ℕ) (at : ℕ) where

@@ -1,8 +1,5 @@
 // Fields: a tag of one byte, a length of two, and a value.
 ghost use mathlib.Core.Path.{_≡_};
-ghost use Prim.Native.Nat.{_+_, _≤_};
-ghost use lib.ListN.{length};
-ghost use Rattle.program.specs.Fields.{lengthAt, nextAt};
 ghost use Rattle.fields.specs.Standing.{fieldAt};
 
 pub struct Cursor {
@@ -53,26 +50,5 @@ impl Cursor {
             len: len,
             next: Cursor { at: start + len },
         }
-    }
-}
-
-// Where a field's value starts, how long it is, and where the next field stands.
-pub struct Extent {
-    pub start: usize,
-    pub len: usize,
-    pub next: usize,
-}
-
-// The extent of a field that is not cut short.
-pub fn extent_at(file: &[u8], at: usize) -> Extent
-    requires { ⌜ nextAt (now file) at ≤ length (now file) ⌝ }
-    ensures { λ r. ⌜ (r .start ≡ at + 3) × (r .len ≡ lengthAt (now (file .entry)) at) × (r .next ≡ nextAt (now (file .entry)) at) ⌝ }
-{
-    let start = at + Cursor::HEADER;
-    let len = format::unsigned_at(file, at + 1);
-    Extent {
-        start: start,
-        len: len,
-        next: start + len,
     }
 }

@@ -152,9 +152,6 @@ abs-is (negsuc n) = omega arith
 trans : {a b c : ℤ} → a ≤ℤ b → b ≤ℤ c → a ≤ℤ c
 trans h k = omega int
 
-antisym : {a b : ℤ} → a ≤ℤ b → b ≤ℤ a → a ≡ b
-antisym h k = omega int
-
 plus : {a b c d : ℤ} → a ≤ℤ b → c ≤ℤ d → (a +ℤ c) ≤ℤ (b +ℤ d)
 plus {a} {b} {c} {d} h k = omega (int, sum-is a c, sum-is b d)
 
@@ -163,6 +160,3 @@ assoc a b c = omega (int, sum-is (a +ℤ b) c, sum-is a b, sum-is a (b +ℤ c), 
 
 minus : (a b c : ℤ) → a ≤ℤ b → (a -ℤ c) ≤ℤ (b -ℤ c)
 minus a b c h = omega (int, sum-is a (negℤ c), sum-is b (negℤ c), neg-is c)
-
-strict : {a b c : ℤ} → a <ℤ b → b ≤ℤ c → ¬ (c ≤ℤ a)
-strict h k j = omega int

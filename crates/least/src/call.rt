@@ -3,34 +3,46 @@ ghost use mathlib.Core.Path.{_≡_};
 ghost use Prim.Native.Nat.{ℕ, _*_, _≤_};
 ghost use lib.ListN.{length};
 ghost use Rattle.program.specs.Program.{Program};
-ghost use Rattle.program.specs.Reading.{Reads, accepted, Accepts};
+ghost use Rattle.program.specs.Reading.{AcceptedAs, Accepts};
 ghost use Rattle.meaning.specs.Stable.{assigned};
-ghost use Rattle.meaning.specs.LeastCall.{LeastCall, AllInside, answerOf};
+ghost use Rattle.meaning.specs.LeastCall.{LeastCall, AllInside, answerOf, leastBytes};
 ghost use Rattle.program.specs.Readings.{valued};
 use crate::writing::write_values;
-use calls::Call;
 use calls::open;
 use format::Format;
 use meaning::Opening;
 use meaning::Solved;
 use program::Counts;
-use reduct::values;
-use reduct::values::Outside;
+use reduct::loading;
+use reduct::loading::Outside;
 use run::Ending;
 use run::solve::run;
 use tables::Tables;
 use tables::fill_tables;
 
+// What the call asks of its buffer.
+pub struct Asks {}
+
+impl Asks {
+    // The bytes for each variable.
+    pub const BYTES: usize = 2;
+
+    // The constant of the code is that of the specification.
+    pub fn quoted()
+        ensures { λ _. do ⌜ (← ⟦Asks::BYTES⟧ .entry) ≡ leastBytes ⌝ }
+    {}
+}
+
 // An assignment that lies in its ranges: the least model is written, or there is none.
-fn solved(
+fn solve(
     file: &[u8],
     assignment: &[u8],
     buffer: &mut [u8],
     counts: Counts,
     values: &[i64; Format::MAX_VARIABLES],
 ) -> Solved
-    requires { ⌜ Reads (now file) (accepted (counts .variables) (counts .rules) (counts .constraints)) ⌝ }
-    requires { ⌜ (length (now assignment) ≡ 2 * counts .variables) × (2 * counts .variables ≤ length (now buffer)) ⌝ }
+    requires { ⌜ AcceptedAs (now file) counts ⌝ }
+    requires { ⌜ (length (now assignment) ≡ 2 * counts .variables) × (leastBytes * counts .variables ≤ length (now buffer)) ⌝ }
     requires { ⌜ ((v : ℕ) → valued (now values) v ≡ assigned (now assignment) v) ⌝ }
     requires { ⌜ ((P : Program) → Accepts (now file) P → AllInside P (assigned (now assignment))) ⌝ }
     ensures { λ r. ⌜ LeastCall (now (file .entry)) (now (assignment .entry)) (now (buffer .entry)) (answerOf r) (now (buffer .exit)) ⌝ }
@@ -52,18 +64,18 @@ fn solved(
 }
 
 // A call that is not turned down.
-fn judged(file: &[u8], assignment: &[u8], buffer: &mut [u8], counts: Counts) -> Solved
-    requires { ⌜ Reads (now file) (accepted (counts .variables) (counts .rules) (counts .constraints)) ⌝ }
-    requires { ⌜ (length (now assignment) ≡ 2 * counts .variables) × (2 * counts .variables ≤ length (now buffer)) ⌝ }
+fn solve_in_ranges(file: &[u8], assignment: &[u8], buffer: &mut [u8], counts: Counts) -> Solved
+    requires { ⌜ AcceptedAs (now file) counts ⌝ }
+    requires { ⌜ (length (now assignment) ≡ 2 * counts .variables) × (leastBytes * counts .variables ≤ length (now buffer)) ⌝ }
     ensures { λ r. ⌜ LeastCall (now (file .entry)) (now (assignment .entry)) (now (buffer .entry)) (answerOf r) (now (buffer .exit)) ⌝ }
 {
     let n = counts.variables;
     let mut loaded = [0i64; Format::MAX_VARIABLES];
-    values::load(assignment, &mut loaded);
-    let outside = values::first_outside(file, n, &loaded);
+    loading::load(assignment, &mut loaded);
+    let outside = loading::first_outside(file, n, &loaded);
     match outside {
         Outside::At(v) => Solved::Range(v),
-        Outside::Nowhere => solved(file, assignment, buffer, counts, &loaded),
+        Outside::Nowhere => solve(file, assignment, buffer, counts, &loaded),
     }
 }
 
@@ -71,8 +83,8 @@ fn judged(file: &[u8], assignment: &[u8], buffer: &mut [u8], counts: Counts) -> 
 pub fn least(file: &[u8], assignment: &[u8], buffer: &mut [u8]) -> Solved
     ensures { λ r. ⌜ LeastCall (now (file .entry)) (now (assignment .entry)) (now (buffer .entry)) (answerOf r) (now (buffer .exit)) ⌝ }
 {
-    match open(file, assignment, buffer.len(), Call::LEAST) {
+    match open(file, assignment, buffer.len(), Asks::BYTES) {
         Opening::Closed(why) => Solved::Refused(why),
-        Opening::Open(counts) => judged(file, assignment, buffer, counts),
+        Opening::Open(counts) => solve_in_ranges(file, assignment, buffer, counts),
     }
 }

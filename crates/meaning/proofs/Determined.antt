@@ -6,16 +6,14 @@ use native.Mathlib.Omega.{arith}
 use lib.ListN.{length, drop}
 use Rattle.format.specs.Numbers.{bytesOf}
 use Rattle.program.specs.Program.{Program}
-use Rattle.program.specs.Reading.{Reads, refused, Accepts}
+use Rattle.program.specs.Reading.{Accepts}
 use Rattle.program.proofs.Conditions.{never}
-use Rattle.program.proofs.Promises.{accepts-promises}
-use Rattle.program.proofs.Unique.{reads-unique, accepts-unique, accepts-reads}
+use Rattle.program.proofs.Unique.{accepts-unique}
 use Rattle.meaning.specs.Founded.{Model, Least}
 use Rattle.meaning.specs.Reduct.{system}
-use Rattle.meaning.specs.Calls.{Refuses, bad-file, bad-assignment, short-buffer, Called}
-use Rattle.meaning.specs.LeastCall.{Answer, range, FirstOutside, AllInside, written, LeastCall, turned-down, outside, no-model, least-model}
+use Rattle.meaning.specs.LeastCall.{Answer, range, FirstOutside, AllInside, written, leastBytes, LeastCall, turned-down, outside, no-model, least-model}
+use Rattle.meaning.proofs.Denials.{same-refusal, refused-or-called, lengths-fixed}
 use Rattle.meaning.proofs.Theory.{least-unique}
-use Rattle.meaning.proofs.Monotone.{laws}
 use Rattle.program.specs.Readings.{Valuation}
 
 -- the bytes of a valuation are those of its values
@@ -23,10 +21,6 @@ pub written-same : {m m′ : Valuation} (n : ℕ) → ((v : ℕ) → m v ≡ m�
 unfolding written
 written-same zero h = refl
 written-same (suc n) h = ap₂ _++_ (written-same n h) (ap bytesOf (h n))
-
--- a file is turned down or accepted
-refused-or : {s : List ℕ} {n at : ℕ} {P : Program} → Reads s (refused n at) → Accepts s P → ⊥
-refused-or r x = let e = reads-unique r (accepts-reads x) in let z : _≡_ {A = ℕ} 0 1 = cc in omega arith
 
 -- values all lie in their ranges, or there is a first that does not
 inside-or : {P : Program} {θ : Valuation} {v : ℕ} → AllInside P θ → FirstOutside P θ v → ⊥
@@ -54,31 +48,12 @@ module _ {s : List ℕ} {P Q : Program} (x : Accepts s P) (y : Accepts s Q) wher
   same-bytes : {θ m m′ : Valuation} (b : List ℕ) → Least (system P) θ m → Least (system Q) θ m′
       → written m (length (P .variables)) ++ drop (2 * length (P .variables)) b ≡ written m′ (length (Q .variables)) ++ drop (2 * length (Q .variables)) b
   same-bytes {θ} {m} {m′} b l k =
-      let e = least-unique (laws (accepts-promises x)) l (subst (λ R. Least (system R) θ m′) (sym (accepts-unique x y)) k) in
+      let e = least-unique l (subst (λ R. Least (system R) θ m′) (sym (accepts-unique x y)) k) in
       ap₂ _++_ (written-same (length (P .variables)) e ∙ ap (written m′) count) (ap (λ n. drop (2 * n) b) count)
-
--- ---- calls that are turned down
-
-module _ {bytes : ℕ} {s a b : List ℕ} where
-  pub same-refusal : {n at n′ at′ : ℕ} → Refuses bytes s a b n at → Refuses bytes s a b n′ at′ → (n ≡ n′) × (at ≡ at′)
-  same-refusal (bad-file p) (bad-file q) = let e = reads-unique p q in (cc, cc)
-  same-refusal (bad-file p) (bad-assignment y g) = absurd (refused-or p y)
-  same-refusal (bad-file p) (short-buffer y g j) = absurd (refused-or p y)
-  same-refusal (bad-assignment x h) (bad-file q) = absurd (refused-or q x)
-  same-refusal (bad-assignment x h) (bad-assignment y g) = (refl, refl)
-  same-refusal (bad-assignment x h) (short-buffer y g j) = absurd (h (omega (arith, count x y)))
-  same-refusal (short-buffer x h k) (bad-file q) = absurd (refused-or q x)
-  same-refusal (short-buffer x h k) (bad-assignment y g) = absurd (g (omega (arith, count x y)))
-  same-refusal (short-buffer x h k) (short-buffer y g j) = (refl, refl)
-
-  pub refused-or-called : {n at : ℕ} {P : Program} → Refuses bytes s a b n at → Called bytes s a b P → ⊥
-  refused-or-called (bad-file p) c = refused-or p (c .accepts)
-  refused-or-called (bad-assignment x h) c = h (omega (arith, c .long, count x (c .accepts)))
-  refused-or-called (short-buffer x h k) c = let e = ap (λ n. bytes * n) (count x (c .accepts)) in omega (arith, c .room)
 
 -- the first call's case against the second's
 pub least-call-unique : {s a b : List ℕ} {r r′ : Answer} {b₁ b₂ : List ℕ} → LeastCall s a b r b₁ → LeastCall s a b r′ b₂ → (r ≡ r′) × (b₁ ≡ b₂)
-least-call-unique (turned-down p) (turned-down q) = let e = same-refusal p q in (cc, refl)
+least-call-unique {a = a} {b} (turned-down p) (turned-down q) = let e = same-refusal (lengths-fixed leastBytes a b) p q in (cc, refl)
 least-call-unique (turned-down p) (outside y u) = absurd (refused-or-called p y)
 least-call-unique (turned-down p) (no-model y w d) = absurd (refused-or-called p y)
 least-call-unique (turned-down p) (least-model y w e) = absurd (refused-or-called p y)

@@ -4,21 +4,23 @@ use mathlib.Core.Path.{_≡_}
 use mathlib.Core.List.{List, [], _∷_}
 use native.Mathlib.Omega.{arith}
 use lib.IntN.{ℤ, pos, negsuc, natAbs}
-use lib.Signed.{leZ, leZ-yes, _≤ℤ_}
+use lib.Signed.{_≤ℤ_}
 use lib.ListN.{length, List·getD-eq-default}
 use lib.Dec.{T, ltb, ltb→lt, nltb→le}
 use Rattle.format.specs.Limits.{maxNumber}
 use Rattle.format.proofs.Int.{int, abs-is}
-use Rattle.program.specs.Program.{Variable, Program, noVariable, variableIn}
+use Rattle.program.specs.Program.{Program, noVariable, variableIn}
 use Rattle.program.proofs.Promises.{VariablePromise, Promises}
-use Rattle.bodies.specs.Readings.{Small}
 use Rattle.meaning.specs.Founded.{Within}
 use Rattle.meaning.specs.Reduct.{system}
 use Rattle.meaning.specs.Stable.{assigned}
 use Rattle.meaning.specs.LeastCall.{AllInside}
-use Rattle.meaning.proofs.Tests.{cases, is-true, is-test, and-left, and-right, and-both}
 use Rattle.program.specs.Variables.{founded, inRange}
 use Rattle.program.specs.Readings.{Valuation, valued}
+use Rattle.program.specs.declared.Variable.{Variable}
+use Rattle.program.specs.Evaluable.{Small}
+use Rattle.program.proofs.Tests.{cases, is-true, is-test}
+use Rattle.program.proofs.Variables.{low-in, high-in}
 
 -- a founded variable is declared
 pub founded-declared : (vs : List Variable) (v : ℕ) → T (founded (variableIn vs v)) → v < length vs
@@ -32,10 +34,7 @@ assigned-past a v h =
 
 module _ (P : Program) {θ : Valuation} where
   pub inside-within : ((v : ℕ) → length (P .variables) ≤ v → θ v ≡ pos 0) → AllInside P θ → Within (system P) θ
-  inside-within past i = record {
-    low = λ v. record { le = and-left (leZ (variableIn vs v .low) (θ v)) (leZ (θ v) (variableIn vs v .high)) (at v) };
-    high = λ v. record { le = and-right (leZ (variableIn vs v .low) (θ v)) (leZ (θ v) (variableIn vs v .high)) (at v) };
-  }
+  inside-within past i = record { inside = at }
     where
       vs : List Variable
       vs = P .variables
@@ -45,13 +44,13 @@ module _ (P : Program) {θ : Valuation} where
           (λ n. let h = nltb→le v (length vs) n in rw (List·getD-eq-default vs noVariable h, past v h) tt)
 
   pub within-inside : Within (system P) θ → AllInside P θ
-  within-inside w v h = is-true (inRange (variableIn (P .variables) v) (θ v))
-      (and-both (leZ (variableIn (P .variables) v .low) (θ v)) (leZ (θ v) (variableIn (P .variables) v .high)) (w .low v .le) (w .high v .le))
+  within-inside w v h = is-true (inRange (variableIn (P .variables) v) (θ v)) (w .inside v)
 
   pub past-zero : Within (system P) θ → (v : ℕ) → length (P .variables) ≤ v → θ v ≡ pos 0
   past-zero w v h =
-      let a : T (leZ (pos 0) (θ v)) = rw (List·getD-eq-default (P .variables) noVariable h) at (w .low v .le) in
-      let b : T (leZ (θ v) (pos 0)) = rw (List·getD-eq-default (P .variables) noVariable h) at (w .high v .le) in
+      let e : T (inRange noVariable (θ v)) = rw (List·getD-eq-default (P .variables) noVariable h) at (w .inside v) in
+      let a = low-in noVariable (θ v) e in
+      let b = high-in noVariable (θ v) e in
       omega int
 
 pub assigned-within : (P : Program) (a : List ℕ) → length a ≤ 2 * length (P .variables) → AllInside P (assigned a) → Within (system P) (assigned a)
@@ -72,7 +71,8 @@ between n l (negsuc z) h p q a b = omega (int, abs-is l)
 pub value-small : {P : Program} → Promises P → {m : Valuation} → Within (system P) m → (v : ℕ) → natAbs (m v) ≤ maxNumber
 value-small {P} p {m} w v =
     let r = ranged (P .variables) v (p .variables) in
-    between maxNumber (variableIn (P .variables) v .low) (m v) (variableIn (P .variables) v .high) (leZ-yes (w .low v .le)) (leZ-yes (w .high v .le)) (r .0) (r .1)
+    let x = variableIn (P .variables) v in
+    between maxNumber (x .low) (m v) (x .high) (low-in x (m v) (w .inside v)) (high-in x (m v) (w .inside v)) (r .0) (r .1)
 
 pub within-small : {P : Program} → Promises P → (m : List ℤ) → Within (system P) (valued m) → Small m
 within-small p m = value-small p

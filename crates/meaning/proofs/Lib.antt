@@ -1,9 +1,11 @@
-pub mod Tests
 pub mod Laws
+pub mod Lesser
 pub mod Theory
 pub mod Minimal
 pub mod Monotone
+pub mod Denials
 pub mod Determined
+pub mod LeastDemanded
 pub mod InRanges
 pub mod Steps
 pub mod Search

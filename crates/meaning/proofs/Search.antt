@@ -7,56 +7,56 @@ use mathlib.Core.List.{List, [], _∷_}
 use native.Mathlib.Decide.{ℕ-discrete}
 use native.Mathlib.Omega.{arith}
 use lib.IntN.{ℤ, pos}
-use lib.Signed.{leZ}
 use lib.ListN.{length, getD, set, length-set, List·getD-eq-default}
 use lib.Seq.{getD-set-same, getD-set-other}
 use lib.Dec.{T, ltb, ltb→lt, nltb→le}
-use Rattle.format.proofs.Int.{int}
-use Rattle.program.specs.Program.{Variable, Rule, Program, noVariable, variableIn, ruleIn}
-use Rattle.program.specs.Directions.{direction}
-use Rattle.program.specs.Evaluate.{sumBelow, largestTo, smallestTo, allHold, evaluate}
+use Rattle.program.specs.Program.{Rule, Program, noVariable, variableIn, ruleIn}
+use Rattle.program.specs.Directions.{plainDirection, termDirection, direction}
+use Rattle.program.specs.Evaluate.{sumBelow, largestTo, smallestTo, allHold, amount, evaluate}
 use Rattle.program.specs.declared.Given.{Given}
 use Rattle.program.specs.declared.Given.the-variants.{Nothing, Value}
 use Rattle.program.proofs.Promises.{Promises}
-use Rattle.meaning.specs.Founded.{Below, Reaches, Within, Model, Least}
+use Rattle.meaning.specs.Founded.{GivenNoMore, Within, Model, Least}
 use Rattle.meaning.specs.Reduct.{system}
-use Rattle.meaning.specs.Search.{lows, Step, closed, raise, ask, firstUnmet, Outcome, found, none, unfinished, raised, act, iterate, search}
-use Rattle.meaning.proofs.Tests.{cases}
+use Rattle.meaning.specs.Search.{Step, closed, raise, ask, firstUnmet, Outcome, found, none, unfinished, raised, act, iterate, search, starts, allows}
 use Rattle.meaning.proofs.Theory.{Progress, progress-start, progress-raise, progress-done, progress-over}
 use Rattle.meaning.proofs.Monotone.{laws, head-founded}
 use Rattle.meaning.proofs.InRanges.{founded-declared, past-zero}
 use Rattle.meaning.proofs.Steps.{gap, gap-raised}
-use Rattle.program.specs.Variables.{founded}
+use Rattle.program.specs.Variables.{start, far, notPast, noMore, started}
 use Rattle.program.specs.Readings.{Valuation, kept, gives, valued}
+use Rattle.program.specs.declared.Variable.{Variable}
+use Rattle.program.proofs.Tests.{cases}
+use Rattle.meaning.proofs.Laws.{below-refl, short-below}
 
 -- unfolding this unfolds the search and what it reads of a program
 unfoldable pub computes : Unit {0}
-unfolding direction sumBelow largestTo smallestTo allHold evaluate kept gives lows firstUnmet iterate
+unfolding start far notPast plainDirection termDirection direction sumBelow largestTo smallestTo allHold amount evaluate kept gives starts firstUnmet iterate
 computes = tt
 
 -- ---- lists
 
-lows-length : (θ : Valuation) (i : ℕ) (vs : List Variable) → length (lows θ i vs) ≡ length vs
-unfolding lows
-lows-length θ i [] = refl
-lows-length θ i (x ∷ xs) = ap suc (lows-length θ (suc i) xs)
+starts-length : (θ : Valuation) (i : ℕ) (vs : List Variable) → length (starts θ i vs) ≡ length vs
+unfolding starts
+starts-length θ i [] = refl
+starts-length θ i (x ∷ xs) = ap suc (starts-length θ (suc i) xs)
 
-lows-at : (θ : Valuation) (i : ℕ) (vs : List Variable) (v : ℕ) → v < length vs
-    → valued (lows θ i vs) v ≡ cond (founded (variableIn vs v)) (variableIn vs v .low) (θ (i + v))
-unfolding lows
-lows-at θ i [] v h = let f : ⊥ = omega arith in absurd f
-lows-at θ i (x ∷ xs) zero h = let e : i ≡ i + 0 = omega arith in ap (λ n. cond (founded x) (x .low) (θ n)) e
-lows-at θ i (x ∷ xs) (suc v) h =
+starts-at : (θ : Valuation) (i : ℕ) (vs : List Variable) (v : ℕ) → v < length vs
+    → valued (starts θ i vs) v ≡ started (variableIn vs v) (θ (i + v))
+unfolding starts
+starts-at θ i [] v h = let f : ⊥ = omega arith in absurd f
+starts-at θ i (x ∷ xs) zero h = let e : i ≡ i + 0 = omega arith in ap (λ n. started x (θ n)) e
+starts-at θ i (x ∷ xs) (suc v) h =
     let e : suc i + v ≡ i + suc v = omega arith in
-    lows-at θ (suc i) xs v (omega arith) ∙ ap (λ n. cond (founded (variableIn xs v)) (variableIn xs v .low) (θ n)) e
+    starts-at θ (suc i) xs v (omega arith) ∙ ap (λ n. started (variableIn xs v) (θ n)) e
 
-lows-is : (P : Program) {θ : Valuation} → Within (system P) θ → (v : ℕ)
-    → valued (lows θ 0 (P .variables)) v ≡ cond (founded (variableIn (P .variables) v)) (variableIn (P .variables) v .low) (θ v)
-lows-is P {θ} w v = cases (ltb v (length vs)) (λ b. valued (lows θ 0 vs) v ≡ cond (founded (variableIn vs v)) (variableIn vs v .low) (θ v))
-    (λ t. let z : 0 + v ≡ v = omega arith in rw z at (lows-at θ 0 vs v (ltb→lt v (length vs) t)))
+starts-is : (P : Program) {θ : Valuation} → Within (system P) θ → (v : ℕ)
+    → valued (starts θ 0 (P .variables)) v ≡ started (variableIn (P .variables) v) (θ v)
+starts-is P {θ} w v = cases (ltb v (length vs)) (λ b. valued (starts θ 0 vs) v ≡ started (variableIn vs v) (θ v))
+    (λ t. let z : 0 + v ≡ v = omega arith in rw z at (starts-at θ 0 vs v (ltb→lt v (length vs) t)))
     (λ n. let h = nltb→le v (length vs) n in
-    let k : length (lows θ 0 vs) ≤ v = omega (arith, lows-length θ 0 vs) in
-    rw (List·getD-eq-default vs noVariable h, List·getD-eq-default (lows θ 0 vs) (pos 0) k) (sym (past-zero P w v h)))
+    let k : length (starts θ 0 vs) ≤ v = omega (arith, starts-length θ 0 vs) in
+    rw (List·getD-eq-default vs noVariable h, List·getD-eq-default (starts θ 0 vs) (pos 0) k) (sym (past-zero P w v h)))
   where
     vs : List Variable
     vs = P .variables
@@ -72,34 +72,38 @@ stored l h a k v = go (ℕ-discrete h v)
 -- ---- the first rule that is not met
 
 module _ (P : Program) (θ m : Valuation) where
-  ask-closed : (i : ℕ) (g : Given) (v : ℕ) (b : ℤ) (next : Step) → ask i g b next ≡ closed → Reaches (system P) v g b × (next ≡ closed)
-  ask-closed i Nothing v b next e = (tt, e)
-  ask-closed i (Value a) v b next e = cases (leZ a b) (λ c. cond c next (raise i a) ≡ closed → Below (system P) v a b × (next ≡ closed))
-      (λ t q. (record { le = t }, q)) (λ n q. let z : _≡_ {A = ℕ} 0 1 = cc in let f : ⊥ = omega arith in absurd f) e
+  ask-closed : (x : Variable) (i : ℕ) (g : Given) (b : ℤ) (next : Step) → ask x i g b next ≡ closed → T (noMore x g b) × (next ≡ closed)
+  ask-closed x i Nothing b next e = (tt, e)
+  ask-closed x i (Value a) b next e = cases (notPast x a b) (λ c. cond c next (raise i a) ≡ closed → T c × (next ≡ closed))
+      (λ t q. (tt, q)) (λ n q. let z : _≡_ {A = ℕ} 0 1 = cc in let f : ⊥ = omega arith in absurd f) e
 
   closed-met : (i : ℕ) (rs : List Rule) → firstUnmet P θ m i rs ≡ closed → (j : ℕ) → j < length rs
-      → Reaches (system P) (ruleIn rs j .head) (gives (P .variables) (ruleIn rs j) m θ) (m (ruleIn rs j .head))
+      → GivenNoMore (system P) (ruleIn rs j .head) (gives (P .variables) (ruleIn rs j) m θ) (m (ruleIn rs j .head))
   unfolding firstUnmet
   closed-met i [] e j h = let f : ⊥ = omega arith in absurd f
-  closed-met i (r ∷ rs) e zero h = ask-closed i (gives (P .variables) r m θ) (r .head) (m (r .head)) (firstUnmet P θ m (suc i) rs) e .0
-  closed-met i (r ∷ rs) e (suc j) h = closed-met (suc i) rs (ask-closed i (gives (P .variables) r m θ) (r .head) (m (r .head)) (firstUnmet P θ m (suc i) rs) e .1) j (omega arith)
+  closed-met i (r ∷ rs) e zero h = ask-closed (variableIn (P .variables) (r .head)) i (gives (P .variables) r m θ) (m (r .head)) (firstUnmet P θ m (suc i) rs) e .0
+  closed-met i (r ∷ rs) e (suc j) h =
+      closed-met (suc i) rs (ask-closed (variableIn (P .variables) (r .head)) i (gives (P .variables) r m θ) (m (r .head)) (firstUnmet P θ m (suc i) rs) e .1) j (omega arith)
 
   -- rule r gives a, and that is more than its head has
   record Unmet (r : Rule) (a : ℤ) : Type 0 where
     value-is : gives (P .variables) r m θ ≡ Value a
-    more : T (not (leZ a (m (r .head))))
+    more : T (not (notPast (variableIn (P .variables) (r .head)) a (m (r .head))))
 
-  ask-raise : (i : ℕ) (g : Given) (b : ℤ) (next : Step) (k : ℕ) (a : ℤ) → ask i g b next ≡ raise k a → ((k ≡ i) × (g ≡ Value a) × T (not (leZ a b))) ⊎ (next ≡ raise k a)
-  ask-raise i Nothing b next k a e = inr e
-  ask-raise i (Value x) b next k a e = cases (leZ x b) (λ c. cond c next (raise i x) ≡ raise k a → ((k ≡ i) × (Value x ≡ Value a) × T (not (leZ a b))) ⊎ (next ≡ raise k a))
-      (λ t q. inr q) (λ n q. let s : x ≡ a = cc in inl (cc, cc, subst (λ y. T (not (leZ y b))) s n)) e
+  ask-raise : (x : Variable) (i : ℕ) (g : Given) (b : ℤ) (next : Step) (k : ℕ) (a : ℤ) → ask x i g b next ≡ raise k a
+      → ((k ≡ i) × (g ≡ Value a) × T (not (notPast x a b))) ⊎ (next ≡ raise k a)
+  ask-raise x i Nothing b next k a e = inr e
+  ask-raise x i (Value y) b next k a e =
+      cases (notPast x y b) (λ c. cond c next (raise i y) ≡ raise k a → ((k ≡ i) × (Value y ≡ Value a) × T (not (notPast x a b))) ⊎ (next ≡ raise k a))
+      (λ t q. inr q) (λ n q. let s : y ≡ a = cc in inl (cc, cc, subst (λ z. T (not (notPast x z b))) s n)) e
 
   raise-unmet : (i : ℕ) (rs : List Rule) (k : ℕ) (a : ℤ) → firstUnmet P θ m i rs ≡ raise k a → (j : ℕ) × (k ≡ i + j) × (j < length rs) × Unmet (ruleIn rs j) a
   unfolding firstUnmet
   raise-unmet i [] k a e = let z : _≡_ {A = ℕ} 0 1 = cc in let f : ⊥ = omega arith in absurd f
-  raise-unmet i (r ∷ rs) k a e = go (ask-raise i (gives (P .variables) r m θ) (m (r .head)) (firstUnmet P θ m (suc i) rs) k a e) (raise-unmet (suc i) rs k a)
+  raise-unmet i (r ∷ rs) k a e =
+      go (ask-raise (variableIn (P .variables) (r .head)) i (gives (P .variables) r m θ) (m (r .head)) (firstUnmet P θ m (suc i) rs) k a e) (raise-unmet (suc i) rs k a)
     where
-      go : ((k ≡ i) × (gives (P .variables) r m θ ≡ Value a) × T (not (leZ a (m (r .head))))) ⊎ (firstUnmet P θ m (suc i) rs ≡ raise k a)
+      go : ((k ≡ i) × (gives (P .variables) r m θ ≡ Value a) × T (not (notPast (variableIn (P .variables) (r .head)) a (m (r .head))))) ⊎ (firstUnmet P θ m (suc i) rs ≡ raise k a)
           → (firstUnmet P θ m (suc i) rs ≡ raise k a → (j : ℕ) × (k ≡ suc i + j) × (j < length rs) × Unmet (ruleIn rs j) a)
           → (j : ℕ) × (k ≡ i + j) × (j < length (r ∷ rs)) × Unmet (ruleIn (r ∷ rs) j) a
       go (inl u) f = (zero, omega (arith, u .0), suc-le-suc zero-le, record { value-is = u .1; more = u .2 })
@@ -124,8 +128,8 @@ module _ {P : Program} (p : Promises P) {θ : Valuation} (w : Within (system P) 
     progress : Progress (system P) θ (valued m)
 
   -- the starting ends
-  on-way : OnWay (lows θ 0 (P .variables))
-  on-way = record { len = lows-length θ 0 (P .variables); progress = progress-start (laws p) w (valued (lows θ 0 (P .variables))) (lows-is P w) }
+  on-way : OnWay (starts θ 0 (P .variables))
+  on-way = record { len = starts-length θ 0 (P .variables); progress = progress-start w (valued (starts θ 0 (P .variables))) (starts-is P w) }
 
   -- rule j gives a, which is more than its head has
   module _ {m : List ℤ} (o : OnWay m) (j : ℕ) (h : j < length (P .rules)) {a : ℤ} (u : Unmet P θ (valued m) (ruleIn (P .rules) j) a) where
@@ -135,22 +139,19 @@ module _ {P : Program} (p : Promises P) {θ : Valuation} (w : Within (system P) 
     there : x < length (P .variables)
     there = founded-declared (P .variables) x (head-founded p j h)
 
-    low : T (not (leZ a (valued m x))) → T (leZ (valued m x) a)
-    low t = omega int
-
     -- within its range it is raised
-    raised-way : T (leZ a (variableIn (P .variables) x .high)) → OnWay (set m x a)
+    raised-way : T (allows (variableIn (P .variables) x) a) → OnWay (set m x a)
     raised-way t = record {
       len = length-set m x a ∙ o .len;
-      progress = progress-raise (laws p) w (o .progress) j h (head-founded p j h) a a (u .value-is) (laws p .refl x a) (record { le = low (u .more) }) (record { le = t })
+      progress = progress-raise (laws p) w (o .progress) j h (head-founded p j h) a a (u .value-is) (below-refl x a) (short-below (record { lt = u .more })) (record { le = t })
           (valued (set m x a)) (stored m x a (omega (arith, there, o .len)));
     }
 
-    raised-nearer : T (leZ a (variableIn (P .variables) x .high)) → gap (P .variables) (set m x a) < gap (P .variables) m
+    raised-nearer : T (allows (variableIn (P .variables) x) a) → gap (P .variables) (set m x a) < gap (P .variables) m
     raised-nearer = gap-raised (P .variables) m x a there (omega (arith, o .len)) (u .more)
 
     -- beyond it there is no model
-    over-way : T (not (leZ a (variableIn (P .variables) x .high))) → (m′ : Valuation) → Model (system P) θ m′ → ⊥
+    over-way : T (not (allows (variableIn (P .variables) x) a)) → (m′ : Valuation) → Model (system P) θ m′ → ⊥
     over-way n = progress-over (laws p) w (o .progress) j h a (u .value-is) (record { lt = n })
 
   act-right : (go : List ℤ → Outcome) → ((m : List ℤ) → OnWay m → Right P θ (go m)) → (m : List ℤ) → OnWay m
@@ -161,7 +162,7 @@ module _ {P : Program} (p : Promises P) {θ : Valuation} (w : Within (system P) 
       subst (λ k. Right P θ (act P go m (raise k a))) (omega (arith, n .1)) (at (n .0) (n .2) (n .3))
     where
       at : (j : ℕ) → j < length (P .rules) → Unmet P θ (valued m) (ruleIn (P .rules) j) a → Right P θ (act P go m (raise j a))
-      at j h u = cases (leZ a (variableIn (P .variables) (ruleIn (P .rules) j .head) .high)) (λ c. Right P θ (raised go c (set m (ruleIn (P .rules) j .head) a)))
+      at j h u = cases (allows (variableIn (P .variables) (ruleIn (P .rules) j .head)) a) (λ c. Right P θ (raised go c (set m (ruleIn (P .rules) j .head) a)))
           (λ t. ih (set m (ruleIn (P .rules) j .head) a) (raised-way o j h u t)) (over-way o j h u)
 
   iterate-right : (k : ℕ) (m : List ℤ) → OnWay m → Right P θ (iterate P θ k m)
@@ -170,7 +171,7 @@ module _ {P : Program} (p : Promises P) {θ : Valuation} (w : Within (system P) 
   iterate-right (suc k) m o = act-right (iterate P θ k) (iterate-right k) m o (firstUnmet P θ (valued m) zero (P .rules)) refl
 
   pub search-right : (k : ℕ) → Right P θ (search k P θ)
-  search-right k = iterate-right k (lows θ 0 (P .variables)) on-way
+  search-right k = iterate-right k (starts θ 0 (P .variables)) on-way
 
   -- ---- every reduct has a least model or no model
 
@@ -180,7 +181,7 @@ module _ {P : Program} (p : Promises P) {θ : Valuation} (w : Within (system P) 
   step-solved m o ih (raise i a) e = let n = raise-unmet P θ (valued m) zero (P .rules) i a e in at (n .0) (n .2) (n .3)
     where
       at : (j : ℕ) → j < length (P .rules) → Unmet P θ (valued m) (ruleIn (P .rules) j) a → Solvable P θ
-      at j h u = cases (leZ a (variableIn (P .variables) (ruleIn (P .rules) j .head) .high)) (λ c. Solvable P θ)
+      at j h u = cases (allows (variableIn (P .variables) (ruleIn (P .rules) j .head)) a) (λ c. Solvable P θ)
           (λ t. ih (set m (ruleIn (P .rules) j .head) a) (raised-way o j h u t) (raised-nearer o j h u t)) (λ n. inr (over-way o j h u n))
 
   -- each raise brings the values nearer to their far ends
@@ -189,4 +190,4 @@ module _ {P : Program} (p : Promises P) {θ : Valuation} (w : Within (system P) 
   solved-from (suc n) m l o = step-solved m o (λ m⁺ o⁺ k. solved-from n m⁺ (omega arith) o⁺) (firstUnmet P θ (valued m) zero (P .rules)) refl
 
   pub solvable : Solvable P θ
-  solvable = solved-from (suc (gap (P .variables) (lows θ 0 (P .variables)))) (lows θ 0 (P .variables)) (omega arith) on-way
+  solvable = solved-from (suc (gap (P .variables) (starts θ 0 (P .variables)))) (starts θ 0 (P .variables)) (omega arith) on-way

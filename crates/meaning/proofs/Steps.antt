@@ -6,27 +6,24 @@ use mathlib.Core.Bool.{Bool, true, false, not, cond, _&&_}
 use mathlib.Core.List.{List, [], _∷_}
 use native.Mathlib.Omega.{arith}
 use lib.Dec.{T, eqb}
-use lib.IntN.{ℤ, pos, negℤ, _-ℤ_}
+use lib.IntN.{ℤ, pos}
 use lib.ListN.{length, getD, set}
-use lib.Signed.{leZ, _≤ℤ_}
 use borrow.Author.Tests.{eq-eqb}
-use Rattle.format.proofs.Int.{int, up, sum-is, neg-is, not-negative}
-use Rattle.program.specs.Program.{Program, Rule, Variable, variableIn}
-use Rattle.program.specs.declared.Given.{Given}
-use Rattle.program.specs.declared.Given.the-variants.{Nothing, Value}
+use Rattle.program.specs.Program.{Program, Rule, variableIn}
 use Rattle.program.proofs.Conditions.{never, none-below}
-use Rattle.bodies.specs.Readings.{Evaluable}
-use Rattle.evaluation.proofs.Gives.{evaluate-same}
-use Rattle.meaning.specs.Founded.{Reaches}
-use Rattle.meaning.specs.Reduct.{system}
 use Rattle.meaning.specs.Reads.{readsKept}
 use Rattle.program.specs.Readings.{Valuation, bodyVariable, kept, reading, gives}
+use Rattle.program.specs.declared.Variable.{Variable}
+use Rattle.program.specs.Evaluable.{Evaluable}
+use Rattle.program.proofs.Gives.{evaluate-same}
+use Rattle.program.specs.Variables.{far, notPast}
+use Rattle.program.proofs.Variables.{toFar, nearer}
 
 -- m⁺ is m with h at a
 abbrev pub Raised : Valuation → Valuation → ℕ → ℤ → Type 0
 Raised m m⁺ h a = (v : ℕ) → (m⁺ v ≡ m v) ⊎ ((h ≡ v) × (m⁺ v ≡ a))
 
--- a rule that reads the raised variable at no kept place gives what it gave
+-- a rule that reads the raised variable at no kept position gives what it gave
 module _ (P : Program) (r : Rule) (θ m m⁺ : Valuation) (h : ℕ) (a : ℤ) (is : Raised m m⁺ h a) where
   same-reading : readsKept P r h ≡ false → (i : ℕ) → i < length (r .terms) → reading (P .variables) r m⁺ θ i ≡ reading (P .variables) r m θ i
   unfolding readsKept
@@ -46,34 +43,16 @@ module _ (P : Program) (r : Rule) (θ m m⁺ : Valuation) (h : ℕ) (a : ℤ) (i
   unfolding gives
   same-given e v = evaluate-same r (reading (P .variables) r m⁺ θ) (reading (P .variables) r m θ) (same-reading e) v
 
--- a value that is reached stays reached when it goes up
-pub reaches-more : (P : Program) (v : ℕ) (g : Given) (a b : ℤ) → a ≤ℤ b → Reaches (system P) v g a → Reaches (system P) v g b
-reaches-more P v Nothing a b h k = tt
-reaches-more P v (Value g) a b h k = record { le = trans g a b (k .le) (h .le) }
-  where
-    trans : (x y z : ℤ) → T (leZ x y) → T (leZ y z) → T (leZ x z)
-    trans x y z p q = omega int
-
 -- how far the values are from the far ends, in all
 abbrev pub gap : List Variable → List ℤ → ℕ
 gap [] xs = 0
 gap (x ∷ vs) [] = 0
-gap (x ∷ vs) (z ∷ zs) = up (x .high -ℤ z) + gap vs zs
-
-nearer : (x a h : ℤ) → T (not (leZ a x)) → T (leZ a h) → up (h -ℤ a) < up (h -ℤ x)
-nearer x a h n t =
-    omega (int, sum-is h (negℤ a), sum-is h (negℤ x), neg-is a, neg-is x, not-negative {z = h -ℤ a} far, not-negative {z = h -ℤ x} farther)
-  where
-    far : pos 0 ≤ℤ (h -ℤ a)
-    far = omega (int, sum-is h (negℤ a), neg-is a)
-
-    farther : pos 0 ≤ℤ (h -ℤ x)
-    farther = omega (int, sum-is h (negℤ x), neg-is x)
+gap (x ∷ vs) (z ∷ zs) = toFar x z + gap vs zs
 
 -- a raise within the range brings them nearer
-pub gap-raised : (vs : List Variable) (zs : List ℤ) (h : ℕ) (a : ℤ) → h < length vs → length vs ≤ length zs → T (not (leZ a (getD zs h (pos 0))))
-    → T (leZ a (variableIn vs h .high)) → gap vs (set zs h a) < gap vs zs
+pub gap-raised : (vs : List Variable) (zs : List ℤ) (h : ℕ) (a : ℤ) → h < length vs → length vs ≤ length zs → T (not (notPast (variableIn vs h) a (getD zs h (pos 0))))
+    → T (notPast (variableIn vs h) a (far (variableIn vs h))) → gap vs (set zs h a) < gap vs zs
 gap-raised [] zs h a k l n t = let f : ⊥ = omega arith in absurd f
 gap-raised (x ∷ vs) [] h a k l n t = let f : ⊥ = omega arith in absurd f
-gap-raised (x ∷ vs) (z ∷ zs) zero a k l n t = omega (arith, nearer z a (x .high) n t)
+gap-raised (x ∷ vs) (z ∷ zs) zero a k l n t = omega (arith, nearer x z a n t)
 gap-raised (x ∷ vs) (z ∷ zs) (suc h) a k l n t = omega (arith, gap-raised vs zs h a (omega arith) (omega arith) n t)

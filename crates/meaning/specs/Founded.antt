@@ -1,56 +1,52 @@
 -- Documents 000 (section 3) and 003 (Preliminaries): the reduct's models and the least one, over any rules. A variable is a number and a
--- valuation gives each a value of ℤ. Each variable has an order of its own and a starting end: ≤ and its low for one founded from below.
+-- valuation gives each a value of ℤ. Each variable has an order of its own and a starting end.
 use mathlib.Core.Path.{_≡_}
-use mathlib.Core.Bool.{Bool, not}
+use mathlib.Core.Bool.{not}
 use Prim.Native.Nat.{ℕ}
 use lib.IntN.{ℤ}
 use lib.Dec.{T}
+use Rattle.program.specs.Variables.{founded, notPast, inRange, noMore}
 use Rattle.program.specs.Readings.{Valuation}
 use Rattle.program.specs.declared.Direction.{Direction}
 use Rattle.program.specs.declared.Given.{Given}
-use Rattle.program.specs.declared.Given.the-variants.{Nothing, Value}
+use Rattle.program.specs.declared.Variable.{Variable}
 
 -- the rules of a program and its variables, as far as the theory reads them
 pub record System : Type 1 where
-  pub founded : ℕ → Bool
-  -- the order of a variable, its starting end and its far end
-  pub leq : ℕ → ℤ → ℤ → Bool
-  pub start : ℕ → ℤ
-  pub far : ℕ → ℤ
+  -- the record of a variable, which has its order, its starting end and its far end
+  pub variable : ℕ → Variable
   pub Rule : Type 0
   pub In : Rule → Type 0
   pub head : Rule → ℕ
-  -- the variable stands at a place of the rule's body that pushes this way
+  -- the variable stands at a position of the rule's body that pushes this way
   pub occurs : Rule → ℕ → Direction → Type 0
-  -- what the rule gives, kept places read in the first valuation and all others in the second
+  -- what the rule gives, kept positions read in the first valuation and all others in the second
   pub gives : Rule → Valuation → Valuation → Given
 
 module _ (𝒮 : System) where
-  open System 𝒮 using (founded, leq, start, far, Rule, In, head, gives)
+  open System 𝒮 using (variable, Rule, In, head, gives)
 
   -- a is at or before b, and a is before b, in the order of the variable v
   pub record Below (v : ℕ) (a b : ℤ) : Type 0 where
-    pub le : T (leq v a b)
+    pub le : T (notPast (variable v) a b)
 
   pub record Short (v : ℕ) (a b : ℤ) : Type 0 where
-    pub lt : T (not (leq v b a))
+    pub lt : T (not (notPast (variable v) b a))
 
-  -- "A rule is met when it gives no more than its head has; one that gives nothing never gives more."
-  abbrev pub Reaches : ℕ → Given → ℤ → Type 0
-  Reaches v Nothing b = Unit {0}
-  Reaches v (Value a) b = Below v a b
+  -- a head v that has b is given no more
+  abbrev pub GivenNoMore : ℕ → Given → ℤ → Type 0
+  GivenNoMore v g b = T (noMore (variable v) g b)
 
   -- every value lies in its range
   pub record Within (m : Valuation) : Type 0 where
-    pub low : (v : ℕ) → Below v (start v) (m v)
-    pub high : (v : ℕ) → Below v (m v) (far v)
+    pub inside : (v : ℕ) → T (inRange (variable v) (m v))
 
   -- m is a model of the reduct of θ: "The reduct says that each head is at least what its rule gives, kept variables read from the model;
   -- founded values lie in low..high." Standard variables are as assigned
   pub record Model (θ m : Valuation) : Type 0 where
-    pub standard : (v : ℕ) → T (not (founded v)) → m v ≡ θ v
+    pub standard : (v : ℕ) → T (not (founded (variable v))) → m v ≡ θ v
     pub within : Within m
-    pub rules : (r : Rule) → In r → Reaches (head r) (gives r m θ) (m (head r))
+    pub rules : (r : Rule) → In r → GivenNoMore (head r) (gives r m θ) (m (head r))
 
   -- m is at or below every model
   pub record Floor (θ m : Valuation) : Type 0 where
@@ -65,3 +61,9 @@ module _ (𝒮 : System) where
   pub record Minimal (θ m : Valuation) : Type 0 where
     pub model : Model θ m
     pub none-below : (m′ : Valuation) → Model θ m′ → (v : ℕ) → Short v (m′ v) (m v) → ⊥
+
+  -- 000, section 2: "The minimal solution to a HORN-CP is a solution θ such that there does not exist another solution θ' with ∀v ∈ V,
+  -- θ'(v) ≤ θ(v)." A solution at or below it everywhere is no other one
+  pub record MinimalEverywhere (θ m : Valuation) : Type 0 where
+    pub model : Model θ m
+    pub no-other : (m′ : Valuation) → Model θ m′ → ((v : ℕ) → Below v (m′ v) (m v)) → (v : ℕ) → m′ v ≡ m v

@@ -11,7 +11,7 @@ use Rattle.program.specs.Readings.{Valuation}
 use Rattle.meaning.specs.Founded.{Model, Least}
 use Rattle.meaning.specs.Reduct.{system}
 use Rattle.meaning.specs.Stable.{assigned}
-use Rattle.meaning.specs.Calls.{leastBytes, Refuses, Called, denialNumber, denialPlace}
+use Rattle.meaning.specs.Calls.{Refuses, Called, lengths, denialNumber, denialPlace}
 use Rattle.meaning.specs.declared.Solved.{Solved}
 use Rattle.meaning.specs.declared.Solved.the-variants as solved
 
@@ -42,12 +42,16 @@ unfoldable pub written : Valuation → ℕ → List ℕ
 written m zero = []
 written m (suc n) = written m n ++ bytesOf (m n)
 
+-- "lent buffer under .. 2 × variables (least)"
+abbrev pub leastBytes : ℕ
+leastBytes = 2
+
 -- what the call answers for a file, an assignment and a lent buffer, and the buffer afterwards. "Only this last case writes, and only those
 -- bytes."
 pub data LeastCall (s a b : List ℕ) : Answer → List ℕ → Type 0 where
-  turned-down : {n at : ℕ} → Refuses leastBytes s a b n at → LeastCall s a b (refusal n at) b
-  outside : {P : Program} {v : ℕ} → Called leastBytes s a b P → FirstOutside P (assigned a) v → LeastCall s a b (range v) b
-  no-model : {P : Program} → Called leastBytes s a b P → AllInside P (assigned a) → ((m : Valuation) → Model (system P) (assigned a) m → ⊥)
+  turned-down : {n at : ℕ} → Refuses (lengths leastBytes a b) s n at → LeastCall s a b (refusal n at) b
+  outside : {P : Program} {v : ℕ} → Called (lengths leastBytes a b) s P → FirstOutside P (assigned a) v → LeastCall s a b (range v) b
+  no-model : {P : Program} → Called (lengths leastBytes a b) s P → AllInside P (assigned a) → ((m : Valuation) → Model (system P) (assigned a) m → ⊥)
       → LeastCall s a b none b
-  least-model : {P : Program} {m : Valuation} → Called leastBytes s a b P → AllInside P (assigned a) → Least (system P) (assigned a) m
+  least-model : {P : Program} {m : Valuation} → Called (lengths leastBytes a b) s P → AllInside P (assigned a) → Least (system P) (assigned a) m
       → LeastCall s a b found (written m (length (P .variables)) ++ drop (2 * length (P .variables)) b)

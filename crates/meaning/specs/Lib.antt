@@ -3,6 +3,7 @@ pub mod Reduct
 pub mod Stable
 pub mod Calls
 pub mod LeastCall
+pub mod LeastDemands
 pub mod Unfounded
 pub mod Search
 pub mod Reads

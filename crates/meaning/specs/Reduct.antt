@@ -3,20 +3,15 @@
 use Prim.Native.Nat.{ℕ, _<_}
 use mathlib.Core.Path.{_≡_}
 use lib.ListN.{length}
-use lib.Signed.{leZ}
 use Rattle.program.specs.Program.{Program, variableIn, ruleIn}
-use Rattle.program.specs.Variables.{founded}
 use Rattle.program.specs.Directions.{direction}
 use Rattle.program.specs.Readings.{bodyVariable, gives}
 use Rattle.meaning.specs.Founded.{System}
 
--- a program as a system of the theory: every order is ≤, every starting end the low, and a rule is its number
+-- a program as a system of the theory: a rule is its number
 abbrev pub system : Program → System
 system P = record {
-  founded = λ v. founded (variableIn (P .variables) v);
-  leq = λ v. leZ;
-  start = λ v. variableIn (P .variables) v .low;
-  far = λ v. variableIn (P .variables) v .high;
+  variable = variableIn (P .variables);
   Rule = ℕ;
   In = λ i. i < length (P .rules);
   head = λ i. ruleIn (P .rules) i .head;

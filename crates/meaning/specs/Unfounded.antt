@@ -1,39 +1,41 @@
 -- Demand 3, over any rules: "An unfounded set is a non-empty set of founded variables, each with a bound from its lowest value to one below
 -- its assigned value, where no rule heading into the set gives more than its head's bound. Such a rule is read with founded variables of
 -- the set at their bounds where they push it up, and all else as assigned."
-use mathlib.Core.Bool.{Bool, not, cond, _&&_}
+use mathlib.Core.Bool.{Bool, not, cond}
 use Prim.Native.Nat.{ℕ}
 use lib.Dec.{T}
 use Rattle.program.specs.declared.Direction.{Direction}
 use Rattle.program.specs.declared.Direction.the-variants.{Rising, Falling, Mixed}
-use Rattle.meaning.specs.Founded.{System, Below, Short, Reaches}
+use Rattle.meaning.specs.Founded.{System, Below, Short, GivenNoMore}
 use Rattle.program.specs.Readings.{Valuation}
+use Rattle.program.specs.Variables.{founded, start}
+use Rattle.program.specs.Variables as variables
 
 -- the bounds in the set, θ elsewhere
 abbrev pub over : (ℕ → Bool) → Valuation → Valuation → Valuation
 over dom bound θ v = cond (dom v) (bound v) (θ v)
 
 module _ (𝒮 : System) where
-  open System 𝒮 using (founded, leq, start, Rule, In, head, occurs, gives)
+  open System 𝒮 using (variable, Rule, In, head, occurs, gives)
 
   pub record Unfounded (θ : Valuation) (dom : ℕ → Bool) (bound : Valuation) : Type 0 where
     pub some : (v : ℕ) × T (dom v)
-    pub are : (v : ℕ) → T (dom v) → T (founded v)
-    pub low : (v : ℕ) → T (dom v) → Below 𝒮 v (start v) (bound v)
+    pub are : (v : ℕ) → T (dom v) → T (founded (variable v))
+    pub low : (v : ℕ) → T (dom v) → Below 𝒮 v (start (variable v)) (bound v)
     pub less : (v : ℕ) → T (dom v) → Short 𝒮 v (bound v) (θ v)
-    pub rules : (r : Rule) → In r → T (dom (head r)) → Reaches 𝒮 (head r) (gives r (over dom bound θ) θ) (bound (head r))
+    pub rules : (r : Rule) → In r → T (dom (head r)) → GivenNoMore 𝒮 (head r) (gives r (over dom bound θ) θ) (bound (head r))
 
-  -- the founded variables that m leaves below θ
+  -- the variables that m leaves short of θ
   abbrev pub short : Valuation → Valuation → ℕ → Bool
-  short θ m v = founded v && not (leq v (θ v) (m v))
+  short θ m v = variables.short (variable v) (θ v) (m v)
 
-  -- what a place of a body asks of θ′: "at most for a rising variable, except a kept one in the set; at least for a falling one; both for
+  -- what a position of a body asks of θ′: "at most for a rising variable, except a kept one in the set; at least for a falling one; both for
   -- a mixed one"
-  abbrev pub Condition : Valuation → (ℕ → Bool) → Valuation → ℕ → Direction → Type 0
-  Condition θ dom θ′ x Rising = T (not (dom x)) → Below 𝒮 x (θ′ x) (θ x)
-  Condition θ dom θ′ x Falling = Below 𝒮 x (θ x) (θ′ x)
-  Condition θ dom θ′ x Mixed = Below 𝒮 x (θ′ x) (θ x) × Below 𝒮 x (θ x) (θ′ x)
+  abbrev pub AskedOf : Valuation → (ℕ → Bool) → Valuation → ℕ → Direction → Type 0
+  AskedOf θ dom θ′ x Rising = T (not (dom x)) → Below 𝒮 x (θ′ x) (θ x)
+  AskedOf θ dom θ′ x Falling = Below 𝒮 x (θ x) (θ′ x)
+  AskedOf θ dom θ′ x Mixed = Below 𝒮 x (θ′ x) (θ x) × Below 𝒮 x (θ x) (θ′ x)
 
   -- θ′ meets the conditions of every rule heading into the set
   abbrev pub Conditions : Valuation → (ℕ → Bool) → Valuation → Type 0
-  Conditions θ dom θ′ = (r : Rule) → In r → T (dom (head r)) → (x : ℕ) (d : Direction) → occurs r x d → Condition θ dom θ′ x d
+  Conditions θ dom θ′ = (r : Rule) → In r → T (dom (head r)) → (x : ℕ) (d : Direction) → occurs r x d → AskedOf θ dom θ′ x d

@@ -1,11 +1,6 @@
-// The parts of a rule file, from its bytes: terms, variables, and which way a place of a rule's body pushes.
-pub mod directions;
+// The parts of a rule file, each read from its own stretch of the file: fields, variables, rules and constraints, terms.
+pub mod constraints;
+pub mod places;
+pub mod rules;
 pub mod terms;
 pub mod variables;
-
-// A term of a body.
-pub struct Term {
-    pub variable: u8,
-    pub op: u8,
-    pub number: i64,
-}

@@ -2,68 +2,62 @@
 use Prim.Native.Nat.{ℕ, _*_, _<_, _≤_}
 use mathlib.Core.Path.{_≡_, refl, subst}
 use mathlib.Core.List.{List, [], _∷_}
-use mathlib.Core.Bool.{Bool, true, false, not, _||_}
+use mathlib.Core.Bool.{Bool, false, not, _||_}
 use native.Mathlib.Omega.{arith}
 use borrow.Author.Tests.{leb-false, eqb-true, not-false}
 use lib.Dec.{T, lit<, lit≤, eqb, leb, ltb, ltb→lt, nltb→le}
 use lib.IntN.{ℤ, pos, negℤ}
-use lib.Signed.{leZ}
 use lib.ListN.{length}
-use Rattle.format.proofs.Int.{int}
 use Rattle.format.specs.Limits.{maxFile}
 use Rattle.format.specs.Numbers.{beyond}
 use Rattle.program.specs.Tables.{anyBelow}
 use Rattle.program.specs.Fields.{place, tagBefore}
 use Rattle.program.specs.Program.{Program, program, termsOf, variableIn, ruleIn}
-use Rattle.program.specs.Refusals.{cutShort, unknownTag, tagBelow, oneTooMany, notTerms, wrongLength, literalPlace, wrongOp, mustBeZero, wrongTerm, unknownForm, wrongConstraint, wrongForm, outsideTerm, outsideRange, undeclaredTerm, wrongHead, undeclared, wrongCountOf, wrongCount, repeatedTerm, variableTwice, negativeTerm, negativeProduct, itemRefusal, valueRefusal, fieldRefusal}
+use Rattle.program.specs.Refusals.{cutShort, unknownTag, tagBelow, oneTooMany, notTerms, wrongLength, literalPosition, wrongOp, mustBeZero, wrongTerm, unknownForm, wrongConstraint, wrongForm, outsideTerm, outsideRange, undeclaredTerm, wrongHead, undeclared, wrongCountOf, wrongCount, repeatedTerm, variableTwice, negativeTerm, negativeProduct, itemRefusal, valueRefusal, fieldRefusal}
 use Rattle.program.specs.Directions.{direction, isMixed}
 use Rattle.program.specs.Components.{Valid}
 use Rattle.program.specs.Reading.{Accepts}
-use Rattle.program.specs.declared.Given.{Given}
-use Rattle.program.specs.declared.Given.the-variants.{Nothing, Value}
 use Rattle.program.proofs.Conditions.{never, neither, none-below}
 use Rattle.program.proofs.Promises.{accepts-promises}
-use Rattle.meaning.specs.Founded.{Reaches, Model, Least}
+use Rattle.meaning.specs.Founded.{Model, Least}
 use Rattle.meaning.specs.Reduct.{system}
 use Rattle.meaning.specs.Stable.{assigned, RuleMet, Meets}
 use Rattle.meaning.specs.LeastCall.{AllInside}
 use Rattle.meaning.specs.Search.{found, search}
 use Rattle.plans.specs.Starred.{Plan, StablePlan, UnfoundedPlan, UnmetPlan, small, printed, example2, example1, example4, contrary, StarredPlans}
-use Rattle.meaning.proofs.Tests.{cases, is-true}
 use Rattle.meaning.proofs.InRanges.{past-zero, assigned-within}
 use Rattle.meaning.proofs.Search as searching
 use Rattle.meaning.proofs.Search.{Right, search-right}
 use Rattle.program.specs.Readings.{Valuation, gives, valued}
-use Rattle.program.specs.Variables.{inRange}
+use Rattle.program.specs.Variables.{inRange, notPast, noMore}
+use Rattle.program.proofs.Tests.{cases, is-true, is-test}
+use Rattle.program.proofs.Variables.{past-refl, past-trans}
+use Rattle.program.specs.declared.Variable.{Variable}
 
 -- ---- the tests
 
 -- one of the first k fields does not stand in the file or meets a refusal
-unfoldable unfit : List ℕ → ℕ → Bool
+unfoldable pub unfit : List ℕ → ℕ → Bool
 unfit s k = anyBelow k (λ j. leb (length s) (place s j) || not (eqb (fieldRefusal s j) 0))
 
--- some rule has a mixed place
-unfoldable mixed-in : Program → Bool
+-- some rule has a mixed position
+unfoldable pub mixed-in : Program → Bool
 mixed-in P = anyBelow (length (P .rules)) (λ i. anyBelow (length (ruleIn (P .rules) i .terms)) (λ j. isMixed (direction (P .variables) (ruleIn (P .rules) i) j)))
 
 -- some variable is outside its range
-unfoldable outside-in : Program → Valuation → Bool
+unfoldable pub outside-in : Program → Valuation → Bool
 outside-in P θ = anyBelow (length (P .variables)) (λ v. not (inRange (variableIn (P .variables) v) (θ v)))
 
-abbrev met : Given → ℤ → Bool
-met Nothing b = true
-met (Value a) b = leZ a b
-
-abbrev rule-met : Program → Valuation → ℕ → Bool
-rule-met P θ i = met (gives (P .variables) (ruleIn (P .rules) i) θ θ) (θ (ruleIn (P .rules) i .head))
+abbrev pub rule-met : Program → Valuation → ℕ → Bool
+rule-met P θ i = noMore (variableIn (P .variables) (ruleIn (P .rules) i .head)) (gives (P .variables) (ruleIn (P .rules) i) θ θ) (θ (ruleIn (P .rules) i .head))
 
 -- one of the first n rules is not met
-unfoldable unmet-in : Program → Valuation → ℕ → Bool
+unfoldable pub unmet-in : Program → Valuation → ℕ → Bool
 unmet-in P θ n = anyBelow n (λ i. not (rule-met P θ i))
 
--- one of the variables is above m
-unfoldable above-in : Program → Valuation → Valuation → Bool
-above-in P θ m = anyBelow (length (P .variables)) (λ v. not (leZ (θ v) (m v)))
+-- one of the variables is past m
+unfoldable pub above-in : Program → Valuation → Valuation → Bool
+above-in P θ m = anyBelow (length (P .variables)) (λ v. not (notPast (variableIn (P .variables) v) (θ v) (m v)))
 
 -- unfolding these unfolds the reading of a file
 fields-compute : Unit {0}
@@ -71,7 +65,7 @@ unfolding beyond anyBelow place tagBefore program termsOf cutShort unknownTag ta
 fields-compute = tt
 
 items-compute : Unit {0}
-unfolding literalPlace wrongOp mustBeZero wrongTerm unknownForm wrongConstraint wrongForm outsideTerm outsideRange undeclaredTerm wrongHead undeclared wrongCountOf
+unfolding literalPosition wrongOp mustBeZero wrongTerm unknownForm wrongConstraint wrongForm outsideTerm outsideRange undeclaredTerm wrongHead undeclared wrongCountOf
 items-compute = tt
 
 bodies-compute : Unit {0}
@@ -89,9 +83,9 @@ none-mixed : (P : Program) → mixed-in P ≡ false → Valid P
 unfolding mixed-in
 none-mixed P e i o = never (o .pushes) (none-below _ _ (none-below _ _ e i (o .among)) (o .at) (o .inside))
 
-read : (s : List ℕ) (k : ℕ) → length s ≤ maxFile → unfit s k ≡ false → length s ≤ place s k → mixed-in (program s k) ≡ false → Accepts s (program s k)
+pub read-valid : (s : List ℕ) (k : ℕ) → length s ≤ maxFile → unfit s k ≡ false → length s ≤ place s k → Valid (program s k) → Accepts s (program s k)
 unfolding unfit
-read s k short fit ended valid = record {
+read-valid s k short fit ended valid = record {
   fields = k;
   whole = record {
     passed = record {
@@ -102,29 +96,22 @@ read s k short fit ended valid = record {
     ended = ended;
   };
   means = refl;
-  valid = none-mixed (program s k) valid;
+  valid = valid;
 }
   where
     at : (j : ℕ) → j < k → (leb (length s) (place s j) ≡ false) × (not (eqb (fieldRefusal s j) 0) ≡ false)
     at j h = neither (leb (length s) (place s j)) (not (eqb (fieldRefusal s j) 0)) (none-below k _ fit j h)
 
-all-inside : (P : Program) (θ : Valuation) → outside-in P θ ≡ false → AllInside P θ
+pub read : (s : List ℕ) (k : ℕ) → length s ≤ maxFile → unfit s k ≡ false → length s ≤ place s k → mixed-in (program s k) ≡ false → Accepts s (program s k)
+read s k short fit ended none = read-valid s k short fit ended (none-mixed (program s k) none)
+
+pub all-inside : (P : Program) (θ : Valuation) → outside-in P θ ≡ false → AllInside P θ
 unfolding outside-in
 all-inside P θ e v h = not-false (inRange (variableIn (P .variables) v) (θ v)) (none-below (length (P .variables)) _ e v h)
 
-met-reaches : (P : Program) (v : ℕ) (g : Given) (b : ℤ) → met g b ≡ true → Reaches (system P) v g b
-met-reaches P v Nothing b e = tt
-met-reaches P v (Value a) b e = record { le = rw e tt }
-
-reaches-met : (P : Program) (v : ℕ) (g : Given) (b : ℤ) → met g b ≡ false → Reaches (system P) v g b → ⊥
-reaches-met P v Nothing b e r = never refl e
-reaches-met P v (Value a) b e r = never (is-true (leZ a b) (r .le)) e
-
-rules-met : (P : Program) (θ : Valuation) (n : ℕ) → unmet-in P θ n ≡ false → (i : ℕ) → i < n → RuleMet P θ i
+pub rules-met : (P : Program) (θ : Valuation) (n : ℕ) → unmet-in P θ n ≡ false → (i : ℕ) → i < n → RuleMet P θ i
 unfolding unmet-in
-rules-met P θ n e i h =
-    let r = ruleIn (P .rules) i in
-    met-reaches P (r .head) (gives (P .variables) r θ θ) (θ (r .head)) (not-false (rule-met P θ i) (none-below n _ e i h))
+rules-met P θ n e i h = is-test (not-false (rule-met P θ i) (none-below n _ e i h))
 
 -- ---- plans
 
@@ -142,14 +129,15 @@ module _ {s a : List ℕ} {P : Program} (p : Plan s a P) where
     floor = record { under = λ m′ k v. record { le = under m′ k v } };
   }
     where
-      under : (m′ : Valuation) → Model (system P) (assigned a) m′ → (v : ℕ) → T (leZ (assigned a v) (m′ v))
-      under m′ k v = cases (ltb v (length (P .variables))) (λ b. T (leZ (assigned a v) (m′ v)))
-          (λ t. let e₁ = not-false (leZ (assigned a v) (m v)) (none-below (length (P .variables)) _ e v (ltb→lt v (length (P .variables)) t)) in
-          let h : T (leZ (assigned a v) (m v)) = rw e₁ tt in
-          let h′ : T (leZ (m v) (m′ v)) = l .floor .under m′ k v .le in
-          omega int)
+      under : (m′ : Valuation) → Model (system P) (assigned a) m′ → (v : ℕ) → T (notPast (variableIn (P .variables) v) (assigned a v) (m′ v))
+      under m′ k v = cases (ltb v (length (P .variables))) (λ b. T (notPast x (assigned a v) (m′ v)))
+          (λ t. let h = is-test (not-false (notPast x (assigned a v) (m v)) (none-below (length (P .variables)) _ e v (ltb→lt v (length (P .variables)) t))) in
+          past-trans x (assigned a v) (m v) (m′ v) h (l .floor .under m′ k v .le))
           (λ n. let h = nltb→le v (length (P .variables)) n in
-          rw (past-zero P (p .ranges) v h, past-zero P (k .within) v h) tt)
+          rw (past-zero P (p .ranges) v h, past-zero P (k .within) v h) (past-refl x (pos 0)))
+        where
+          x : Variable
+          x = variableIn (P .variables) v
 
   all-met : unmet-in P (assigned a) (length (P .rules)) ≡ false → length (P .constraints) ≡ 0 → Meets P (assigned a)
   all-met r c = record {
@@ -166,27 +154,27 @@ module _ {s a : List ℕ} {P : Program} (p : Plan s a P) where
     stable = record { meets = all-met r c; least = self-least r (search-least k m e) f };
   }
 
-  -- the least model is below the assignment at v
-  unfounded-plan : (k : ℕ) (m : List ℤ) → search k P (assigned a) ≡ found m → unmet-in P (assigned a) (length (P .rules)) ≡ false
-      → length (P .constraints) ≡ 0 → (v : ℕ) → leZ (assigned a v) (valued m v) ≡ false → UnfoundedPlan s a m
+  -- the least model leaves v short of the assignment
+  pub unfounded-plan : (k : ℕ) (m : List ℤ) → search k P (assigned a) ≡ found m → unmet-in P (assigned a) (length (P .rules)) ≡ false
+      → length (P .constraints) ≡ 0 → (v : ℕ) → notPast (variableIn (P .variables) v) (assigned a v) (valued m v) ≡ false → UnfoundedPlan s a m
   unfounded-plan k m e r c v f = record {
     means = P;
     plan = p;
     meets = all-met r c;
     least = search-least k m e;
-    not-stable = λ st. never (is-true (leZ (assigned a v) (valued m v)) (st .least .floor .under (valued m) (search-least k m e .model) v .le)) f;
+    not-stable = λ st. never (is-true (notPast (variableIn (P .variables) v) (assigned a v) (valued m v)) (st .least .floor .under (valued m) (search-least k m e .model) v .le)) f;
   }
 
-  unmet-plan : (i : ℕ) → i < length (P .rules) → rule-met P (assigned a) i ≡ false → unmet-in P (assigned a) i ≡ false → UnmetPlan s a i
+  pub unmet-plan : (i : ℕ) → i < length (P .rules) → rule-met P (assigned a) i ≡ false → unmet-in P (assigned a) i ≡ false → UnmetPlan s a i
   unmet-plan i h e f = record {
     means = P;
     plan = p;
     among = h;
-    unmet = let r = ruleIn (P .rules) i in reaches-met P (r .head) (gives (P .variables) r (assigned a) (assigned a)) (assigned a (r .head)) e;
+    unmet = λ t. never (is-true (rule-met P (assigned a) i) t) e;
     first = rules-met P (assigned a) i f;
   }
 
-plan-of : {s : List ℕ} {P : Program} (a : List ℕ) → Accepts s P → length a ≡ 2 * length (P .variables) → outside-in P (assigned a) ≡ false → Plan s a P
+pub plan-of : {s : List ℕ} {P : Program} (a : List ℕ) → Accepts s P → length a ≡ 2 * length (P .variables) → outside-in P (assigned a) ≡ false → Plan s a P
 plan-of {s} {P} a r l o = record { accepts = r; long = l; ranges = assigned-within P a (omega arith) (all-inside P (assigned a) o) }
 
 -- ---- the samples

@@ -13,42 +13,43 @@ use Rattle.program.proofs.Unique.{accepts-unique}
 use Rattle.meaning.specs.Founded.{Least}
 use Rattle.meaning.specs.Reduct.{system}
 use Rattle.meaning.specs.Stable.{assigned, Meets}
-use Rattle.meaning.specs.Calls.{checkBytes, Called}
+use Rattle.meaning.specs.Calls.{Called, lengths}
+use Rattle.meaning.proofs.Denials.{called}
 use Rattle.plans.specs.Starred.{Plan, StablePlan, UnfoundedPlan, UnmetPlan, small, printed, example2, example1, example4, contrary}
 use Rattle.plans.proofs.Starred as plans
 use Rattle.plans.proofs.Starred.{starred-plans, printed-read, example2-read, example1-read, example4-read, contrary-read}
-use Rattle.report.specs.Report.{bytesIn, ascending, askedBy, asked, shown, bounds, conditions}
-use Rattle.verdict.specs.Checks.{unfounded, stable, rule, Checks, judged, founded, not-founded, rule-unmet}
+use Rattle.report.specs.Report.{bytesIn, ascending, askedAt, askedBy, asked, shown, bounds, conditions}
+use Rattle.verdict.specs.Checks.{unfounded, stable, rule, checkBytes, Checks, judged, founded, not-founded, rule-unmet}
 use Rattle.plans.specs.StarredChecks.{Checked, StarredChecks}
 use Rattle.program.specs.Readings.{valued}
 
 -- unfolding this unfolds the report too
-computes : Unit {0}
-unfolding plans.computes bytesOf bytesIn ascending askedBy asked
+unfoldable pub computes : Unit {0}
+unfolding plans.computes bytesOf bytesIn ascending askedAt askedBy asked
 computes = tt
 
 -- a plan of n variables is not turned down
-plan-called : {s a b : List ℕ} {P : Program} → Plan s a P → (n : ℕ) → length a ≡ 2 * n → checkBytes * n ≤ length b → Called checkBytes s a b P
-plan-called p n e h = record { accepts = p .accepts; long = p .long; room = omega (arith, p .long) }
+pub plan-called : (b : List ℕ) {s a : List ℕ} {P : Program} → Plan s a P → (n : ℕ) → length a ≡ 2 * n → checkBytes * n ≤ length b → Called (lengths checkBytes a b) s P
+plan-called b {a = a} p n e h = called checkBytes a b (p .accepts) (p .long) (omega (arith, p .long))
 
 stable-checked : {s a : List ℕ} → StablePlan s a → (n : ℕ) → length a ≡ 2 * n → Checked s a n stable []
-stable-checked u n e b h = judged (plan-called (u .plan) n e h) (founded (u .stable))
+stable-checked u n e b h = judged (plan-called b (u .plan) n e h) (founded (u .stable))
 
-unmet-checked : {s a : List ℕ} {i : ℕ} → UnmetPlan s a i → (n : ℕ) → length a ≡ 2 * n → Checked s a n (rule i) []
-unmet-checked u n e b h = judged (plan-called (u .plan) n e h) (rule-unmet (u .plan .ranges) (record { among = u .among; unmet = u .unmet; first = u .first }))
+pub unmet-checked : {s a : List ℕ} {i : ℕ} → UnmetPlan s a i → (n : ℕ) → length a ≡ 2 * n → Checked s a n (rule i) []
+unmet-checked u n e b h = judged (plan-called b (u .plan) n e h) (rule-unmet (u .plan .ranges) (record { among = u .among; unmet = u .unmet; first = u .first }))
 
 -- the report of a plan, by the program Q that its file means
 module _ {s a : List ℕ} {m : List ℤ} (u : UnfoundedPlan s a m) {Q : Program} (x : Accepts s Q) (n : ℕ) (e : length a ≡ 2 * n) where
   same : u .means ≡ Q
   same = accepts-unique (u .plan .accepts) x
 
-  unfounded-checked : (v : ℕ) → T (shown Q (assigned a) (valued m) v) → (k l : ℕ) → length (bounds Q (assigned a) (valued m)) ≡ k
+  pub unfounded-checked : (v : ℕ) → T (shown Q (assigned a) (valued m) v) → (k l : ℕ) → length (bounds Q (assigned a) (valued m)) ≡ k
       → length (conditions Q (assigned a) (valued m)) ≡ l → (bytes : List ℕ) → bytesIn (bounds Q (assigned a) (valued m) ++ conditions Q (assigned a) (valued m)) ≡ bytes
       → 4 * (k + l) ≡ length bytes → Checked s a n (unfounded k l) bytes
   unfounded-checked v t k l p q bytes w size b h =
       subst (λ r. Checks s a b r (bytes ++ drop (length bytes) b)) (ap₂ unfounded p q)
       (subst (Checks s a b _) (ap₂ _++_ w (ap (λ (j : ℕ). drop j b) (ap (λ (j : ℕ). 4 * j) (ap₂ _+_ p q) ∙ size)))
-      (judged (subst (Called checkBytes s a b) same (plan-called (u .plan) n e h))
+      (judged (subst (Called (lengths checkBytes a b) s) same (plan-called b (u .plan) n e h))
       (not-founded (subst (λ (R : Program). Meets R (assigned a)) same (u .meets)) (subst (λ (R : Program). Least (system R) (assigned a) (valued m)) same (u .least)) (v, t))))
 
 printed-shown : Checked printed (small 0 (small 1 (small 1 []))) 3 (unfounded 2 1)

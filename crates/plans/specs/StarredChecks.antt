@@ -3,9 +3,8 @@
 use Prim.Native.Nat.{ℕ, _*_, _≤_}
 use mathlib.Core.List.{List, [], _∷_, _++_}
 use lib.ListN.{length, drop}
-use Rattle.meaning.specs.Calls.{checkBytes}
 use Rattle.plans.specs.Starred.{small, printed, example2, example1, example4, contrary}
-use Rattle.verdict.specs.Checks.{Answer, rule, unfounded, stable, Checks}
+use Rattle.verdict.specs.Checks.{Answer, rule, unfounded, stable, checkBytes, Checks}
 
 -- for every lent report with room for n variables the answer is r, and the report then starts with these bytes and is unchanged after them
 abbrev pub Checked : List ℕ → List ℕ → ℕ → Answer → List ℕ → Type 0

@@ -51,7 +51,7 @@ module _ (s : List ℕ) where
 
 -- what the demands say of a report with entries
 shown-by : {f a b : List ℕ} {n k : ℕ} {r : List ℕ} → Checks f a b (unfounded n k) r → (P : Program) × Shows P (assigned a) r n k
-shown-by (judged d j) = (_, checks-demands (judged d j) .shows _ (d .accepts) _ _ refl)
+shown-by {a = a} (judged d j) = (_, checks-demands {a = a} (judged d j) .shows _ (d .accepts) _ _ refl)
 
 pub entries-fit : {s a b : List ℕ} {r : Answer} {b′ : List ℕ} → Checks s a b r b′ → Demands s a b r b′ → 4 * entriesOf r ≤ length b′
 entries-fit (turned-down p) d = omega arith

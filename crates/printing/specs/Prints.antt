@@ -6,8 +6,7 @@ use lib.Dec.{T, ltb}
 use lib.ListN.{length, take, drop, replicate}
 use Rattle.format.specs.Limits.{maxVariables}
 use Rattle.format.specs.Numbers.{unsignedAt}
-use Rattle.meaning.specs.Calls.{checkBytes}
-use Rattle.verdict.specs.Checks.{Answer, refusal, Checks}
+use Rattle.verdict.specs.Checks.{Answer, refusal, checkBytes, Checks}
 use Rattle.entries.specs.Text.{textOf, firstMost, entryMost}
 use Rattle.text.specs.Output.{Holds}
 

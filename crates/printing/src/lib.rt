@@ -1,7 +1,7 @@
 // The printing program's text: the answer of the check, and its report's entries, in lines.
 ghost use mathlib.Core.Path.{_≡_};
 ghost use Rattle.printing.specs.Prints.{maxInput, misframed, reportBytes, room, Told, Printed};
-use calls::Call;
+use checker::call::Asks;
 use checker::call::check;
 use format::Format;
 use lines::put_answer;
@@ -17,7 +17,7 @@ impl Printing {
     pub const MISFRAMED: usize = 16;
 
     // The bytes of the report that the check is lent.
-    pub const REPORT: usize = Call::CHECK * Format::MAX_VARIABLES;
+    pub const REPORT: usize = Asks::BYTES * Format::MAX_VARIABLES;
 
     // Room for the longest text.
     pub const ROOM: usize = 14644;

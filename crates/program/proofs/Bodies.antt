@@ -5,9 +5,10 @@ use mathlib.Core.List.{List, [], _∷_}
 use native.Mathlib.Omega.{arith}
 use lib.ListN.{length, getD}
 use Rattle.format.specs.Numbers.{signedAt}
-use Rattle.program.specs.Program.{Term, termsOf, termIn}
+use Rattle.program.specs.Program.{termsOf, termIn}
+use Rattle.program.specs.declared.Term.{Term}
 
--- the term at place i of a body
+-- the term at position i of a body
 abbrev pub termAt : List ℕ → ℕ → Term
 termAt b i = record { variable = getD b (4 * i) 0; op = getD b (4 * i + 1) 0; number = signedAt b (4 * i + 2) }
 

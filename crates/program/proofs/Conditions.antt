@@ -1,6 +1,6 @@
 -- Conditions that are not met, one by one.
 use Prim.Native.Nat.{ℕ, zero, suc, _+_, _<_}
-use mathlib.Core.Path.{_≡_, refl}
+use mathlib.Core.Path.{_≡_, refl, ap₂}
 use mathlib.Core.List.{List, _∷_}
 use mathlib.Core.Logic.{_≢_}
 use mathlib.Core.Bool.{Bool, true, false, _||_, _&&_}
@@ -64,6 +64,11 @@ below-some n p i h e = go (anyBelow n p) refl
     go : (t : Bool) → anyBelow n p ≡ t → t ≡ true
     go true q = refl
     go false q = absurd (never e (none-below n p q i h))
+
+pub any-same : (n : ℕ) (p q : ℕ → Bool) → ((i : ℕ) → i < n → p i ≡ q i) → anyBelow n p ≡ anyBelow n q
+unfolding anyBelow
+any-same zero p q h = refl
+any-same (suc n) p q h = ap₂ _||_ (any-same n p q (λ i l. h i (omega arith))) (h n (omega arith))
 
 pub any-next : (n : ℕ) (p : ℕ → Bool) → anyBelow (n + 1) p ≡ (anyBelow n p || p n)
 unfolding anyBelow

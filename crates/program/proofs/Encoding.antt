@@ -15,10 +15,12 @@ use Rattle.format.specs.Limits.{maxVariables, maxNumber}
 use Rattle.format.specs.Numbers.{signed, bytesOf}
 use Rattle.format.proofs.Ints.{read-written, written-read, raw-small}
 use Rattle.program.specs.Fields.{lengthAt, valueAt}
-use Rattle.program.specs.Program.{Variable, Term, Rule, Constraint, termsOf, termIn, noTerm, variableOf, ruleOf, constraintOf}
-use Rattle.program.specs.Refusals.{literalPlace}
+use Rattle.program.specs.Program.{Rule, Constraint, termsOf, termIn, noTerm, variableOf, ruleOf, constraintOf}
+use Rattle.program.specs.Refusals.{literalPosition}
 use Rattle.program.specs.Encode.{each, fieldBytes, termBytes, variableBytes, ruleBytes, constraintBytes, Bytes, All}
 use Rattle.program.proofs.Promises.{TermPromise, BodyPromise, VariablePromise, RulePromise, ConstraintPromise}
+use Rattle.program.specs.declared.Variable.{Variable}
+use Rattle.program.specs.declared.Term.{Term}
 
 -- the values of fields
 abbrev pub variableValue : Variable → List ℕ
@@ -122,17 +124,17 @@ constraint-read k h l = rw (read-back (k .c) h, terms-read (k .terms) l)
 -- the numbers and ops of terms are small
 module _ {vs : List Variable} {form i : ℕ} {t : Term} (p : TermPromise vs form i t) where
   term-small : Small (t .number)
-  term-small = go (literalPlace form i) (eqb form 1) refl refl
+  term-small = go (literalPosition form i) (eqb form 1) refl refl
     where
-      go : (a b : Bool) → literalPlace form i ≡ a → eqb form 1 ≡ b → Small (t .number)
+      go : (a b : Bool) → literalPosition form i ≡ a → eqb form 1 ≡ b → Small (t .number)
       go true b e f = p .literal-small e
       go false true e f = omega (arith, p .coefficient-small (eqb-true form 1 f))
       go false false e f = omega (arith, ap natAbs (p .plain-zero e (eqb-false form 1 f)))
 
   term-op : t .op < 256
-  term-op = go (literalPlace form i) refl
+  term-op = go (literalPosition form i) refl
     where
-      go : (a : Bool) → literalPlace form i ≡ a → t .op < 256
+      go : (a : Bool) → literalPosition form i ≡ a → t .op < 256
       go true e = omega (arith, p .literal-op-most e)
       go false e = omega (arith, p .plain-op e)
 

@@ -1,7 +1,7 @@
 -- Document 01's small examples, shown of the specification; and wrong readers that it rules out.
 use Prim.Native.Nat.{ℕ, _<_}
 use mathlib.Core.Path.{_≡_, refl, sym, ap, _∙_}
-use mathlib.Core.Logic.{inr}
+use mathlib.Core.Logic.{inl, inr}
 use mathlib.Core.List.{List, [], _∷_}
 use mathlib.Core.Bool.{Bool, false}
 use lib.Dec.{lit<, lit≤}
@@ -12,8 +12,8 @@ use Rattle.walks.specs.Walk as walk
 use Rattle.program.specs.Tables.{anyBelow}
 use Rattle.program.specs.Fields.{place, tagBefore}
 use Rattle.program.specs.Program.{Program, program, termsOf, ruleIn}
-use Rattle.program.specs.Refusals.{cutShort, unknownTag, tagBelow, oneTooMany, notTerms, wrongLength, literalPlace, wrongOp, mustBeZero, wrongTerm, unknownForm, wrongConstraint, wrongForm, outsideTerm, outsideRange, undeclaredTerm, wrongHead, undeclared, wrongCountOf, wrongCount, repeatedTerm, variableTwice, negativeTerm, negativeProduct, itemRefusal, valueRefusal, fieldRefusal}
-use Rattle.program.specs.Directions.{direction, isMixed}
+use Rattle.program.specs.Refusals.{cutShort, unknownTag, tagBelow, oneTooMany, notTerms, wrongLength, literalPosition, wrongOp, mustBeZero, wrongTerm, unknownForm, wrongConstraint, wrongForm, outsideTerm, outsideRange, undeclaredTerm, wrongHead, undeclared, wrongCountOf, wrongCount, repeatedTerm, variableTwice, negativeTerm, negativeProduct, itemRefusal, valueRefusal, fieldRefusal}
+use Rattle.program.specs.Directions.{plainDirection, termDirection, direction, isMixed}
 use Rattle.program.specs.Components.{draws, edge, Offends, Valid}
 use Rattle.program.specs.Reading.{Answer, accepted, refused, Reads, bad-field, not-valid, whole}
 use Rattle.program.proofs.Conditions.{never, none-below}
@@ -22,7 +22,7 @@ use Rattle.program.proofs.Unique.{reads-unique}
 
 -- unfolding this unfolds the specification
 computes : Unit {0}
-unfolding beyond anyBelow place tagBefore program termsOf cutShort unknownTag tagBelow oneTooMany notTerms wrongLength literalPlace wrongOp mustBeZero wrongTerm unknownForm wrongConstraint wrongForm outsideTerm outsideRange undeclaredTerm wrongHead undeclared wrongCountOf wrongCount repeatedTerm variableTwice negativeTerm negativeProduct itemRefusal valueRefusal fieldRefusal direction draws edge
+unfolding beyond anyBelow place tagBefore program termsOf cutShort unknownTag tagBelow oneTooMany notTerms wrongLength literalPosition wrongOp mustBeZero wrongTerm unknownForm wrongConstraint wrongForm outsideTerm outsideRange undeclaredTerm wrongHead undeclared wrongCountOf wrongCount repeatedTerm variableTwice negativeTerm negativeProduct itemRefusal valueRefusal fieldRefusal plainDirection termDirection direction draws edge
 computes = tt
 
 -- rule i has a mixed place, and some of the first n rules has
@@ -137,6 +137,60 @@ row-13-from-zero =
     (record { passed = passed-more (passed-more (passed-more (passed-more (passed-none _ (lit≤ tt)) (lit< tt) refl) (lit< tt) refl) (lit< tt) refl) (lit< tt) refl; ended = lit≤ tt })
     (none-mixed _ refl)
 
+-- a ≥ b × d, all in 0..1
+abbrev product : List ℕ
+product = variable 1 (variable 1 (variable 1 (2 ∷ 0 ∷ 12 ∷ 4 ∷ 0 ∷ 0 ∷ 0 ∷ 1 ∷ 0 ∷ 0 ∷ 0 ∷ 2 ∷ 0 ∷ 0 ∷ 0 ∷ [])))
+
+pub row-12-from-zero : Reads product (accepted 3 1 0)
+unfolding computes mixed-in mixed-rule
+row-12-from-zero =
+    whole {k = 4}
+    (record {
+      passed = passed-more (passed-more (passed-more (passed-more (passed-none _ (lit≤ tt)) (lit< tt) refl) (lit< tt) refl) (lit< tt) refl) (lit< tt) refl;
+      ended = lit≤ tt;
+    })
+    (none-mixed _ refl)
+
+-- a ≥ k·b
+abbrev scaled : ℕ → List ℕ
+scaled k = variable 1 (variable 1 (2 ∷ 0 ∷ 8 ∷ 1 ∷ 0 ∷ 0 ∷ 0 ∷ 1 ∷ 0 ∷ 0 ∷ k ∷ []))
+
+pub row-8-coefficient : Reads (scaled 0) (refused 8 16)
+unfolding computes
+row-8-coefficient = bad-field {k = 2} (passed-more (passed-more (passed-none _ (lit≤ tt)) (lit< tt) refl) (lit< tt) refl) (lit< tt) (lit< tt)
+
+-- coefficient 1, of the last declared variable
+pub row-8-from-one : Reads (scaled 1) (accepted 2 1 0)
+unfolding computes mixed-in mixed-rule
+row-8-from-one =
+    whole {k = 3}
+    (record {
+      passed = passed-more (passed-more (passed-more (passed-none _ (lit≤ tt)) (lit< tt) refl) (lit< tt) refl) (lit< tt) refl;
+      ended = lit≤ tt;
+    })
+    (none-mixed _ refl)
+
+-- a ≥ b, where a is the last variable
+abbrev undeclared-next : List ℕ
+undeclared-next = variable 1 (2 ∷ 0 ∷ 8 ∷ 1 ∷ 0 ∷ 0 ∷ 0 ∷ 1 ∷ 0 ∷ 0 ∷ 1 ∷ [])
+
+pub row-9-next : Reads undeclared-next (refused 9 8)
+unfolding computes
+row-9-next = bad-field {k = 1} (passed-more (passed-none _ (lit≤ tt)) (lit< tt) refl) (lit< tt) (lit< tt)
+
+-- a ≥ |a|, a in -10..10
+abbrev own-size : List ℕ
+own-size = 1 ∷ 0 ∷ 5 ∷ 1 ∷ 255 ∷ 246 ∷ 0 ∷ 10 ∷ 2 ∷ 0 ∷ 8 ∷ 5 ∷ 0 ∷ 0 ∷ 0 ∷ 0 ∷ 0 ∷ 0 ∷ 0 ∷ []
+
+pub row-13-own : Reads own-size (refused 13 8)
+unfolding computes
+row-13-own =
+    not-valid {k = 2} {j = 1} {i = 0}
+    (record { passed = passed-more (passed-more (passed-none _ (lit≤ tt)) (lit< tt) refl) (lit< tt) refl; ended = lit≤ tt })
+    (lit< tt)
+    (record { tagged = refl; number = refl })
+    (record { offends = record { among = lit< tt; at = 0; inside = lit< tt; pushes = refl; shares = inl refl }; first = λ j h. absurd (omega arith) })
+
 -- ---- a reader whose every answer is the specification's
 
 -- a wrong answer, beside the specification's
@@ -158,7 +212,7 @@ module _ (read : List ℕ → Answer) (right : (s : List ℕ) → Reads s (read 
   pub not-accepting : (a b c : ℕ) → read (0x09 ∷ []) ≡ accepted a b c → ⊥
   not-accepting a b c e = accepted-not a b c 2 0 (sym (answers _ cut-header e))
 
-  -- it compares a variable with that at the first place of the body: one that leaves this place out accepts `a ≥ 2·b - b`
+  -- it compares a variable with that at the first position of the body: one that leaves this position out accepts `a ≥ 2·b - b`
   pub not-first-place-left-out : (a b c : ℕ) → read repeated ≡ accepted a b c → ⊥
   not-first-place-left-out a b c e = accepted-not a b c 11 16 (sym (answers _ row-11 e))
 
@@ -179,3 +233,25 @@ module _ (read : List ℕ → Answer) (right : (s : List ℕ) → Reads s (read 
 
   pub not-field-at-the-end : read (sized 0 0) ≡ refused 2 27 → ⊥
   not-field-at-the-end e = accepted-not 2 2 0 2 27 (answers _ row-13-from-zero e)
+
+  -- it takes a product of variables from 0 on
+  pub not-12-at-zero : (at : ℕ) → read product ≡ refused 12 at → ⊥
+  not-12-at-zero at e = accepted-not 3 1 0 12 at (answers _ row-12-from-zero e)
+
+  -- it takes no coefficient 0
+  pub not-coefficient-zero : (a b c : ℕ) → read (scaled 0) ≡ accepted a b c → ⊥
+  not-coefficient-zero a b c e = accepted-not a b c 8 16 (sym (answers _ row-8-coefficient e))
+
+  -- of two variables it takes 1; of one variable it does not take 1, in a body, and of none not 0, as a head
+  pub not-last-variable-refused : (at : ℕ) → read (scaled 1) ≡ refused 9 at → ⊥
+  not-last-variable-refused at e = accepted-not 2 1 0 9 at (answers _ row-8-from-one e)
+
+  pub not-next-variable : (a b c : ℕ) → read undeclared-next ≡ accepted a b c → ⊥
+  not-next-variable a b c e = accepted-not a b c 9 8 (sym (answers _ row-9-next e))
+
+  pub not-next-head : (a b c : ℕ) → read (0x02 ∷ 0x00 ∷ 0x04 ∷ 0x01 ∷ 0x00 ∷ 0x00 ∷ 0x00 ∷ []) ≡ accepted a b c → ⊥
+  not-next-head a b c e = accepted-not a b c 9 0 (sym (answers _ row-9 e))
+
+  -- it takes the head itself for a variable of its component: one that looks at the other variables alone accepts `a ≥ |a|`
+  pub not-own-size : (a b c : ℕ) → read own-size ≡ accepted a b c → ⊥
+  not-own-size a b c e = accepted-not a b c 13 8 (sym (answers _ row-13-own e))

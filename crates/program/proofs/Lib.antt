@@ -3,9 +3,16 @@ pub mod Conditions
 pub mod Places
 pub mod Promises
 pub mod Unique
+pub mod ReadDemanded
 pub mod Encoding
 pub mod RoundTrip
 pub mod Decide
 pub mod Total
 pub mod Counting
+pub mod Tests
+pub mod Variables
+pub mod Pushes
+pub mod Gives
+pub mod Monotone
 pub mod Examples
+pub mod WrongForms

@@ -12,11 +12,12 @@ use borrow.Author.Tests.{ltb-false, leb-true, leb-false, eqb-true, not-false}
 use Rattle.format.specs.Limits.{maxFile, maxVariables, maxRules, maxConstraints, maxTerms}
 use Rattle.program.specs.Tables.{Condition, _when_, firstOf}
 use Rattle.program.specs.Fields.{tagAt, lengthAt, valueAt, nextAt, place, tagBefore}
-use Rattle.program.specs.Program.{Variable, Program, Item, variable, rule, constraint, none, variableOf, ruleOf, constraintOf, termsOf, with, itemOf, item, program, variableIn, ruleIn, constraintIn, noVariable, noRule, noConstraint, variablesAt}
+use Rattle.program.specs.Program.{Program, Item, variable, rule, constraint, none, variableOf, ruleOf, constraintOf, termsOf, with, itemOf, item, program, variableIn, ruleIn, constraintIn, noVariable, noRule, noConstraint, variablesAt}
 use Rattle.program.specs.Refusals.{cutShort, unknownTag, tagBelow, oneTooMany, notTerms, wrongLength, undeclared, negativeProduct, itemRefusal, valueRefusal, fieldRefusal}
-use Rattle.program.specs.Reading.{Passed, Whole, RuleField}
+use Rattle.program.specs.Reading.{Passed, RuleField}
 use Rattle.program.proofs.Bodies.{terms-length}
 use Rattle.program.proofs.Conditions.{neither, both, none-first, some-below, last-or}
+use Rattle.program.specs.declared.Variable.{Variable}
 
 -- ---- the next field
 
@@ -145,9 +146,6 @@ passed-fine {s} p j h = fine-field s j (p .fine j h)
 pub passed-inside : {s : List ℕ} (k : ℕ) → Passed s k → place s k ≤ length s
 passed-inside {s} zero p = omega (arith, place-start s)
 passed-inside {s} (suc k) p = rw (place-suc s k) (passed-fine p k (omega arith) .whole)
-
-pub whole-inside : {s : List ℕ} {k : ℕ} → Whole s k → place s k ≡ length s
-whole-inside {k = k} w = omega (arith, passed-inside k (w .passed), w .ended)
 
 -- ---- the three kinds of field
 

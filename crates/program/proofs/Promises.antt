@@ -13,12 +13,14 @@ use borrow.Author.Tests.{ltb-false, leb-true, leb-false, eqb-true, eqb-false, eq
 use Rattle.format.specs.Limits.{maxTerms, maxNumber, maxCoefficient}
 use Rattle.format.specs.Numbers.{beyond}
 use Rattle.format.proofs.Ints.{within-small}
-use Rattle.program.specs.Program.{Variable, Term, Rule, Constraint, Program, Item, variable, rule, constraint, constraintIn, program, variableIn, ruleIn, termIn}
-use Rattle.program.specs.Refusals.{bodyForm, anyTerm, literalPlace, wrongOp, mustBeZero, wrongTerm, unknownForm, wrongConstraint, wrongForm, outsideTerm, outsideRange, undeclaredTerm, wrongHead, undeclared, notFrom, wrongCountOf, wrongCount, repeatedTerm, variableTwice, negativeTerm, negativeProduct, itemConditions, itemRefusal}
+use Rattle.program.specs.Program.{Rule, Constraint, Program, Item, variable, rule, constraint, constraintIn, program, variableIn, ruleIn, termIn}
+use Rattle.program.specs.Refusals.{bodyForm, anyTerm, literalPosition, wrongOp, mustBeZero, wrongTerm, unknownForm, wrongConstraint, wrongForm, outsideTerm, outsideRange, undeclaredTerm, wrongHead, undeclared, notFrom, wrongCountOf, wrongCount, repeatedTerm, variableTwice, negativeTerm, negativeProduct, itemConditions, itemRefusal}
 use Rattle.program.specs.Reading.{Passed, Accepts}
 use Rattle.program.proofs.Conditions.{never, neither, both, none-first, none-below, below-none}
 use Rattle.program.proofs.Places.{variablesTo, rulesTo, constraintsTo, variable-stands, rule-at, constraint-at}
 use Rattle.program.specs.Variables.{founded}
+use Rattle.program.specs.declared.Variable.{Variable}
+use Rattle.program.specs.declared.Term.{Term}
 
 -- ---- no condition on an item is met
 
@@ -75,16 +77,16 @@ variable-promised vs x e =
 
 -- ---- bodies
 
--- term t at place i of a body of a form
+-- term t at position i of a body of a form
 pub record TermPromise (vs : List Variable) (form i : ℕ) (t : Term) : Type 0 where
   pub declared : t .variable < length vs
-  pub plain-op : literalPlace form i ≡ false → t .op ≡ 0
-  pub literal-op-least : literalPlace form i ≡ true → 1 ≤ t .op
-  pub literal-op-most : literalPlace form i ≡ true → t .op ≤ 2
-  pub literal-small : literalPlace form i ≡ true → natAbs (t .number) ≤ maxNumber
+  pub plain-op : literalPosition form i ≡ false → t .op ≡ 0
+  pub literal-op-least : literalPosition form i ≡ true → 1 ≤ t .op
+  pub literal-op-most : literalPosition form i ≡ true → t .op ≤ 2
+  pub literal-small : literalPosition form i ≡ true → natAbs (t .number) ≤ maxNumber
   pub coefficient-not-zero : form ≡ 1 → natAbs (t .number) ≢ 0
   pub coefficient-small : form ≡ 1 → natAbs (t .number) ≤ maxCoefficient
-  pub plain-zero : literalPlace form i ≡ false → form ≢ 1 → t .number ≡ pos 0
+  pub plain-zero : literalPosition form i ≡ false → form ≢ 1 → t .number ≡ pos 0
   pub product-low : form ≡ 4 → ltZ (variableIn vs (t .variable) .low) (pos 0) ≡ false
   pub product-order : form ≡ 4 → pos 0 ≤ℤ variableIn vs (t .variable) .low
 
@@ -104,21 +106,13 @@ pub record BodyPromise (vs : List Variable) (form : ℕ) (ts : List Term) : Type
   pub distinct : (i j : ℕ) → i < length ts → j < i → termIn ts j .variable ≢ termIn ts i .variable
 
 -- the places of literals
-pub plain-place : (form i : ℕ) → form ≤ 5 → literalPlace form i ≡ false
-unfolding literalPlace
-plain-place form i h = simp (ne-eqb form 6 (omega arith), ne-eqb form 7 (omega arith))
+pub plain-position : (form i : ℕ) → form ≤ 5 → literalPosition form i ≡ false
+unfolding literalPosition
+plain-position form i h = simp (ne-eqb form 6 (omega arith), ne-eqb form 7 (omega arith))
 
-pub literal-place : (form i : ℕ) → form ≡ 6 → literalPlace form i ≡ true
-unfolding literalPlace
-literal-place form i h = rw h
-
-pub carried-place : (form i : ℕ) → form ≡ 7 → i ≡ 0 → literalPlace form i ≡ false
-unfolding literalPlace
-carried-place form i h k = rw (h, k)
-
-pub carry-place : (form i : ℕ) → form ≡ 7 → 0 < i → literalPlace form i ≡ true
-unfolding literalPlace
-carry-place form i h k = rw (h, ne-eqb i 0 (omega arith))
+pub carried-position : (form i : ℕ) → form ≡ 7 → i ≡ 0 → literalPosition form i ≡ false
+unfolding literalPosition
+carried-position form i h k = rw (h, k)
 
 abs-zero : (z : ℤ) → natAbs z ≡ 0 → z ≡ pos 0
 abs-zero (pos n) h = ap pos h
@@ -154,14 +148,14 @@ module _ (vs : List Variable) (form i : ℕ) (t : Term) where
   -- the number of a plain term of form 1
   coefficient : outsideTerm form i t ≡ false → form ≡ 1 → (eqb (natAbs (t .number)) 0 ≡ false) × (beyond maxCoefficient (t .number) ≡ false)
   unfolding outsideTerm
-  coefficient e h = neither (eqb (natAbs (t .number)) 0) (beyond maxCoefficient (t .number)) (simp (plain-place form i (omega arith), eq-eqb form 1 h) at e)
+  coefficient e h = neither (eqb (natAbs (t .number)) 0) (beyond maxCoefficient (t .number)) (simp (plain-position form i (omega arith), eq-eqb form 1 h) at e)
 
   term-promised : wrongTerm form i t ≡ false → outsideTerm form i t ≡ false → undeclaredTerm vs t ≡ false → negativeTerm vs form t ≡ false
       → TermPromise vs form i t
   unfolding wrongTerm wrongOp mustBeZero outsideTerm undeclaredTerm negativeTerm
   term-promised w o u n =
       let a = neither (wrongOp form i (t .op)) (mustBeZero form i && not (eqb (natAbs (t .number)) 0)) w in
-      let op : literalPlace form i ≡ true → (1 ≤ t .op) × (t .op ≤ 2) = λ h. one-or-two (t .op) (not-false (eqb (t .op) 1 || eqb (t .op) 2) (simp h at (a .0))) in
+      let op : literalPosition form i ≡ true → (1 ≤ t .op) × (t .op ≤ 2) = λ h. one-or-two (t .op) (not-false (eqb (t .op) 1 || eqb (t .op) 2) (simp h at (a .0))) in
       let low : form ≡ 4 → ltZ (variableIn vs (t .variable) .low) (pos 0) ≡ false = λ h. simp (eq-eqb form 4 h) at n in
       record {
         declared = leb-false (length vs) (t .variable) u;

@@ -12,7 +12,7 @@ use lib.Seq.{take-add, take-all, take-append-seam, append-snoc, drop-append-add,
 use Rattle.format.specs.Limits.{maxFile, maxVariables, maxRules, maxConstraints, maxTerms}
 use Rattle.format.specs.Numbers.{bytesOf}
 use Rattle.program.specs.Fields.{tagAt, lengthAt, valueAt, nextAt, place, tagBefore}
-use Rattle.program.specs.Program.{Variable, Rule, Constraint, Program, Item, variable, rule, constraint, with, itemOf, program, noVariable, noRule, noConstraint}
+use Rattle.program.specs.Program.{Rule, Constraint, Program, Item, variable, rule, constraint, with, itemOf, program, noVariable, noRule, noConstraint}
 use Rattle.program.specs.Refusals.{cutShort, unknownTag, tagBelow, oneTooMany, wrongLength, notTerms, itemRefusal, valueRefusal, fieldRefusal}
 use Rattle.program.specs.Components.{Valid}
 use Rattle.program.specs.Reading.{Passed, Whole, Accepts}
@@ -21,6 +21,7 @@ use Rattle.program.proofs.Places.{Fine, Next, a-variable, a-rule, a-con
 use Rattle.program.proofs.Encoding.{variableValue, ruleValue, constraintValue, front, variable-written, rule-written, constraint-written, body-small, variable-read, rule-read, constraint-read, terms-size, value-bytes, bytes-each, bytes-append, all-of, all-map, variable-bytes, rule-bytes, constraint-bytes}
 use Rattle.program.proofs.Promises.{variable-promised, rule-promised, constraint-promised}
 use Rattle.program.proofs.Conditions.{below-some}
+use Rattle.program.specs.declared.Variable.{Variable}
 
 -- ---- an accepted file is what its program encodes to
 

@@ -5,9 +5,11 @@ use mathlib.Core.List.{List, [], _∷_, _++_}
 use lib.ListN.{length, getD}
 use Rattle.format.specs.Limits.{maxFile, maxVariables, maxRules, maxConstraints}
 use Rattle.format.specs.Numbers.{bytesOf}
-use Rattle.program.specs.Program.{Variable, Term, Rule, Constraint, Program, variable, rule, constraint}
+use Rattle.program.specs.Program.{Rule, Constraint, Program, variable, rule, constraint}
 use Rattle.program.specs.Refusals.{itemRefusal}
 use Rattle.program.specs.Components.{Valid}
+use Rattle.program.specs.declared.Variable.{Variable}
+use Rattle.program.specs.declared.Term.{Term}
 
 -- one after the other
 abbrev pub each : {A : Type 0} → (A → List ℕ) → List A → List ℕ

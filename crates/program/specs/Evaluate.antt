@@ -1,4 +1,5 @@
--- Document 01, "Rule forms": what a rule gives, and what a constraint asks, when the variable at place i of its body is read as `at i`.
+-- Document 01, "Rule forms": what a rule gives, and what a constraint asks, when the variable at position i of its body is read as
+-- `at i`.
 use Prim.Native.Nat.{ℕ, zero, suc, _-_}
 use mathlib.Core.List.{List, [], _∷_}
 use mathlib.Core.Bool.{Bool, true, false, cond, _&&_}
@@ -6,8 +7,9 @@ use lib.IntN.{ℤ, pos, natAbs, _+ℤ_, _*ℤ_}
 use lib.Signed.{leZ, ltZ}
 use lib.ListN.{length}
 use Rattle.program.specs.Tables.{_⇒_, select, anyBelow}
-use Rattle.program.specs.Program.{Term, Rule, Constraint, termIn}
+use Rattle.program.specs.Program.{Rule, Constraint, termIn}
 use Rattle.program.specs.declared.Given.{Given}
+use Rattle.program.specs.declared.Term.{Term}
 use Rattle.program.specs.declared.Given.the-variants.{Nothing, Value}
 
 -- f 0 + .. + f (n - 1)
@@ -42,21 +44,26 @@ allHold ts at (suc n) = allHold ts at n && holds (termIn ts n) (at n)
 abbrev pub onlyIf : Bool → ℤ → Given
 onlyIf b a = cond b (Value a) Nothing
 
-unfoldable pub evaluate : Rule → (ℕ → ℤ) → Given
-evaluate r at =
+-- what each form amounts to
+unfoldable pub amount : Rule → (ℕ → ℤ) → ℤ
+amount r at =
     let c = r .c in
     let ts = r .terms in
     let n = length (r .terms) in
     select (r .form)
-    ((1 ⇒ Value (c +ℤ sumBelow (λ i. termIn ts i .number *ℤ at i) n))
-    ∷ (2 ⇒ Value (c +ℤ largestTo at (n - 1)))
-    ∷ (3 ⇒ Value (c +ℤ smallestTo at (n - 1)))
-    ∷ (4 ⇒ Value (c +ℤ (at 0 *ℤ at 1)))
-    ∷ (5 ⇒ Value (c +ℤ pos (natAbs (at 0))))
-    ∷ (6 ⇒ onlyIf (allHold ts at n) c)
-    ∷ (7 ⇒ onlyIf (allHold ts at n) (c +ℤ at 0))
+    ((1 ⇒ (c +ℤ sumBelow (λ i. termIn ts i .number *ℤ at i) n))
+    ∷ (2 ⇒ (c +ℤ largestTo at (n - 1)))
+    ∷ (3 ⇒ (c +ℤ smallestTo at (n - 1)))
+    ∷ (4 ⇒ (c +ℤ (at 0 *ℤ at 1)))
+    ∷ (5 ⇒ (c +ℤ pos (natAbs (at 0))))
+    ∷ (6 ⇒ c)
+    ∷ (7 ⇒ (c +ℤ at 0))
     ∷ [])
-    Nothing
+    c
+
+-- "when every literal holds, else nothing": a form without literals always gives its amount
+unfoldable pub evaluate : Rule → (ℕ → ℤ) → Given
+evaluate r at = onlyIf (allHold (r .terms) at (length (r .terms))) (amount r at)
 
 -- "Constraint form 1: c + Σ number · variable ≤ 0 .. Form 2: at least one literal holds"
 unfoldable pub satisfied : Constraint → (ℕ → ℤ) → Bool

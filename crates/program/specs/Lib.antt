@@ -8,4 +8,6 @@ pub mod Evaluate
 pub mod Readings
 pub mod Components
 pub mod Reading
+pub mod ReadDemands
 pub mod Encode
+pub mod Evaluable

@@ -1,25 +1,16 @@
 -- Document 01, "The rule file": the program that a file means.
 use Prim.Native.Nat.{ℕ, zero, suc, _+_, _*_}
 use mathlib.Core.List.{List, [], _∷_, _++_}
-use mathlib.Core.Bool.{Bool}
 use lib.IntN.{ℤ, pos}
 use lib.ListN.{getD, drop}
-use lib.Dec.{eqb}
 use Rattle.format.specs.Numbers.{signed, signedAt}
 use Rattle.program.specs.Tables.{_⇒_, select}
 use Rattle.program.specs.Fields.{tagAt, valueAt, place}
+use Rattle.program.specs.declared.Variable.{Variable}
+use Rattle.program.specs.declared.Term.{Term}
 
--- "kind (1 byte; 0 standard, 1 founded), low (2), high (2)"
-pub record Variable : Type 0 where
-  pub kind : ℕ
-  pub low : ℤ
-  pub high : ℤ
-
--- "variable (1), op (1), number (2). Op 0 is a plain term; op 1 means variable ≥ number; op 2 means variable < number."
-pub record Term : Type 0 where
-  pub variable : ℕ
-  pub op : ℕ
-  pub number : ℤ
+-- `Variable` is the code's own record (src/lib.rt): "kind (1 byte; 0 standard, 1 founded), low (2), high (2)". So is `Term`: "variable (1), op (1),
+-- number (2). Op 0 is a plain term; op 1 means variable ≥ number; op 2 means variable < number."
 
 -- "form (1), head variable (1), c (2), terms"
 pub record Rule : Type 0 where
@@ -51,11 +42,18 @@ termsOf (x ∷ op ∷ high ∷ low ∷ rest) = record { variable = x; op = op; n
 abbrev pub variableOf : List ℕ → Variable
 variableOf v = record { kind = getD v 0 0; low = signedAt v 1; high = signedAt v 3 }
 
+-- a body is what follows the header: form, head and c of a rule, form and c of a constraint
+abbrev pub ruleBody : List ℕ → List ℕ
+ruleBody v = drop 4 v
+
+abbrev pub constraintBody : List ℕ → List ℕ
+constraintBody v = drop 3 v
+
 abbrev pub ruleOf : List ℕ → Rule
-ruleOf v = record { form = getD v 0 0; head = getD v 1 0; c = signedAt v 2; terms = termsOf (drop 4 v) }
+ruleOf v = record { form = getD v 0 0; head = getD v 1 0; c = signedAt v 2; terms = termsOf (ruleBody v) }
 
 abbrev pub constraintOf : List ℕ → Constraint
-constraintOf v = record { form = getD v 0 0; c = signedAt v 1; terms = termsOf (drop 3 v) }
+constraintOf v = record { form = getD v 0 0; c = signedAt v 1; terms = termsOf (constraintBody v) }
 
 pub data Item : Type 0 where
   variable : Variable → Item

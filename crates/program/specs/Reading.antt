@@ -75,6 +75,10 @@ pub data Reads (s : List ℕ) : Answer → Type 0 where
   whole : {k : ℕ} → Whole s k → Valid (program s k)
       → Reads s (accepted (length (program s k .variables)) (length (program s k .rules)) (length (program s k .constraints)))
 
+-- the file is accepted with these counts
+abbrev pub AcceptedAs : List ℕ → Counts → Type 0
+AcceptedAs s k = Reads s (accepted (k .variables) (k .rules) (k .constraints))
+
 -- an accepted file, and the program that it means
 pub record Accepts (s : List ℕ) (P : Program) : Type 0 where
   pub fields : ℕ

@@ -5,11 +5,12 @@ use mathlib.Core.Bool.{Bool, cond, _&&_}
 use mathlib.Core.List.{List}
 use lib.IntN.{ℤ, pos}
 use lib.ListN.{getD}
-use Rattle.program.specs.Program.{Variable, Rule, variableIn, termIn}
+use Rattle.program.specs.Program.{Rule, variableIn, termIn}
 use Rattle.program.specs.Variables.{founded}
 use Rattle.program.specs.Directions.{direction, isRising}
 use Rattle.program.specs.Evaluate.{evaluate}
 use Rattle.program.specs.declared.Given.{Given}
+use Rattle.program.specs.declared.Variable.{Variable}
 
 -- a value for each variable, by its number
 abbrev pub Valuation : Type 0

@@ -10,8 +10,10 @@ use Rattle.format.specs.Limits.{maxVariables, maxRules, maxConstraints, maxTerm
 use Rattle.format.specs.Numbers.{beyond}
 use Rattle.program.specs.Tables.{_⇒_, select, Condition, _when_, firstOf, anyBelow}
 use Rattle.program.specs.Fields.{tagAt, valueAt, nextAt, place, tagBefore}
-use Rattle.program.specs.Program.{Variable, Term, Program, Item, variable, rule, constraint, none, itemOf, program, variableIn, termIn}
+use Rattle.program.specs.Program.{Program, Item, variable, rule, constraint, none, itemOf, program, variableIn, termIn}
 use Rattle.program.specs.Variables.{founded}
+use Rattle.program.specs.declared.Variable.{Variable}
+use Rattle.program.specs.declared.Term.{Term}
 
 -- 2: "field cut short", in its value or in its tag and length
 unfoldable pub cutShort : List ℕ → ℕ → Bool
@@ -46,21 +48,21 @@ wrongLength tag len = select tag ((1 ⇒ not (eqb len 5)) ∷ (2 ⇒ notTerms 4 
 abbrev pub bodyForm : ℕ → ℕ
 bodyForm form = select form ((1 ⇒ 1) ∷ (2 ⇒ 6) ∷ []) 0
 
--- some term of the body, with its place, has the property
+-- some term of the body, with its position, has the property
 abbrev pub anyTerm : List Term → (ℕ → Term → Bool) → Bool
 anyTerm ts p = anyBelow (length ts) (λ i. p i (termIn ts i))
 
--- a literal stands at each place of form 6, and of form 7 except the first
-unfoldable pub literalPlace : ℕ → ℕ → Bool
-literalPlace form i = select form ((6 ⇒ true) ∷ (7 ⇒ not (eqb i 0)) ∷ []) false
+-- a literal stands at each position of form 6, and of form 7 except the first
+unfoldable pub literalPosition : ℕ → ℕ → Bool
+literalPosition form i = select form ((6 ⇒ true) ∷ (7 ⇒ not (eqb i 0)) ∷ []) false
 
 -- ops 1 and 2 are literals, op 0 is a plain term
 unfoldable pub wrongOp : ℕ → ℕ → ℕ → Bool
-wrongOp form i op = cond (literalPlace form i) (not (eqb op 1 || eqb op 2)) (not (eqb op 0))
+wrongOp form i op = cond (literalPosition form i) (not (eqb op 1 || eqb op 2)) (not (eqb op 0))
 
 -- "Plain terms in forms 2 to 5 and 7 have number 0"
 unfoldable pub mustBeZero : ℕ → ℕ → Bool
-mustBeZero form i = not (literalPlace form i) && not (eqb form 1)
+mustBeZero form i = not (literalPosition form i) && not (eqb form 1)
 
 unfoldable pub wrongTerm : ℕ → ℕ → Term → Bool
 wrongTerm form i t = wrongOp form i (t .op) || (mustBeZero form i && not (eqb (natAbs (t .number)) 0))
@@ -82,7 +84,7 @@ wrongForm none = false
 -- the number of a literal, or a coefficient, which may not be 0
 unfoldable pub outsideTerm : ℕ → ℕ → Term → Bool
 outsideTerm form i t =
-    cond (literalPlace form i) (beyond maxNumber (t .number))
+    cond (literalPosition form i) (beyond maxNumber (t .number))
     (eqb form 1 && (eqb (natAbs (t .number)) 0 || beyond maxCoefficient (t .number)))
 
 -- 8: "number outside its range, or low above high"

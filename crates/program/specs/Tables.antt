@@ -6,11 +6,11 @@ use lib.Dec.{eqb}
 
 -- an entry of a list that goes by number
 infix 20 _⇒_
-pub data Entry (A : Type 0) : Type 0 where
-  _⇒_ : ℕ → A → Entry A
+pub data Row (A : Type 0) : Type 0 where
+  _⇒_ : ℕ → A → Row A
 
 -- the entry of number n, and d where the list has none
-abbrev pub select : {A : Type 0} → ℕ → List (Entry A) → A → A
+abbrev pub select : {A : Type 0} → ℕ → List (Row A) → A → A
 select n [] d = d
 select n ((k ⇒ a) ∷ rest) d = cond (eqb n k) a (select n rest d)
 

@@ -1,12 +1,11 @@
 -- Document 01, "The rule file" and "Reduct and least model": what a variable's record says of its values. A founded variable is lifted from
 -- its starting end towards its far end; of two values, the one nearer to the starting end comes first in the variable's order.
-use Prim.Native.Nat.{ℕ}
 use mathlib.Core.Bool.{Bool, true, not, cond, _&&_}
 use lib.Dec.{eqb}
 use lib.IntN.{ℤ}
 use lib.Signed.{leZ}
-use Rattle.program.specs.Program.{Variable}
 use Rattle.program.specs.declared.Given.{Given}
+use Rattle.program.specs.declared.Variable.{Variable}
 use Rattle.program.specs.declared.Given.the-variants.{Nothing, Value}
 
 -- "0 standard, 1 founded"
@@ -14,14 +13,14 @@ abbrev pub founded : Variable → Bool
 founded x = eqb (x .kind) 1
 
 -- the starting end and the far end of its range
-abbrev pub start : Variable → ℤ
+unfoldable pub start : Variable → ℤ
 start x = x .low
 
-abbrev pub far : Variable → ℤ
+unfoldable pub far : Variable → ℤ
 far x = x .high
 
 -- a is at or before b in the variable's order
-abbrev pub notPast : Variable → ℤ → ℤ → Bool
+unfoldable pub notPast : Variable → ℤ → ℤ → Bool
 notPast x a b = leZ a b
 
 -- a value lies in the variable's range

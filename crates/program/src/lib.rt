@@ -5,6 +5,9 @@ ghost use Rattle.format.specs.Limits.{maxFile};
 ghost use Rattle.program.specs.Reading.{numberOf, counted};
 use format::Format;
 
+pub mod directions;
+pub mod ranges;
+
 // Why a file is turned down.
 pub enum Refusal {
     FileTooLong,
@@ -85,6 +88,20 @@ impl Counts {
             0 | 4..=255 => self,
         }
     }
+}
+
+// A variable: its kind (0 standard, 1 founded) and its range.
+pub struct Variable {
+    pub kind: u8,
+    pub low: i64,
+    pub high: i64,
+}
+
+// A term of a body: op 0 is a plain term, op 1 says variable ≥ number, op 2 variable < number.
+pub struct Term {
+    pub variable: u8,
+    pub op: u8,
+    pub number: i64,
 }
 
 // What reading a file answers: its counts, or the first refusal with its place.

@@ -4,7 +4,7 @@ use mathlib.Core.Path.{_≡_, sym, subst}
 use mathlib.Core.List.{List}
 use Rattle.program.specs.Program.{program}
 use Rattle.program.specs.Components as components
-use Rattle.program.specs.Reading.{Whole, Reads, accepted, refused, whole, not-valid, numberOf}
+use Rattle.program.specs.Reading.{Whole, Reads, AcceptedAs, refused, whole, not-valid, numberOf}
 use Rattle.program.specs.declared.Counts.{Counts}
 use Rattle.program.specs.declared.Refusal.{Refusal}
 use Rattle.fields.specs.Scanning.{Counted, Scans}
@@ -12,14 +12,14 @@ use Rattle.fields.specs.declared.answers.Scanned.{Scanned}
 use Rattle.fields.specs.declared.answers.Scanned.the-variants as scanned
 use Rattle.fields.proofs.ScanLaws.{counts-are}
 use Rattle.validity.specs.Judging.{Judges, OffendingAt}
-use Rattle.validity.specs.declared.Judged.{Judged}
-use Rattle.validity.specs.declared.Judged.the-variants.{Valid, Offending}
+use Rattle.validity.specs.declared.Outcome.{Outcome}
+use Rattle.validity.specs.declared.Outcome.the-variants.{Valid, Offending}
 
-module _ (s : List ℕ) (k : Counts) (j : Judged) (c : Counted s k) (judges : (n : ℕ) → Whole s n → Judges s n j) where
-  pub judged-valid : j ≡ Valid → Reads s (accepted (k .variables) (k .rules) (k .constraints))
+module _ (s : List ℕ) (k : Counts) (j : Outcome) (c : Counted s k) (judges : (n : ℕ) → Whole s n → Judges s n j) where
+  pub judged-valid : j ≡ Valid → AcceptedAs s k
   judged-valid e =
       let v : components.Valid (program s (c .fields)) = subst (Judges s (c .fields)) e (judges (c .fields) (c .whole)) in
-      subst (λ (n : Counts). Reads s (accepted (n .variables) (n .rules) (n .constraints))) (sym (counts-are (c .describes))) (whole (c .whole) v)
+      subst (AcceptedAs s) (sym (counts-are (c .describes))) (whole (c .whole) v)
 
   pub judged-offending : (at : ℕ) → j ≡ Offending at → Reads s (refused 13 at)
   judged-offending at e =

@@ -5,16 +5,16 @@ use fields::answers::Scanned;
 use program::Counts;
 use program::Reading;
 use program::Refusal;
-use validity::Judged;
+use validity::Outcome;
 
 // A file whose fields meet no refusal.
-fn judged(file: &[u8], counts: Counts) -> Reading
+fn judge_rules(file: &[u8], counts: Counts) -> Reading
     requires { ⌜ Counted (now file) counts ⌝ }
     ensures { λ r. ⌜ Reads (now (file .entry)) (answerOf r) ⌝ }
 {
     match validity::judge(file, counts) {
-        Judged::Valid => Reading::Accepted(counts),
-        Judged::Offending(at) => Reading::Refused(Refusal::NotValid, at),
+        Outcome::Valid => Reading::Accepted(counts),
+        Outcome::Offending(at) => Reading::Refused(Refusal::NotValid, at),
     }
 }
 
@@ -23,7 +23,7 @@ pub fn read(file: &[u8]) -> Reading
     ensures { λ r. ⌜ Reads (now (file .entry)) (answerOf r) ⌝ }
 {
     match fields::scan::scan(file) {
-        Scanned::Whole(counts) => judged(file, counts),
+        Scanned::Whole(counts) => judge_rules(file, counts),
         Scanned::Refused(why, at) => Reading::Refused(why, at),
     }
 }

@@ -1,49 +1,30 @@
--- Variables by the bytes of the file, and by their numbers.
-use Prim.Native.Nat.{ℕ, _+_, _*_, _<_, _≤_}
-use mathlib.Core.Path.{_≡_, refl, sym, _∙_}
+-- What the variables of a file say of their values, one after the other.
+use Prim.Native.Nat.{ℕ, _≤_}
+use mathlib.Core.Path.{_≡_, refl, _∙_}
 use mathlib.Core.List.{List}
-use mathlib.Core.Bool.{Bool, true, false, _&&_}
+use mathlib.Core.Bool.{Bool, true, false}
 use native.Mathlib.Omega.{arith}
 use lib.Dec.{ltb}
-use borrow.Author.Tests.{eq-eqb, ne-eqb, ltb-true, ltb-false}
+use borrow.Author.Tests.{ltb-true, ltb-false}
 use lib.IntN.{ℤ}
-use lib.ListN.{drop, List·getD-eq-default}
-use lib.Signed.{leZ}
-use Rattle.program.specs.Program.{Program, noVariable, variableOf, variableIn, variablesAt}
-use Rattle.program.proofs.Places.{variable-at, variables-length}
+use lib.ListN.{List·getD-eq-default}
+use Rattle.program.specs.Program.{Program, noVariable, variableIn, variablesAt}
+use Rattle.reader.proofs.Published.{variables-length}
 use Rattle.meaning.specs.LeastCall.{FirstOutside, AllInside}
-use Rattle.reduct.specs.Filling.{Filled, starting, OutsideIs, insideOf, startOf}
+use Rattle.reduct.specs.Filling.{Filled, starting, OutsideIs}
 use Rattle.program.specs.Readings.{Valuation, valued}
-use Rattle.program.specs.Variables.{inRange}
-use Rattle.reduct.specs.declared.values.Outside.the-variants.{At, Nowhere}
-
--- ---- by the bytes
-
-module _ (s : List ℕ) (x : ℕ) where
-  pub inside-is : (a : ℤ) {b low high : ℤ} → low ≡ variableOf (drop (8 * x + 3) s) .low → high ≡ variableOf (drop (8 * x + 3) s) .high → b ≡ a
-      → (leZ low b && leZ b high) ≡ insideOf s x a
-  unfolding insideOf
-  inside-is a p q e = rw (p, q, e)
-
-  pub start-low : {k : ℕ} {low : ℤ} (a : ℤ) → k ≡ variableOf (drop (8 * x + 3) s) .kind → k ≡ 1
-      → low ≡ variableOf (drop (8 * x + 3) s) .low → low ≡ startOf s x a
-  unfolding startOf
-  start-low a p e q = simp (eq-eqb _ 1 (sym p ∙ e)) q
-
-  pub start-assigned : {k : ℕ} {b : ℤ} (a : ℤ) → k ≡ variableOf (drop (8 * x + 3) s) .kind → (k ≡ 1 → ⊥) → b ≡ a → b ≡ startOf s x a
-  unfolding startOf
-  start-assigned a p f q = simp (ne-eqb _ 1 (λ e. f (p ∙ e))) q
-
--- ---- by their numbers
+use Rattle.program.specs.Variables.{inRange, started}
+use Rattle.program.specs.declared.Variable.{Variable}
+use Rattle.reduct.specs.declared.loading.Outside.the-variants.{At, Nowhere}
 
 module _ (s : List ℕ) (n : ℕ) (θ : Valuation) where
-  pub inside-variable : (v : ℕ) {a : ℤ} → v < n → a ≡ θ v → insideOf s v a ≡ inRange (variableIn (variablesAt s n) v) (θ v)
-  unfolding insideOf
-  inside-variable v h e = rw (e, variable-at s n v h)
+  -- the record that was read is that of the variable
+  pub inside-variable : (v : ℕ) {a : ℤ} {x : Variable} → x ≡ variableIn (variablesAt s n) v → a ≡ θ v → inRange x a ≡ inRange (variableIn (variablesAt s n) v) (θ v)
+  inside-variable v p e = rw (p, e)
 
-  pub start-variable : (v : ℕ) {a : ℤ} → v < n → a ≡ θ v → startOf s v a ≡ starting (variablesAt s n) θ v
-  unfolding startOf starting
-  start-variable v h e = rw (e, variable-at s n v h)
+  pub start-variable : (v : ℕ) {a : ℤ} {x : Variable} → x ≡ variableIn (variablesAt s n) v → a ≡ θ v → started x a ≡ starting (variablesAt s n) θ v
+  unfolding starting
+  start-variable v p e = rw (p, e)
 
   -- past the last variable a standard one starts as assigned
   start-past : (v : ℕ) → n ≤ v → θ v ≡ starting (variablesAt s n) θ v

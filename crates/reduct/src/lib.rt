@@ -1,3 +1,3 @@
-// The reduct, from the bytes of a file: which places are kept, and the values.
-pub mod places;
-pub mod values;
+// The reduct, from the bytes of a file: which positions are kept, and the values.
+pub mod kept;
+pub mod loading;

@@ -9,6 +9,7 @@ use Rattle.format.specs.Numbers.{bytesOf}
 use Rattle.program.specs.Tables.{anyBelow}
 use Rattle.program.specs.Program.{Program, Rule, ruleIn}
 use Rattle.program.specs.Directions.{direction}
+use Rattle.program.specs.declared.Variable.{Variable}
 use Rattle.program.specs.declared.Direction.{Direction}
 use Rattle.program.specs.declared.Direction.the-variants.{Rising, Falling, Mixed}
 use Rattle.meaning.specs.Reduct.{system}
@@ -59,7 +60,7 @@ abbrev pub conditionsOf : (ℕ → Bool) → (ℕ → Bool) → Valuation → �
 conditionsOf most least θ v = only (most v) (entry v atMost (θ v)) ++ only (least v) (entry v atLeast (θ v))
 
 -- "at most for a rising variable, except a kept one in the set; at least for a falling one; both for a mixed one"; the second argument says
--- whether the place is kept and its variable in the set
+-- whether the position is kept and its variable in the set
 abbrev pub asksMost : Direction → Bool → Bool
 asksMost Rising except = not except
 asksMost Falling except = false
@@ -70,14 +71,17 @@ asksLeast Rising except = false
 asksLeast Falling except = true
 asksLeast Mixed except = true
 
--- "They come from the bodies of all rules with a head in the set": some place of such a body has the variable v and asks
-module _ (P : Program) (set : ℕ → Bool) where
-  unfoldable pub askedBy : (Direction → Bool → Bool) → Rule → ℕ → Bool
-  askedBy asks r v =
-      anyBelow (length (r .terms)) (λ j. asks (direction (P .variables) r j) (kept (P .variables) r j && set (bodyVariable r j)) && eqb (bodyVariable r j) v)
+-- "They come from the bodies of all rules with a head in the set": some position of such a body has the variable v and asks; vs are the
+-- program's variables
+module _ (vs : List Variable) (set : ℕ → Bool) (asks : Direction → Bool → Bool) where
+  unfoldable pub askedAt : Rule → ℕ → ℕ → Bool
+  askedAt r j v = asks (direction vs r j) (kept vs r j && set (bodyVariable r j)) && eqb (bodyVariable r j) v
 
-  unfoldable pub asked : (Direction → Bool → Bool) → ℕ → Bool
-  asked asks v = anyBelow (length (P .rules)) (λ i. set (ruleIn (P .rules) i .head) && askedBy asks (ruleIn (P .rules) i) v)
+  unfoldable pub askedBy : Rule → ℕ → Bool
+  askedBy r v = anyBelow (length (r .terms)) (λ j. askedAt r j v)
+
+unfoldable pub asked : Program → (ℕ → Bool) → (Direction → Bool → Bool) → ℕ → Bool
+asked P set asks v = anyBelow (length (P .rules)) (λ i. set (ruleIn (P .rules) i .head) && askedBy (P .variables) set asks (ruleIn (P .rules) i) v)
 
 -- the report of an assignment θ whose reduct has the least model m
 module _ (P : Program) (θ m : Valuation) where

@@ -1,5 +1,5 @@
 -- The waiting set, and the rule that leaves it.
-use Prim.Native.Nat.{ℕ, _*_, _<_, _≤_}
+use Prim.Native.Nat.{ℕ, _*_, _<_}
 use mathlib.Core.Path.{_≡_, sym, ap, _∙_, subst}
 use mathlib.Core.Bool.{Bool, true, false, not, _&&_, true≢false}
 use mathlib.Core.List.{List}
@@ -16,9 +16,8 @@ use Rattle.words.specs.declared.Found.{Found}
 use Rattle.words.specs.declared.Found.the-variants.{At, Nothing}
 use Rattle.program.specs.Program.{Program}
 use Rattle.program.specs.Reading.{Accepts}
-use Rattle.program.proofs.Places.{counts}
-use Rattle.program.proofs.Unique.{accepts-unique}
-use Rattle.run.specs.Running.{MetOutside, Met, Exceeds, Demanded, Among, Inside, Taken, Empty, Takes, Ready, Raising}
+use Rattle.reader.proofs.Published.{accepts-unique, program-limited}
+use Rattle.run.specs.Running.{MetOutside, RuleMetIn, Exceeds, Demanded, Among, Inside, Taken, Empty, Takes, Ready, Raising}
 use Rattle.tables.specs.Laid.{Stands, Placed}
 use Rattle.tables.specs.Tabled.{rowWords}
 use Rattle.run.specs.declared.Demand.{Demand}
@@ -38,13 +37,10 @@ module _ (P : Program) (θ m : Valuation) (i : ℕ) {d : Demand} (h : Demanded P
   pub demands-more : {a : ℤ} → d ≡ More a → Exceeds P θ m i a
   demands-more e = rw e at h
 
-  pub demands-enough : d ≡ Enough → Met P θ m i
+  pub demands-enough : d ≡ Enough → RuleMetIn P θ m i
   demands-enough e = rw e at h
 
 -- ---- the set
-
-pub few-rules : {s : List ℕ} {P : Program} → Accepts s P → length (P .rules) ≤ maxRules
-few-rules a = rw (a .means) at (counts (a .whole .passed) .few-rules)
 
 -- a file has one program
 pub among-any : {s places masks waiting : List ℕ} {P : Program} → Ready s places masks waiting → Placed s P places masks → Among P (has waiting)
@@ -59,8 +55,8 @@ none-taken e f = record { none = λ i l h. f i l (omega arith); inside = λ j h.
 
 -- nothing waits: every rule is met
 pub none-waiting : {s : List ℕ} (P : Program) (θ m : Valuation) {old new : ℕ → Bool} → Accepts s P → MetOutside P θ m old → Empty old new
-    → (i : ℕ) → i < length (P .rules) → Met P θ m i
-none-waiting P θ m a o n i l = o i l (n .none i (omega arith) (omega (arith, few-rules a)))
+    → (i : ℕ) → i < length (P .rules) → RuleMetIn P θ m i
+none-waiting P θ m a o n i l = o i l (n .none i (omega arith) (omega (arith, program-limited a .few-rules)))
 
 -- the lowest of the set leaves it
 module _ {old new : ℕ → Bool} {i : ℕ} (k : Taken old new i) where
@@ -75,13 +71,13 @@ module _ {old new : ℕ → Bool} {i : ℕ} (k : Taken old new i) where
   taken-less = count-drop new old i maxRules (k .lowest .below) (k .lowest .member) (k .dropped)
 
   module _ (P : Program) (θ m : Valuation) (o : MetOutside P θ m old) where
-    other : (j : ℕ) → j < length (P .rules) → new j ≡ false → (j ≡ i → ⊥) → Met P θ m j
+    other : (j : ℕ) → j < length (P .rules) → new j ≡ false → (j ≡ i → ⊥) → RuleMetIn P θ m j
     other j l e n = o j l (sym (k .dropped j ∙ ap (λ (b : Bool). not b && old j) (ne-eqb j i n)) ∙ e)
 
-    pub taken-met : Met P θ m i → MetOutside P θ m new
+    pub taken-met : RuleMetIn P θ m i → MetOutside P θ m new
     taken-met h j l e = go (ℕ-discrete j i)
       where
-        go : Dec (j ≡ i) → Met P θ m j
+        go : Dec (j ≡ i) → RuleMetIn P θ m j
         go (yes q) = rw q h
         go (no n) = other j l e n
 

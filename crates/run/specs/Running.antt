@@ -5,18 +5,18 @@ use mathlib.Core.Bool.{Bool, true, false, not, cond, _||_, _&&_}
 use mathlib.Core.List.{List}
 use lib.Dec.{T, eqb}
 use lib.IntN.{ℤ}
-use lib.ListN.{length, set, drop}
-use lib.Signed.{leZ, ltZ}
+use lib.ListN.{length, set}
 use Rattle.format.specs.Limits.{maxRules}
 use Rattle.words.specs.Bit.{has, LeastFrom, NoneIn}
 use Rattle.words.specs.declared.Found.{Found}
 use Rattle.words.specs.declared.Found.the-variants.{At}
 use Rattle.words.specs.declared.Found.the-variants as found
-use Rattle.program.specs.Program.{Program, ruleIn, variableIn, variableOf}
+use Rattle.program.specs.Program.{Program, ruleIn, variableIn}
 use Rattle.program.specs.Reading.{Accepts}
+use Rattle.program.specs.declared.Variable.{Variable}
 use Rattle.program.specs.declared.Given.{Given}
 use Rattle.program.specs.declared.Given.the-variants.{Nothing, Value}
-use Rattle.meaning.specs.Founded.{Reaches, Short, Within, Floor, Model, Least}
+use Rattle.meaning.specs.Founded.{GivenNoMore, Short, Within, Floor, Model, Least}
 use Rattle.meaning.specs.Reduct.{system}
 use Rattle.tables.specs.Tabled.{Tabled}
 use Rattle.tables.specs.Laid.{Placed}
@@ -25,7 +25,7 @@ use Rattle.run.specs.declared.Demand.the-variants.{More, Enough}
 use Rattle.run.specs.declared.Step.{Step}
 use Rattle.run.specs.declared.Step.the-variants.{Raise, Done}
 use Rattle.run.specs.declared.Ending.{Ending}
-use Rattle.program.specs.Variables.{founded}
+use Rattle.program.specs.Variables.{founded, far, notPast}
 use Rattle.program.specs.Readings.{Valuation, gives, valued}
 use Rattle.run.specs.declared.Ending.the-variants as ending
 
@@ -37,8 +37,8 @@ abbrev pub givenBy : Program → Valuation → Valuation → ℕ → Given
 givenBy P θ m i = gives (P .variables) (ruleIn (P .rules) i) m θ
 
 -- rule i gives no more than its head has
-abbrev pub Met : Program → Valuation → Valuation → ℕ → Type 0
-Met P θ m i = Reaches (system P) (headOf P i) (givenBy P θ m i) (m (headOf P i))
+abbrev pub RuleMetIn : Program → Valuation → Valuation → ℕ → Type 0
+RuleMetIn P θ m i = GivenNoMore (system P) (headOf P i) (givenBy P θ m i) (m (headOf P i))
 
 -- rule i gives a, which is more than its head has
 pub record Exceeds (P : Program) (θ m : Valuation) (i : ℕ) (a : ℤ) : Type 0 where
@@ -47,22 +47,22 @@ pub record Exceeds (P : Program) (θ m : Valuation) (i : ℕ) (a : ℤ) : Type 0
 
 -- ---- one rule
 
--- what is given, against what the head has
-unfoldable pub demandOf : Given → ℤ → Demand
-demandOf Nothing z = Enough
-demandOf (Value a) z = cond (ltZ z a) (More a) Enough
+-- what is given, against what the head has; x is the head's variable
+unfoldable pub demandOf : Variable → Given → ℤ → Demand
+demandOf x Nothing z = Enough
+demandOf x (Value a) z = cond (notPast x a z) Enough (More a)
 
 -- the answer for rule i is right
 abbrev pub Demanded : Program → Valuation → Valuation → ℕ → Demand → Type 0
 Demanded P θ m i (More a) = Exceeds P θ m i a
-Demanded P θ m i Enough = Met P θ m i
+Demanded P θ m i Enough = RuleMetIn P θ m i
 
 -- ---- one step
 
 -- every rule outside the set is met
 abbrev pub MetOutside : Program → Valuation → Valuation → (ℕ → Bool) → Type 0
 MetOutside P θ m waiting =
-    (i : ℕ) → i < length (P .rules) → waiting i ≡ false → Reaches (system P) (ruleIn (P .rules) i .head) (gives (P .variables) (ruleIn (P .rules) i) m θ) (m (ruleIn (P .rules) i .head))
+    (i : ℕ) → i < length (P .rules) → waiting i ≡ false → GivenNoMore (system P) (ruleIn (P .rules) i .head) (gives (P .variables) (ruleIn (P .rules) i) m θ) (m (ruleIn (P .rules) i .head))
 
 -- the set has rules alone
 abbrev pub Among : Program → (ℕ → Bool) → Type 0
@@ -97,13 +97,13 @@ pub record Ready (s places masks waiting : List ℕ) : Type 0 where
 pub record Raising (P : Program) (θ m : Valuation) (waiting : ℕ → Bool) (i : ℕ) (a : ℤ) : Type 0 where
   pub among : i < length (P .rules)
   pub exceeds : Exceeds P θ m i a
-  pub below : (j : ℕ) → j < i → Met P θ m j
-  pub outside : (j : ℕ) → j < length (P .rules) → waiting j ≡ false → (j ≡ i → ⊥) → Met P θ m j
+  pub below : (j : ℕ) → j < i → RuleMetIn P θ m j
+  pub outside : (j : ℕ) → j < length (P .rules) → waiting j ≡ false → (j ≡ i → ⊥) → RuleMetIn P θ m j
 
 -- what a step answers: the raise to make, or that every rule is met
 abbrev pub Stepped : Program → Valuation → Valuation → (ℕ → Bool) → Step → Type 0
 Stepped P θ m waiting (Raise i a) = Raising P θ m waiting i a
-Stepped P θ m waiting Done = (i : ℕ) → i < length (P .rules) → Met P θ m i
+Stepped P θ m waiting Done = (i : ℕ) → i < length (P .rules) → RuleMetIn P θ m i
 
 -- ---- one raise
 
@@ -117,14 +117,10 @@ pub record Unchanged (model model⁺ : List ℤ) (waiting waiting⁺ : List ℕ)
   pub model-is : model⁺ ≡ model
   pub waiting-is : waiting⁺ ≡ waiting
 
--- the highest value of variable x of a file
-abbrev pub highAt : List ℕ → ℕ → ℤ
-highAt s x = variableOf (drop (8 * x + 3) s) .high
-
--- what a raise answers: done, or beyond the range
-abbrev pub Lifted : List ℕ → List ℕ → ℕ → ℤ → List ℤ → List ℤ → List ℕ → List ℕ → Bool → Type 0
-Lifted s readers x a model model⁺ waiting waiting⁺ true = T (leZ a (highAt s x)) × RaisedTo readers x a model model⁺ waiting waiting⁺
-Lifted s readers x a model model⁺ waiting waiting⁺ false = T (not (leZ a (highAt s x))) × Unchanged model model⁺ waiting waiting⁺
+-- what a raise answers: done, or past the far end; x is the variable of the head h
+abbrev pub Lifted : Variable → List ℕ → ℕ → ℤ → List ℤ → List ℤ → List ℕ → List ℕ → Bool → Type 0
+Lifted x readers h a model model⁺ waiting waiting⁺ true = T (notPast x a (far x)) × RaisedTo readers h a model model⁺ waiting waiting⁺
+Lifted x readers h a model model⁺ waiting waiting⁺ false = T (not (notPast x a (far x))) × Unchanged model model⁺ waiting waiting⁺
 
 -- ---- the run
 

@@ -1,25 +1,30 @@
 // One step on the way to the least model: the lowest rule that demands more than its head has.
 ghost use mathlib.Core.Path.{_≡_};
-ghost use Prim.Native.Nat.{ℕ, _+_, _<_};
+ghost use Prim.Native.Nat.{ℕ, _<_, _≤_};
 ghost use lib.ListN.{length, getD};
-ghost use Rattle.program.specs.Program.{Program};
+ghost use Rattle.program.specs.Fields.{valueAt, nextAt};
+ghost use Rattle.program.specs.Program.{Program, ruleOf};
+ghost use Rattle.parts.specs.Values.{ruleHeader};
 ghost use Rattle.words.specs.Bit.{has};
 ghost use Rattle.format.specs.Limits.{maxRules};
-ghost use Rattle.bodies.specs.Readings.{Small};
 ghost use Rattle.run.specs.Running.{MetOutside, givenBy, demandOf, Demanded, Inside, Takes, Ready, Stepped};
 ghost use Rattle.tables.specs.Laid.{RuleAt, Stands, Placed};
 ghost use Rattle.tables.specs.Tabled.{rowWords};
 ghost use Rattle.program.specs.Readings.{valued};
+ghost use Rattle.program.specs.Evaluable.{Small};
 use crate::Demand;
 use crate::Step;
-use evaluation::rules;
-use fields::cursor;
+use evaluation::rules::gives;
 use format::Format;
+use parts::places::value_at;
+use parts::rules;
+use parts::variables;
 use program::Given;
+use program::Variable;
 use tables::Tables;
 use words::Found;
 
-// What the rule whose field stands at `at` gives, its kept places read in the model.
+// What the rule whose field stands at `at` gives, its kept positions read in the model.
 pub fn demand(
     file: &[u8],
     at: usize,
@@ -31,30 +36,26 @@ pub fn demand(
     requires { ⌜ Small (now model) × Small (now assigned) ⌝ }
     ensures { λ r. ⌜ ((P : Program) (i : ℕ) → RuleAt (now (file .entry)) P i at mask → r ≡ givenBy P (valued (now (assigned .entry))) (valued (now (model .entry))) i) ⌝ }
 {
-    let e = cursor::extent_at(file, at);
-    let start = e.start;
-    let len = e.len;
-    rules::gives(&file[start..start + len], mask, model, assigned)
+    gives(value_at(file, at), mask, model, assigned)
 }
 
-// The head of rule i.
-pub fn head_of(file: &[u8], places: &[usize; Format::MAX_RULES], i: usize) -> u8
-    requires { ⌜ i < maxRules ⌝ }
-    requires { ⌜ getD (now places) i 0 + 4 < length (now file) ⌝ }
-    ensures { λ r. ⌜ r ≡ getD (now (file .entry)) (getD (now (places .entry)) i 0 + 4) 0 ⌝ }
+// The head of the rule whose field stands at `at`.
+pub fn head_at(file: &[u8], at: usize) -> u8
+    requires { ⌜ (nextAt (now file) at ≤ length (now file)) × (ruleHeader ≤ length (valueAt (now file) at)) ⌝ }
+    ensures { λ r. ⌜ r ≡ ruleOf (valueAt (now (file .entry)) at) .head ⌝ }
 {
-    let at = places[i];
-    file[at + 4]
+    let rule = rules::header(value_at(file, at));
+    rule.head
 }
 
-// Whether what is given is more than a value.
-fn exceeds(given: Given, value: i64) -> Demand
-    ensures { λ r. ⌜ r ≡ demandOf given value ⌝ }
+// Whether what is given is more than the value of the head, whose variable is x.
+fn exceeds(x: Variable, given: Given, value: i64) -> Demand
+    ensures { λ r. ⌜ r ≡ demandOf x given value ⌝ }
 {
     let Given::Value(a) = given else {
         return Demand::Enough;
     };
-    if value < a {
+    if x.is_before(value, a) {
         Demand::More(a)
     } else {
         Demand::Enough
@@ -78,9 +79,10 @@ pub fn look(
     let at = places[i];
     let mask = masks[i];
     let given = demand(file, at, mask, model, assigned);
-    let head = format::wide(head_of(file, places, i));
-    let value = model[head];
-    exceeds(given, value)
+    let head = head_at(file, at);
+    let x = variables::variable(file, head);
+    let value = model[format::wide(head)];
+    exceeds(x, given, value)
 }
 
 // The lowest rule of the set leaves it.

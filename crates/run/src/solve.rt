@@ -5,12 +5,12 @@ ghost use Prim.Native.Nat.{ℕ, _+_, _*_, _<_, _≤_};
 ghost use lib.ListN.{length};
 ghost use Rattle.format.specs.Limits.{maxVariables, maxRules};
 ghost use Rattle.words.specs.Bit.{has};
-ghost use Rattle.program.specs.Program.{Program, program};
-ghost use Rattle.program.specs.Reading.{Reads, accepted, Accepts, Whole};
+ghost use Rattle.program.specs.Program.{Program};
+ghost use Rattle.program.specs.Reading.{AcceptedAs, Accepts};
 ghost use Rattle.meaning.specs.Founded.{Within};
 ghost use Rattle.meaning.specs.Reduct.{system};
 ghost use Rattle.run.specs.Running.{Lifted, Running, EndsWith};
-ghost use Rattle.tables.specs.Tabled.{readersWords, rowWords, Tabled};
+ghost use Rattle.tables.specs.Tabled.{readersWords, rowWords, TablesOf};
 ghost use Rattle.program.specs.Readings.{valued};
 use crate::Ending;
 use crate::Step;
@@ -18,10 +18,11 @@ use crate::demands;
 use format::Format;
 use parts::variables;
 use program::Counts;
-use reduct::values;
+use program::Variable;
+use reduct::loading;
 use tables::Tables;
 
-// The set takes in the rules that read x at a kept place.
+// The set takes in the rules that read x at a kept position.
 fn join_readers(waiting: &mut [u64; Tables::ROW], readers: &[u64], x: usize)
     requires { ⌜ length (now waiting) ≡ rowWords ⌝ }
     requires { ⌜ length (now readers) ≡ readersWords ⌝ }
@@ -33,28 +34,28 @@ fn join_readers(waiting: &mut [u64; Tables::ROW], readers: &[u64], x: usize)
     words::join_bits(waiting, &readers[start..start + Tables::ROW]);
 }
 
-// The head gets the value a, and the rules that read it at a kept place join the set; or a is beyond its range, and nothing changes.
+// The head, whose variable is x, gets the value a, and the rules that read it at a kept position join the set; or a is past its far end,
+// and nothing changes.
 pub fn raise(
-    file: &[u8],
+    x: Variable,
     readers: &[u64; Tables::READERS],
     head: u8,
     a: i64,
     model: &mut [i64; Format::MAX_VARIABLES],
     waiting: &mut [u64; Tables::ROW],
 ) -> bool
-    requires { ⌜ 8 * head + 8 ≤ length (now file) ⌝ }
     requires { ⌜ length (now model) ≡ maxVariables ⌝ }
     requires { ⌜ length (now waiting) ≡ rowWords ⌝ }
     ensures { λ _. ⌜ length (now (model .exit)) ≡ maxVariables ⌝ }
     ensures { λ _. ⌜ length (now (waiting .exit)) ≡ rowWords ⌝ }
-    ensures { λ r. ⌜ Lifted (now (file .entry)) (now (readers .entry)) head a (now (model .entry)) (now (model .exit)) (now (waiting .entry)) (now (waiting .exit)) r ⌝ }
+    ensures { λ r. ⌜ Lifted x (now (readers .entry)) head a (now (model .entry)) (now (model .exit)) (now (waiting .entry)) (now (waiting .exit)) r ⌝ }
 {
-    if variables::high(file, head) < a {
+    if x.is_before(x.far(), a) {
         return false;
     }
-    let x = format::wide(head);
-    model[x] = a;
-    join_readers(waiting, readers, x);
+    let v = format::wide(head);
+    model[v] = a;
+    join_readers(waiting, readers, v);
     true
 }
 
@@ -80,8 +81,9 @@ pub fn solve(
         let Step::Raise(i, a) = next else {
             return Ending::Model;
         };
-        let head = demands::head_of(file, places, i);
-        if !raise(file, readers, head, a, model, waiting) {
+        let head = demands::head_at(file, places[i]);
+        let x = variables::variable(file, head);
+        if !raise(x, readers, head, a, model, waiting) {
             return Ending::NoModel;
         }
     }
@@ -97,8 +99,8 @@ pub fn run(
     assigned: &[i64; Format::MAX_VARIABLES],
     model: &mut [i64; Format::MAX_VARIABLES],
 ) -> Ending
-    requires { ⌜ Reads (now file) (accepted (counts .variables) (counts .rules) (counts .constraints)) ⌝ }
-    requires { ⌜ ((k : ℕ) → Whole (now file) k → Tabled (now file) (program (now file) k) (counts .rules) (now places) (now masks) (now readers)) ⌝ }
+    requires { ⌜ AcceptedAs (now file) counts ⌝ }
+    requires { ⌜ TablesOf (now file) (now places) (now masks) (now readers) ⌝ }
     requires { ⌜ ((P : Program) → Accepts (now file) P → Within (system P) (valued (now assigned))) ⌝ }
     requires { ⌜ ((v : ℕ) → counts .variables ≤ v → valued (now model) v ≡ valued (now assigned) v) ⌝ }
     requires { ⌜ length (now model) ≡ maxVariables ⌝ }
@@ -108,7 +110,7 @@ pub fn run(
     let n = counts.variables;
     let rules = counts.rules;
     let mut waiting = [0u64; Tables::ROW];
-    values::start_values(file, n, assigned, model);
+    loading::start_values(file, n, assigned, model);
     words::fill_bits(&mut waiting, rules);
     solve(file, places, masks, readers, model, assigned, &mut waiting)
 }

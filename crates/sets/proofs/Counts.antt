@@ -88,10 +88,6 @@ count-set ws h =
     ∙ ap (λ (k : ℕ). k + from 3) (sym (count-split (has ws) (wordBits * 2) wordBits 0))
     ∙ sym (count-split (has ws) (wordBits * 3) wordBits 0)
 
--- tests that agree below n
-pub count-same : (p q : ℕ → Bool) (n : ℕ) → ((j : ℕ) → j < n → p j ≡ q j) → sizeBelow p n ≡ sizeBelow q n
-count-same p q n h = count-ext p q n 0 0 (λ i l. ap p (zero-add i) ∙ h i l ∙ ap q (sym (zero-add i)))
-
 one-most : (b : Bool) → one-if b ≤ 1
 one-most true = omega arith
 one-most false = omega arith
@@ -133,11 +129,7 @@ less-from q p v a (suc n) l m out in-it h = go (ℕ-discrete a v) (λ g. less-fr
         omega (arith, ap one-if (ap q e ∙ out), ap one-if (ap p e ∙ in-it), within-from q p (suc a) n rest)
     go (no g) k = omega (arith, one-within (q a) (p a) (h a (omega arith) (omega arith)), k g)
 
--- a set within another is no larger
-pub count-within : (q p : ℕ → Bool) (n : ℕ) → ((j : ℕ) → j < n → q j ≡ true → p j ≡ true) → sizeBelow q n ≤ sizeBelow p n
-count-within q p n h = within-from q p 0 n (λ j l m. h j (omega arith))
-
--- and smaller where it lacks one
+-- a set within another is smaller where it lacks one
 pub count-less : (q p : ℕ → Bool) (v n : ℕ) → v < n → q v ≡ false → p v ≡ true → ((j : ℕ) → j < n → q j ≡ true → p j ≡ true)
     → sizeBelow q n < sizeBelow p n
 count-less q p v n l out in-it h = less-from q p v 0 n (omega arith) (omega arith) out in-it (λ j x y. h j (omega arith))

@@ -1,50 +1,37 @@
 -- The tables of a run, one rule more at a time.
-use Prim.Native.Nat.{ℕ, _+_, _*_, _-_, _/_, _<_, _≤_}
+use Prim.Native.Nat.{ℕ, _+_, _*_, _<_, _≤_}
 use mathlib.Core.Path.{_≡_, refl, sym, ap, ap₂, _∙_, subst}
 use mathlib.Core.Bool.{Bool, true, false, _||_, _&&_}
 use mathlib.Core.List.{List}
 use native.Mathlib.Decide.{ℕ-discrete, decLt}
-use native.Mathlib.Nat.{add-sub-cancel-left}
 use native.Mathlib.Omega.{arith}
 use lib.Dec.{eqb, ltb}
-use lib.ListN.{length, getD, set, take, drop}
+use lib.ListN.{length, getD, set}
 use lib.Seq.{getD-set-same, getD-set-other}
 use borrow.Author.Tests.{eq-eqb, ne-eqb, lt-ltb, le-ltb}
-use Rattle.format.specs.Limits.{maxVariables, maxRules}
+use Rattle.format.specs.Limits.{maxVariables, maxRules, maxTerms}
 use Rattle.words.specs.Bit.{has}
-use Rattle.program.specs.Tables.{anyBelow}
-use Rattle.program.specs.Fields.{place, valueAt, lengthAt, nextAt}
-use Rattle.program.specs.Program.{Program, Rule, program, ruleOf, ruleIn, variablesAt}
-use Rattle.program.specs.Reading.{Whole}
-use Rattle.program.specs.declared.Counts.{Counts}
-use Rattle.program.proofs.Places.{counts, place-next, value-length}
-use Rattle.bodies.specs.Readings.{bit}
-use Rattle.parts.proofs.Bytes.{place-variable}
-use Rattle.fields.specs.Scanning.{Counted}
-use Rattle.validity.proofs.ComponentLaws.{any-same, whole-unique}
-use Rattle.validity.proofs.RuleLaws.{counted-variables, rule-is, rule-promise, rule-inside, standing}
-use Rattle.reader.specs.Parts.{rulePlace}
+use Rattle.program.specs.Fields.{valueAt, nextAt}
+use Rattle.program.specs.Program.{Program, Rule, ruleOf, ruleIn, variablesAt}
+use Rattle.program.specs.Reading.{Reads, accepted, Accepts}
+use Rattle.program.proofs.Conditions.{any-same}
+use Rattle.reader.specs.Parts.{rulePlace, constraintPlace}
+use Rattle.reader.proofs.Published.{counts-of, variables-are, limited, rule-lies, next-rule, first-constraint}
 use Rattle.meaning.specs.Reads.{readsKept}
-use Rattle.reduct.specs.Masks.{keptAt, Mask}
-use Rattle.tables.specs.Tabled.{Entered, MaskOf, Tabled}
+use Rattle.reduct.specs.Masks.{Mask}
+use Rattle.tables.specs.Tabled.{readAt, Entered, MaskOf, Tabled}
 use Rattle.tables.specs.Entries.{RuleHere, EntryMade}
-use Rattle.reduct.proofs.MaskLaws.{kept-is}
 use Rattle.program.specs.Readings.{bodyVariable, kept}
+use Rattle.parts.specs.Values.{Standing}
+use Rattle.program.specs.declared.Variable.{Variable}
 
-module _ {s : List ℕ} {k : Counts} (c : Counted s k) where
-  abbrev P : Program
-  P = program s (c .fields)
-
-  -- the rules are few
-  pub rules-few : k .rules ≤ maxRules
-  rules-few = let w = counts (c .whole .passed) in let e = c .describes .rules-are in omega arith
-
-  pub here : (i at : ℕ) → i < k .rules → at ≡ place s (k .variables + i) → RuleHere s (k .variables) at
-  here i at h e = rw e record {
-    inside = rule-inside c i h (place s (k .variables + i)) refl;
-    standing = standing c i h;
-    few = rule-promise c i h .body .count .most;
-  }
+module _ {s : List ℕ} {v m c : ℕ} (r : Reads s (accepted v m c)) {P : Program} (a : Accepts s P) where
+  -- rule i stands at its place
+  pub here : (i at : ℕ) → i < m → at ≡ rulePlace s P i → RuleHere s v at
+  here i at h e =
+      let z = counts-of r a in
+      let l = rule-lies a i (omega (arith, z .rules-are)) in
+      rw e (record { inside = l .inside; standing = subst (λ (n : ℕ). Standing s n (valueAt s (rulePlace s P i))) (z .variables-are) (l .standing); few = l .evaluable .few })
 
   -- nothing is entered yet
   pub tabled-none : (ps ms rs : List ℕ) → ((n : ℕ) → has rs n ≡ false) → Tabled s P 0 ps ms rs
@@ -54,24 +41,22 @@ module _ {s : List ℕ} {k : Counts} (c : Counted s k) where
     reader-is = λ x i l m. e (maxRules * x + i) ∙ ap (λ (t : Bool). t && readsKept P (ruleIn (P .rules) i) x) (sym (le-ltb i 0 (omega arith)));
   }
 
-  module _ (i at r : ℕ) (ps ps′ ms ms′ rs rs′ : List ℕ) (h : i < k .rules) (e : at ≡ place s (k .variables + i))
-      (lp : length ps ≡ maxRules) (lm : length ms ≡ maxRules) (n : EntryMade s (k .variables) at i r ps ps′ ms ms′ rs rs′) (t : Tabled s P i ps ms rs) where
+  module _ (i at next : ℕ) (ps ps′ ms ms′ rs rs′ : List ℕ) (h : i < m) (e : at ≡ rulePlace s P i)
+      (lp : length ps ≡ maxRules) (lm : length ms ≡ maxRules) (n : EntryMade s v at i next ps ps′ ms ms′ rs rs′) (t : Tabled s P i ps ms rs) where
     rule-here : ruleOf (valueAt s at) ≡ ruleIn (P .rules) i
-    rule-here = ap (λ (a : ℕ). ruleOf (valueAt s a)) e ∙ sym (rule-is c i h)
+    rule-here = ap (λ (n : ℕ). ruleOf (valueAt s n)) e ∙ sym (rule-lies a i (omega (arith, counts-of r a .rules-are)) .is)
 
-    -- the rule's mask is of its kept places
+    -- the rule's mask is of its kept positions
     mask-here : MaskOf P (ruleIn (P .rules) i) (n .mask)
-    mask-here = subst (λ (q : Rule). MaskOf P q (n .mask)) rule-here (λ j l. n .mask-is .below j l ∙ kept-is P (ruleOf (valueAt s at)) j (c .describes .variables-are))
+    mask-here = subst (λ (q : Rule). MaskOf P q (n .mask)) rule-here (λ j l. n .mask-is .below j l ∙ ap (λ (vs : List Variable). kept vs (ruleOf (valueAt s at)) j) (sym (variables-are r a)))
 
     -- and the variables that it reads there are those entered
-    reads-here : (x : ℕ)
-        → anyBelow (length (ruleOf (valueAt s at) .terms)) (λ j. bit (n .mask) j && eqb (getD (valueAt s at) (4 + 4 * j) 0) x) ≡ readsKept P (ruleIn (P .rules) i) x
-    unfolding readsKept
+    reads-here : (x : ℕ) → readAt (ruleOf (valueAt s at)) (n .mask) x ≡ readsKept P (ruleIn (P .rules) i) x
+    unfolding readAt readsKept
     reads-here x =
-        any-same (length (ruleOf (valueAt s at) .terms)) _ (λ j. kept (P .variables) (ruleOf (valueAt s at)) j && eqb (bodyVariable (ruleOf (valueAt s at)) j) x)
-        (λ j l. ap₂ (λ (a : Bool) (b : ℕ). a && eqb b x) (n .mask-is .below j l ∙ kept-is P (ruleOf (valueAt s at)) j (c .describes .variables-are))
-        (sym (place-variable (valueAt s at) j (let z = here i at h e .standing .sized in omega arith))))
-        ∙ ap (λ (q : Rule). anyBelow (length (q .terms)) (λ j. kept (P .variables) q j && eqb (bodyVariable q j) x)) rule-here
+        ap (λ (q : Rule). readAt q (n .mask) x) rule-here
+        ∙ any-same (length (ruleIn (P .rules) i .terms)) _ (λ j. kept (P .variables) (ruleIn (P .rules) i) j && eqb (bodyVariable (ruleIn (P .rules) i) j) x)
+        (λ j l. ap (λ (b : Bool). b && eqb (bodyVariable (ruleIn (P .rules) i) j) x) (mask-here j l))
 
     reader-here : (x j : ℕ) → x < maxVariables → j < maxRules → Dec (j ≡ i) → has rs′ (maxRules * x + j) ≡ (ltb j (i + 1) && readsKept P (ruleIn (P .rules) j) x)
     reader-here x j l m (yes q) =
@@ -80,7 +65,7 @@ module _ {s : List ℕ} {k : Counts} (c : Counted s k) where
         ∙ sym (ap₂ (λ (a : Bool) (z : ℕ). a && readsKept P (ruleIn (P .rules) z) x) (lt-ltb j (i + 1) (omega arith)) q)
     reader-here x j l m (no g) =
         n .entered x j l m
-        ∙ ap₂ _||_ (t .reader-is x j l m) (ap (λ (b : Bool). b && anyBelow (length (ruleOf (valueAt s at) .terms)) (λ y. bit (n .mask) y && eqb (getD (valueAt s at) (4 + 4 * y) 0) x)) (ne-eqb j i g))
+        ∙ ap₂ _||_ (t .reader-is x j l m) (ap (λ (b : Bool). b && readAt (ruleOf (valueAt s at)) (n .mask) x) (ne-eqb j i g))
         ∙ or-false _ ∙ ap (λ (b : Bool). b && readsKept P (ruleIn (P .rules) j) x) (other (ℕ-less j i))
       where
         or-false : (b : Bool) → (b || false) ≡ b
@@ -101,14 +86,11 @@ module _ {s : List ℕ} {k : Counts} (c : Counted s k) where
       reader-is = λ x j l m. reader-here x j l m (ℕ-discrete j i);
     }
       where
-        there : at ≡ rulePlace s P i
-        there = e ∙ ap (λ (q : ℕ). place s (q + i)) (sym (counted-variables c))
-
         few : i < maxRules
-        few = let w = rules-few in omega arith
+        few = omega (arith, limited r .few-rules)
 
         place-here : (j : ℕ) → j < i + 1 → Dec (j ≡ i) → getD (set ps i at) j 0 ≡ rulePlace s P j
-        place-here j l (yes q) = rw q (getD-set-same ps i at 0 (omega (arith, few)) ∙ there)
+        place-here j l (yes q) = rw q (getD-set-same ps i at 0 (omega (arith, few)) ∙ e)
         place-here j l (no g) = getD-set-other ps i j at 0 g ∙ t .place-is j (omega arith)
 
         mask-at : (j : ℕ) → j < i + 1 → Dec (j ≡ i) → MaskOf P (ruleIn (P .rules) j) (getD (set ms i (n .mask)) j 0)
@@ -116,35 +98,29 @@ module _ {s : List ℕ} {k : Counts} (c : Counted s k) where
         mask-at j l (no g) = rw (getD-set-other ms i j (n .mask) 0 g) (t .mask-is j (omega arith))
 
     -- the next field is the next rule
-    pub next-place : r ≡ place s (k .variables + (i + 1))
-    next-place = let q : k .variables + (i + 1) ≡ k .variables + i + 1 = omega arith in rw (q, place-next) (n .next-is ∙ ap (nextAt s) e)
-
-  -- there is one program of a whole file
-  pub tabled-whole : {i : ℕ} {ps ms rs : List ℕ} → Tabled s P i ps ms rs → (m : ℕ) → Whole s m → Tabled s (program s m) i ps ms rs
-  tabled-whole {i} {ps} {ms} {rs} t m w = subst (λ (q : ℕ). Tabled s (program s q) i ps ms rs) (whole-unique (c .whole) w) t
+    pub next-place : next ≡ rulePlace s P (i + 1)
+    next-place = n .next-is ∙ ap (nextAt s) e ∙ sym (next-rule s P i)
 
   -- all rules are entered
-  pub tabled-all : {i : ℕ} {ps ms rs : List ℕ} → i ≡ k .rules → ((m : ℕ) → Whole s m → Tabled s (program s m) i ps ms rs) → (m : ℕ) → Whole s m → Tabled s (program s m) (k .rules) ps ms rs
-  tabled-all {i} {ps} {ms} {rs} e t m w = subst (λ (q : ℕ). Tabled s (program s m) q ps ms rs) e (t m w)
+  module _ {i : ℕ} (q : i ≡ m) where
+    every : i ≡ length (P .rules)
+    every = omega (arith, counts-of r a .rules-are)
 
--- ---- one rule, from the parts of its field
+    pub tabled-all : {ps ms rs : List ℕ} → Tabled s P i ps ms rs → Tabled s P (length (P .rules)) ps ms rs
+    tabled-all t = rw every at t
 
--- the part of the file that is the field's value
-pub part-here : (s : List ℕ) (at start len : ℕ) → start ≡ at + 3 → len ≡ lengthAt s at → take (start + len - start) (drop start s) ≡ valueAt s at
-part-here s at start len e l = rw (add-sub-cancel-left start len, l, e)
+    pub place-after : {at : ℕ} → at ≡ rulePlace s P i → at ≡ constraintPlace s P 0
+    place-after e = e ∙ ap (rulePlace s P) every ∙ sym (first-constraint s P)
 
--- its length, by its terms
-pub terms-here : (s : List ℕ) (n at len : ℕ) → RuleHere s n at → len ≡ lengthAt s at → len ≡ 4 + 4 * length (ruleOf (valueAt s at) .terms)
-terms-here s n at len h l = l ∙ sym (value-length s at (h .inside)) ∙ h .standing .sized
+-- ---- one rule, from the value of its field
 
-module _ (s : List ℕ) (n at i start len next mask : ℕ) (ps ms rs rs′ : List ℕ) (h : RuleHere s n at) (e : start ≡ at + 3) (l : len ≡ lengthAt s at) where
-  abbrev part : List ℕ
-  part = take (start + len - start) (drop start s)
+module _ {s : List ℕ} {n at : ℕ} (h : RuleHere s n at) {v : List ℕ} (q : v ≡ valueAt s at) where
+  pub standing-here : Standing s n v
+  standing-here = rw q (h .standing)
 
-  pub entry-made : next ≡ nextAt s at → Mask (keptAt (variablesAt s n) (ruleOf part)) (length (ruleOf part .terms)) mask
-      → Entered rs rs′ i (λ x. anyBelow (len / 4 - 1) (λ j. bit mask j && eqb (getD part (4 + 4 * j) 0) x))
-      → EntryMade s n at i next ps (set ps i at) ms (set ms i mask) rs rs′
-  entry-made q m d =
-      let p = part-here s at start len e l in
-      let t : len / 4 - 1 ≡ length (ruleOf (valueAt s at) .terms) = omega (arith, terms-here s n at len h l) in
-      record { next-is = q; placed = refl; mask = mask; masked = refl; mask-is = rw p at m; entered = rw (p, t) at d }
+  pub few-here : length (ruleOf v .terms) ≤ maxTerms
+  few-here = rw q (h .few)
+
+  pub entry-made : (i next mask : ℕ) (ps ms rs rs′ : List ℕ) → next ≡ nextAt s at → Mask (kept (variablesAt s n) (ruleOf v)) (length (ruleOf v .terms)) mask
+      → Entered rs rs′ i (readAt (ruleOf v) mask) → EntryMade s n at i next ps (set ps i at) ms (set ms i mask) rs rs′
+  entry-made i next mask ps ms rs rs′ e m d = record { next-is = e; placed = refl; mask = mask; masked = refl; mask-is = rw q at m; entered = rw q at d }

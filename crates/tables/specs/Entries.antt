@@ -1,18 +1,15 @@
 -- One rule entered into the tables of a run.
-use Prim.Native.Nat.{ℕ, _+_, _*_, _≤_}
+use Prim.Native.Nat.{ℕ, _≤_}
 use mathlib.Core.Path.{_≡_}
-use mathlib.Core.Bool.{_&&_}
 use mathlib.Core.List.{List}
-use lib.Dec.{eqb}
-use lib.ListN.{length, getD, set}
+use lib.ListN.{length, set}
 use Rattle.format.specs.Limits.{maxTerms}
-use Rattle.program.specs.Tables.{anyBelow}
+use Rattle.program.specs.Readings.{kept}
 use Rattle.program.specs.Fields.{valueAt, nextAt}
 use Rattle.program.specs.Program.{ruleOf, variablesAt}
-use Rattle.bodies.specs.Readings.{bit}
-use Rattle.edges.specs.Edges.{Standing}
-use Rattle.reduct.specs.Masks.{keptAt, Mask}
-use Rattle.tables.specs.Tabled.{Entered}
+use Rattle.reduct.specs.Masks.{Mask}
+use Rattle.tables.specs.Tabled.{readAt, Entered}
+use Rattle.parts.specs.Values.{Standing}
 
 -- a rule of a file of n variables stands at this place
 pub record RuleHere (s : List ℕ) (n at : ℕ) : Type 0 where
@@ -26,5 +23,5 @@ pub record EntryMade (s : List ℕ) (n at i r : ℕ) (ps ps′ ms ms′ rs rs′
   pub placed : ps′ ≡ set ps i at
   pub mask : ℕ
   pub masked : ms′ ≡ set ms i mask
-  pub mask-is : Mask (keptAt (variablesAt s n) (ruleOf (valueAt s at))) (length (ruleOf (valueAt s at) .terms)) mask
-  pub entered : Entered rs rs′ i (λ x. anyBelow (length (ruleOf (valueAt s at) .terms)) (λ j. bit mask j && eqb (getD (valueAt s at) (4 + 4 * j) 0) x))
+  pub mask-is : Mask (kept (variablesAt s n) (ruleOf (valueAt s at))) (length (ruleOf (valueAt s at) .terms)) mask
+  pub entered : Entered rs rs′ i (readAt (ruleOf (valueAt s at)) mask)

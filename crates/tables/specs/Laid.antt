@@ -4,7 +4,7 @@ use mathlib.Core.Path.{_≡_}
 use mathlib.Core.List.{List}
 use lib.ListN.{length, getD}
 use Rattle.program.specs.Program.{Program, ruleIn}
-use Rattle.program.specs.Reading.{Accepts}
+use Rattle.program.specs.Reading.{AcceptedAs, Accepts}
 use Rattle.program.specs.declared.Counts.{Counts}
 use Rattle.reader.specs.Parts.{rulePlace}
 use Rattle.tables.specs.Tabled.{MaskOf}
@@ -27,9 +27,11 @@ pub record Placed (s : List ℕ) (P : Program) (places masks : List ℕ) : Type 
   pub accepts : Accepts s P
   pub stands : (i : ℕ) → i < length (P .rules) → RuleAt s P i (getD places i 0) (getD masks i 0)
 
--- the tables are those of a file with these counts
+-- the tables are those of a file that is accepted with these counts
 pub record Laid (s : List ℕ) (k : Counts) (places masks : List ℕ) : Type 0 where
-  pub program : Program
-  pub placed : Placed s program places masks
-  pub variables-are : length (program .variables) ≡ k .variables
-  pub rules-are : length (program .rules) ≡ k .rules
+  pub accepted : AcceptedAs s k
+  pub placed : (P : Program) → Accepts s P → Placed s P places masks
+
+-- the table has the place of each rule of the program that a file means
+abbrev pub PlacesOf : List ℕ → List ℕ → Type 0
+PlacesOf s places = (P : Program) → Accepts s P → (i : ℕ) → i < length (P .rules) → getD places i 0 ≡ rulePlace s P i

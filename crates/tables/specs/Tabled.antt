@@ -1,4 +1,5 @@
--- The tables of a run: where each rule stands, which of its places are kept, and which rules read a variable at a kept place.
+-- The tables of a run: where each rule stands, which of its positions are kept, and which rules read a variable at a kept
+-- position.
 use Prim.Native.Nat.{ℕ, _+_, _*_, _/_, _<_}
 use mathlib.Core.Path.{_≡_}
 use mathlib.Core.Bool.{Bool, _&&_, _||_}
@@ -6,12 +7,13 @@ use mathlib.Core.List.{List}
 use lib.Dec.{ltb, eqb}
 use lib.ListN.{length, getD}
 use Rattle.format.specs.Limits.{maxVariables, maxRules}
-use Rattle.words.specs.Bit.{wordBits, has}
+use Rattle.words.specs.Bit.{wordBits, has, bit}
 use Rattle.program.specs.Program.{Program, Rule, ruleIn}
-use Rattle.bodies.specs.Readings.{bit}
+use Rattle.program.specs.Reading.{Accepts}
 use Rattle.reader.specs.Parts.{rulePlace}
 use Rattle.meaning.specs.Reads.{readsKept}
-use Rattle.program.specs.Readings.{kept}
+use Rattle.program.specs.Tables.{anyBelow}
+use Rattle.program.specs.Readings.{bodyVariable, kept}
 
 -- the words of a set of rules, and of one for each variable
 abbrev pub rowWords : ℕ
@@ -20,11 +22,15 @@ rowWords = maxRules / wordBits
 abbrev pub readersWords : ℕ
 readersWords = maxVariables * rowWords
 
--- the readers after rule k was entered at one place, or at several: e x says whether it reads x there
+-- some position of the rule whose bit is set has the variable x
+unfoldable pub readAt : Rule → ℕ → ℕ → Bool
+readAt r mask x = anyBelow (length (r .terms)) (λ j. bit mask j && eqb (bodyVariable r j) x)
+
+-- the readers after rule k was entered at one position, or at several: e x says whether it reads x there
 abbrev pub Entered : List ℕ → List ℕ → ℕ → (ℕ → Bool) → Type 0
 Entered ws ws′ k e = (x i : ℕ) → x < maxVariables → i < maxRules → has ws′ (maxRules * x + i) ≡ (has ws (maxRules * x + i) || (eqb i k && e x))
 
--- bit j is set exactly where place j of the rule is kept
+-- bit j is set exactly where position j of the rule is kept
 abbrev pub MaskOf : Program → Rule → ℕ → Type 0
 MaskOf P r w = (j : ℕ) → j < length (r .terms) → bit w j ≡ kept (P .variables) r j
 
@@ -33,3 +39,7 @@ pub record Tabled (s : List ℕ) (P : Program) (n : ℕ) (places masks readers :
   pub place-is : (i : ℕ) → i < n → getD places i 0 ≡ rulePlace s P i
   pub mask-is : (i : ℕ) → i < n → MaskOf P (ruleIn (P .rules) i) (getD masks i 0)
   pub reader-is : (x i : ℕ) → x < maxVariables → i < maxRules → has readers (maxRules * x + i) ≡ (ltb i n && readsKept P (ruleIn (P .rules) i) x)
+
+-- the tables have every rule of the program that a file means
+abbrev pub TablesOf : List ℕ → List ℕ → List ℕ → List ℕ → Type 0
+TablesOf s places masks readers = (P : Program) → Accepts s P → Tabled s P (length (P .rules)) places masks readers

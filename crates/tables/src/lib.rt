@@ -1,23 +1,24 @@
-// The tables of a run: where each rule stands, which of its places are kept, and which rules read a variable at a kept place.
+// The tables of a run: where each rule stands, which of its positions are kept, and which rules read a variable at a kept position.
 ghost use mathlib.Core.Path.{_≡_};
 ghost use mathlib.Core.Bool.{_&&_, false};
-ghost use Prim.Native.Nat.{ℕ, _+_, _*_, _<_, _≤_};
+ghost use Prim.Native.Nat.{ℕ, _<_, _≤_};
 ghost use lib.Dec.{eqb};
-ghost use lib.ListN.{length, getD};
+ghost use lib.ListN.{length};
 ghost use Rattle.format.specs.Limits.{maxRules, maxTerms};
-ghost use Rattle.program.specs.Tables.{anyBelow};
-ghost use Rattle.bodies.specs.Readings.{bit};
-ghost use Rattle.words.specs.Bit.{has};
-ghost use Rattle.program.specs.Fields.{place};
-ghost use Rattle.program.specs.Program.{program};
-ghost use Rattle.program.specs.Reading.{Whole};
-ghost use Rattle.fields.specs.Scanning.{Counted};
-ghost use Rattle.tables.specs.Tabled.{rowWords, readersWords, Entered, Tabled};
+ghost use Rattle.words.specs.Bit.{has, bit};
+ghost use Rattle.program.specs.Program.{Program, ruleOf};
+ghost use Rattle.program.specs.Readings.{bodyVariable};
+ghost use Rattle.parts.specs.Values.{ruleHeader};
+ghost use Rattle.program.specs.Reading.{AcceptedAs, Accepts};
+ghost use Rattle.reader.specs.Parts.{constraintPlace};
+ghost use Rattle.tables.specs.Tabled.{rowWords, readersWords, readAt, Entered, TablesOf};
 ghost use Rattle.tables.specs.Entries.{RuleHere, EntryMade};
-use fields::cursor;
 use format::Format;
+use parts::places::next_at;
+use parts::places::value_at;
+use parts::rules;
 use program::Counts;
-use reduct::places::kept_places;
+use reduct::kept::kept_positions;
 use words::Words;
 
 pub struct Tables {}
@@ -36,35 +37,30 @@ impl Tables {
     {}
 }
 
-// Rule k reads the variable at place j of its body, where that place is kept.
-fn enter_place(readers: &mut [u64; Tables::READERS], value: &[u8], mask: u32, k: usize, j: usize)
-    requires { ⌜ (k < maxRules) × (4 + 4 * (j + 1) ≤ length (now value)) × (j < maxTerms) ⌝ }
+// Rule k reads the variable at position j of its body, where that position is kept.
+fn enter_position(readers: &mut [u64; Tables::READERS], value: &[u8], mask: u32, k: usize, j: usize)
+    requires { ⌜ (k < maxRules) × (ruleHeader ≤ length (now value)) × (j < length (ruleOf (now value) .terms)) × (j < maxTerms) ⌝ }
     requires { ⌜ length (now readers) ≡ readersWords ⌝ }
     ensures { λ _. ⌜ length (now (readers .exit)) ≡ readersWords ⌝ }
-    ensures { λ _. ⌜ Entered (now (readers .entry)) (now (readers .exit)) k (λ x. bit mask j && eqb (getD (now (value .entry)) (4 + 4 * j) 0) x) ⌝ }
+    ensures { λ _. ⌜ Entered (now (readers .entry)) (now (readers .exit)) k (λ x. bit mask j && eqb (bodyVariable (ruleOf (now (value .entry))) j) x) ⌝ }
 {
     if (mask >> j) % 2 == 1 {
-        let x = format::wide(value[4 + 4 * j]);
+        let x = format::wide(rules::variable_at(value, j));
         words::add_bit(readers, Format::MAX_RULES * x + k);
     }
 }
 
-// Rule k reads the variables at its kept places.
-pub fn enter_rule(
-    readers: &mut [u64; Tables::READERS],
-    value: &[u8],
-    mask: u32,
-    k: usize,
-    terms: usize,
-)
-    requires { ⌜ (k < maxRules) × (4 + 4 * terms ≤ length (now value)) × (terms ≤ maxTerms) ⌝ }
+// Rule k reads the variables at its kept positions.
+pub fn enter_rule(readers: &mut [u64; Tables::READERS], value: &[u8], mask: u32, k: usize)
+    requires { ⌜ (k < maxRules) × (ruleHeader ≤ length (now value)) × (length (ruleOf (now value) .terms) ≤ maxTerms) ⌝ }
     requires { ⌜ length (now readers) ≡ readersWords ⌝ }
     ensures { λ _. ⌜ length (now (readers .exit)) ≡ readersWords ⌝ }
-    ensures { λ _. ⌜ Entered (now (readers .entry)) (now (readers .exit)) k (λ x. anyBelow terms (λ j. bit mask j && eqb (getD (now (value .entry)) (4 + 4 * j) 0) x)) ⌝ }
+    ensures { λ _. ⌜ Entered (now (readers .entry)) (now (readers .exit)) k (readAt (ruleOf (now (value .entry))) mask) ⌝ }
 {
+    let n = rules::positions(value);
     let mut j = 0;
-    while j < terms {
-        enter_place(readers, value, mask, k, j);
+    while j < n {
+        enter_position(readers, value, mask, k, j);
         j += 1;
     }
 }
@@ -84,18 +80,15 @@ fn enter(
     ensures { λ _. ⌜ (length (now (places .exit)) ≡ maxRules) × (length (now (masks .exit)) ≡ maxRules) × (length (now (readers .exit)) ≡ readersWords) ⌝ }
     ensures { λ r. ⌜ EntryMade (now (file .entry)) variables at i r (now (places .entry)) (now (places .exit)) (now (masks .entry)) (now (masks .exit)) (now (readers .entry)) (now (readers .exit)) ⌝ }
 {
-    let e = cursor::extent_at(file, at);
-    let start = e.start;
-    let len = e.len;
-    let end = start + len;
-    let mask = kept_places(file, variables, &file[start..end]);
+    let value = value_at(file, at);
+    let mask = kept_positions(file, variables, value);
     places[i] = at;
     masks[i] = mask;
-    enter_rule(readers, &file[start..end], mask, i, len / 4 - 1);
-    e.next
+    enter_rule(readers, value, mask, i);
+    next_at(file, at)
 }
 
-// Enters every rule of a file whose fields passed, with its counts, and answers where the field after the last rule stands.
+// Enters every rule of a file that is accepted with these counts, and answers where the field after the last rule stands.
 pub fn fill_tables(
     file: &[u8],
     counts: Counts,
@@ -103,12 +96,12 @@ pub fn fill_tables(
     masks: &mut [u32; Format::MAX_RULES],
     readers: &mut [u64; Tables::READERS],
 ) -> usize
-    requires { ⌜ Counted (now file) counts ⌝ }
+    requires { ⌜ AcceptedAs (now file) counts ⌝ }
     requires { ⌜ (length (now places) ≡ maxRules) × (length (now masks) ≡ maxRules) × (length (now readers) ≡ readersWords) ⌝ }
     requires { ⌜ ((n : ℕ) → has (now readers) n ≡ false) ⌝ }
     ensures { λ _. ⌜ (length (now (places .exit)) ≡ maxRules) × (length (now (masks .exit)) ≡ maxRules) × (length (now (readers .exit)) ≡ readersWords) ⌝ }
-    ensures { λ _. ⌜ ((k : ℕ) → Whole (now (file .entry)) k → Tabled (now (file .entry)) (program (now (file .entry)) k) (counts .rules) (now (places .exit)) (now (masks .exit)) (now (readers .exit))) ⌝ }
-    ensures { λ r. ⌜ r ≡ place (now (file .entry)) (counts .variables + counts .rules) ⌝ }
+    ensures { λ _. ⌜ TablesOf (now (file .entry)) (now (places .exit)) (now (masks .exit)) (now (readers .exit)) ⌝ }
+    ensures { λ r. ⌜ ((P : Program) → Accepts (now (file .entry)) P → r ≡ constraintPlace (now (file .entry)) P 0) ⌝ }
 {
     let n = counts.variables;
     let rules = counts.rules;

@@ -16,28 +16,24 @@ use Rattle.walks.specs.Walk as walk
 use Rattle.words.proofs.Bits.{bit-zero}
 use Rattle.walks.proofs.Walks.{stops-below}
 use Rattle.program.specs.Tables.{anyBelow}
-use Rattle.program.specs.Program.{Variable, Rule, Program, program, ruleIn, termIn}
+use Rattle.program.specs.Program.{Rule, Program, program, ruleIn, termIn}
 use Rattle.program.specs.Components as components
 use Rattle.program.specs.Components.{draws, edge, Reaches, Share, Offends}
 use Rattle.program.specs.Reading.{Whole}
 use Rattle.program.specs.declared.Counts.{Counts}
-use Rattle.program.proofs.Conditions.{never, both, some-below, none-below}
+use Rattle.program.proofs.Conditions.{never, both, some-below, none-below, any-same}
 use Rattle.program.proofs.Places.{variables-length}
 use Rattle.program.proofs.Promises.{Promises, passed-promises}
 use Rattle.fields.specs.Scanning.{Counted}
 use Rattle.validity.specs.Judging.{Judges}
 use Rattle.edges.specs.Edges.{Grown, anyMixed, drawsAt, drawsIn, shareIn, offendsAt, offendsIn}
 use Rattle.validity.specs.Marks.{mixedRule, edgeIn, offendsRule, JudgedBy}
-use Rattle.validity.specs.declared.Judged.{Judged}
-use Rattle.validity.specs.declared.Judged.the-variants.{Valid, Offending}
+use Rattle.validity.specs.declared.Outcome.{Outcome}
+use Rattle.validity.specs.declared.Outcome.the-variants.{Valid, Offending}
 use Rattle.validity.proofs.RuleLaws.{counted-variables, variables-few, rule-stands, rule-is, rule-promise}
+use Rattle.program.specs.declared.Variable.{Variable}
 
 -- ---- tests below a number
-
-pub any-same : (n : ℕ) (p q : ℕ → Bool) → ((i : ℕ) → i < n → p i ≡ q i) → anyBelow n p ≡ anyBelow n q
-unfolding anyBelow
-any-same zero p q h = refl
-any-same (suc n) p q h = ap₂ _||_ (any-same n p q (λ i l. h i (omega arith))) (h n (omega arith))
 
 any-never : (n : ℕ) → anyBelow n (λ i. false) ≡ false
 unfolding anyBelow
@@ -172,7 +168,7 @@ module _ {s : List ℕ} {k : Counts} (c : Counted s k) where
         let r = share-row _ _ h v (rw (rule-is c i l) at (o .shares)) in
         never (ap₂ _&&_ m r) (none-below _ _ e (o .at) inside)
 
-    judged-by : (r : Judged) → JudgedBy t s k r → Judges s (c .fields) r
+    judged-by : (r : Outcome) → JudgedBy t s k r → Judges s (c .fields) r
     judged-by Valid h = λ i o. let l : i < k .rules = rw (c .describes .rules-are) at (o .among) in offends-row i l (h i l) o
     judged-by (Offending at) f =
         let r = rule-stands c (f .rule) (f .among) in
@@ -192,7 +188,7 @@ module _ {s : List ℕ} {k : Counts} (c : Counted s k) where
   pub judged-none : mixedRule s k ≡ false → (n : ℕ) → Whole s n → Judges s n Valid
   judged-none e n w = subst (λ (n : ℕ). Judges s n Valid) (whole-unique (c .whole) w) (none-mixed e)
 
-  pub judged : {t₀ t₁ t : ℕ → ℕ → Bool} (r : Judged) → ((a b : ℕ) → t₀ a b ≡ false) → Grown t₀ t₁ (edgeIn s k)
+  pub judged : {t₀ t₁ t : ℕ → ℕ → Bool} (r : Outcome) → ((a b : ℕ) → t₀ a b ≡ false) → Grown t₀ t₁ (edgeIn s k)
       → Reached t₁ t (k .variables) (k .variables) → JudgedBy t s k r → (n : ℕ) → Whole s n → Judges s n r
   judged r z g closed h n w =
       subst (λ (n : ℕ). Judges s n r) (whole-unique (c .whole) w)

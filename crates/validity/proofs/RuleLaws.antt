@@ -1,11 +1,10 @@
 -- The rules of a file whose fields passed, one after the other.
-use Prim.Native.Nat.{ℕ, _+_, _*_, _-_, _<_, _≤_}
-use mathlib.Core.Path.{_≡_, sym, ap, _∙_, subst}
+use Prim.Native.Nat.{ℕ, _+_, _*_, _<_, _≤_}
+use mathlib.Core.Path.{_≡_, sym, ap, _∙_}
 use mathlib.Core.List.{List}
 use mathlib.Core.Bool.{Bool, false}
-use native.Mathlib.Nat.{add-sub-cancel-left}
 use native.Mathlib.Omega.{arith}
-use lib.ListN.{length, take, drop}
+use lib.ListN.{length}
 use Rattle.format.specs.Limits.{maxVariables}
 use Rattle.program.specs.Tables.{anyBelow}
 use Rattle.program.specs.Fields.{valueAt, nextAt, place}
@@ -15,26 +14,20 @@ use Rattle.program.specs.declared.Counts.{Counts}
 use Rattle.program.proofs.Conditions.{last-or}
 use Rattle.program.proofs.Places.{RuleStands, Fine, variablesTo, variables-length, variables-stand, rule-at, rule-length, passed-fine, place-next, counts}
 use Rattle.program.proofs.Promises.{RulePromise, passed-rule}
-use Rattle.parts.proofs.Bytes.{place-variable}
 use Rattle.fields.specs.Scanning.{Counted}
-use Rattle.edges.specs.Edges.{Standing, Grown, anyMixed, drawsIn}
-use Rattle.validity.specs.Marks.{Spans, ruleAt, mixedRule, edgeIn}
-use Rattle.edges.proofs.PlaceLaws.{grown-done}
+use Rattle.edges.specs.Edges.{Grown, anyMixed, drawsIn}
+use Rattle.validity.specs.Marks.{ruleAt, mixedRule, edgeIn}
+use Rattle.edges.proofs.PositionLaws.{grown-done}
+use Rattle.parts.specs.Values.{Standing}
 
--- the value of a field, as a part of the file
-pub value-part : (s : List ℕ) (j at : ℕ) {start len next : ℕ} → at ≡ place s j → Spans s at start len next
-    → take (start + len - start) (drop start s) ≡ valueAt s (place s j)
-value-part s j at {start} {len} e x = rw (add-sub-cancel-left start len, x .start-is, x .length-is, e)
+-- the value of a rule's field, and the place after it
+pub field-rule : (s : List ℕ) (n i : ℕ) {at : ℕ} {v : List ℕ} → at ≡ place s (n + i) → v ≡ valueAt s at → ruleOf v ≡ ruleAt s n i
+field-rule s n i e x = ap ruleOf (x ∙ ap (valueAt s) e)
 
-pub part-rule : (s : List ℕ) (n i at : ℕ) {start len next : ℕ} → at ≡ place s (n + i) → Spans s at start len next
-    → ruleOf (take (start + len - start) (drop start s)) ≡ ruleAt s n i
-part-rule s n i at e x = ap ruleOf (value-part s (n + i) at e x)
-
--- the rule after
-pub next-rule : (s : List ℕ) (n i at : ℕ) {start len next : ℕ} → at ≡ place s (n + i) → Spans s at start len next → next ≡ place s (n + (i + 1))
-next-rule s n i at e x =
+pub next-rule : (s : List ℕ) (n i : ℕ) {at next : ℕ} → at ≡ place s (n + i) → next ≡ nextAt s at → next ≡ place s (n + (i + 1))
+next-rule s n i e x =
     let q : n + (i + 1) ≡ n + i + 1 = omega arith in
-    rw (q, place-next) (x .next-is ∙ ap (nextAt s) e)
+    rw (q, place-next) (x ∙ ap (nextAt s) e)
 
 -- ---- all rules
 
@@ -88,23 +81,20 @@ module _ {s : List ℕ} {k : Counts} (c : Counted s k) where
 
     pub standing : Standing s (k .variables) (valueAt s (place s (k .variables + i)))
     standing =
-        let v = valueAt s (place s (k .variables + i)) in
         let l = rule-length rule-fine (rule-stands .field .tagged) in
         let n = variables-length s (k .variables) in
-        let z : length v ≡ 4 + 4 * length (ruleOf v .terms) = rule-fine .length-is ∙ l .are in
         record {
           inside = variables-inside;
           few = variables-few;
-          sized = z;
+          headed = omega (arith, rule-fine .length-is, l .are);
           head = rw n at (rule-promise .head-declared);
-          declared = λ j m. rw (← place-variable v j (omega arith)) (rw n at (rule-promise .body .terms j m .declared));
+          declared = λ j m. rw n at (rule-promise .body .terms j m .declared);
         }
 
     -- at its place
-    module _ (at : ℕ) (e : at ≡ place s (k .variables + i)) where
+    module _ {at : ℕ} (e : at ≡ place s (k .variables + i)) where
       pub rule-inside : nextAt s at ≤ length s
       rule-inside = rw e (rule-fine .whole)
 
-      pub standing-part : {start len next : ℕ} → Spans s at start len next
-          → Standing s (k .variables) (take (start + len - start) (drop start s))
-      standing-part x = subst (Standing s (k .variables)) (sym (value-part s (k .variables + i) at e x)) standing
+      pub standing-at : {v : List ℕ} → v ≡ valueAt s at → Standing s (k .variables) v
+      standing-at x = rw (x, e) standing

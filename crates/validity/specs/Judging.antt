@@ -7,8 +7,8 @@ use Rattle.program.specs.Program.{program}
 use Rattle.program.specs.Components as components
 use Rattle.program.specs.Components.{FirstOffending}
 use Rattle.program.specs.Reading.{RuleField}
-use Rattle.validity.specs.declared.Judged.{Judged}
-use Rattle.validity.specs.declared.Judged.the-variants.{Valid, Offending}
+use Rattle.validity.specs.declared.Outcome.{Outcome}
+use Rattle.validity.specs.declared.Outcome.the-variants.{Valid, Offending}
 
 -- the first rule that offends stands at this place, in a file of k fields
 pub record OffendingAt (s : List ℕ) (k at : ℕ) : Type 0 where
@@ -19,6 +19,6 @@ pub record OffendingAt (s : List ℕ) (k at : ℕ) : Type 0 where
   pub first : FirstOffending (program s k) rule
   pub placed : at ≡ place s field
 
-abbrev pub Judges : List ℕ → ℕ → Judged → Type 0
+abbrev pub Judges : List ℕ → ℕ → Outcome → Type 0
 Judges s k Valid = components.Valid (program s k)
 Judges s k (Offending at) = OffendingAt s k at

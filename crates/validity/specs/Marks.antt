@@ -1,23 +1,15 @@
 -- What the code finds of the rules of a file, rows being a test of two variables.
-use Prim.Native.Nat.{ℕ, _+_, _<_, _≤_}
+use Prim.Native.Nat.{ℕ, _+_, _<_}
 use mathlib.Core.Path.{_≡_}
 use mathlib.Core.List.{List}
 use mathlib.Core.Bool.{Bool, true, false}
-use lib.ListN.{length}
 use Rattle.program.specs.Tables.{anyBelow}
-use Rattle.program.specs.Fields.{lengthAt, valueAt, nextAt, place}
+use Rattle.program.specs.Fields.{valueAt, place}
 use Rattle.program.specs.Program.{Rule, ruleOf, variablesAt}
 use Rattle.program.specs.declared.Counts.{Counts}
 use Rattle.edges.specs.Edges.{anyMixed, drawsIn, offendsIn}
-use Rattle.validity.specs.declared.Judged.{Judged}
-use Rattle.validity.specs.declared.Judged.the-variants.{Valid, Offending}
-
--- the field at `at` has its value at `start`, so long, and ends within the file, where the next one stands
-pub record Spans (s : List ℕ) (at start len next : ℕ) : Type 0 where
-  pub start-is : start ≡ at + 3
-  pub length-is : len ≡ lengthAt s at
-  pub next-is : next ≡ nextAt s at
-  pub inside : start + len ≤ length s
+use Rattle.validity.specs.declared.Outcome.{Outcome}
+use Rattle.validity.specs.declared.Outcome.the-variants.{Valid, Offending}
 
 -- ---- the rules of a file, by its counts
 
@@ -42,6 +34,6 @@ pub record FoundAt (t : ℕ → ℕ → Bool) (s : List ℕ) (k : Counts) (at : 
   pub first : (j : ℕ) → j < rule → offendsRule t s k j ≡ false
   pub placed : at ≡ place s (k .variables + rule)
 
-abbrev pub JudgedBy : (ℕ → ℕ → Bool) → List ℕ → Counts → Judged → Type 0
+abbrev pub JudgedBy : (ℕ → ℕ → Bool) → List ℕ → Counts → Outcome → Type 0
 JudgedBy t s k Valid = (i : ℕ) → i < k .rules → offendsRule t s k i ≡ false
 JudgedBy t s k (Offending at) = FoundAt t s k at

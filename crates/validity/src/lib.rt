@@ -10,18 +10,18 @@ ghost use Rattle.fields.specs.Scanning.{Counted};
 ghost use Rattle.validity.specs.Judging.{Judges};
 
 // That a file is valid, or the place of its first rule that offends.
-pub enum Judged {
+pub enum Outcome {
     Valid,
     Offending(usize),
 }
 
 // A file whose fields passed, with its counts.
-pub fn judge(file: &[u8], counts: Counts) -> Judged
+pub fn judge(file: &[u8], counts: Counts) -> Outcome
     requires { ⌜ Counted (now file) counts ⌝ }
     ensures { λ r. ⌜ ((k : ℕ) → Whole (now (file .entry)) k → Judges (now (file .entry)) k r) ⌝ }
 {
     if !rules::any_mixed(file, counts) {
-        return Judged::Valid;
+        return Outcome::Valid;
     }
     let n = counts.variables;
     let mut rows = [0u64; Rows::LENGTH];

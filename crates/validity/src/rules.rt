@@ -1,28 +1,17 @@
 // The rules of a file, one after the other.
 ghost use mathlib.Core.Path.{_≡_};
-ghost use Prim.Native.Nat.{_≤_};
 ghost use lib.ListN.{length};
-ghost use Rattle.program.specs.Fields.{nextAt};
 ghost use Rattle.reach.specs.Rows.{rowsLength, rowHas};
 ghost use Rattle.fields.specs.Scanning.{Counted};
 ghost use Rattle.edges.specs.Edges.{Grown};
-ghost use Rattle.validity.specs.Marks.{Spans, mixedRule, edgeIn, JudgedBy};
-use crate::Judged;
-use edges::places;
-use fields::cursor;
-use fields::cursor::Extent;
+ghost use Rattle.validity.specs.Marks.{mixedRule, edgeIn, JudgedBy};
+use crate::Outcome;
+use edges::mixed;
+use parts::places;
 use program::Counts;
 use reach::Rows;
 
-// The extent of a field that is not cut short, which ends within the file.
-fn extent(file: &[u8], at: usize) -> Extent
-    requires { ⌜ nextAt (now file) at ≤ length (now file) ⌝ }
-    ensures { λ r. ⌜ Spans (now (file .entry)) at (r .start) (r .len) (r .next) ⌝ }
-{
-    cursor::extent_at(file, at)
-}
-
-// Whether some rule has a mixed place.
+// Whether some rule has a mixed position.
 pub fn any_mixed(file: &[u8], counts: Counts) -> bool
     requires { ⌜ Counted (now file) counts ⌝ }
     ensures { λ r. ⌜ r ≡ mixedRule (now (file .entry)) counts ⌝ }
@@ -33,12 +22,10 @@ pub fn any_mixed(file: &[u8], counts: Counts) -> bool
     let mut i = 0;
     let mut found = false;
     while i < rules {
-        let e = extent(file, at);
-        let start = e.start;
-        let len = e.len;
-        let mixed = places::is_mixed(file, n, &file[start..start + len]);
+        let value = places::value_at(file, at);
+        let mixed = mixed::is_mixed(file, n, value);
         found = found | mixed;
-        at = e.next;
+        at = places::next_at(file, at);
         i += 1;
     }
     found
@@ -56,17 +43,15 @@ pub fn mark_edges(rows: &mut [u64; Rows::LENGTH], file: &[u8], counts: Counts)
     let mut at = 8 * n;
     let mut i = 0;
     while i < rules {
-        let e = extent(file, at);
-        let start = e.start;
-        let len = e.len;
-        edges::mark_rule(rows, file, n, &file[start..start + len]);
-        at = e.next;
+        let value = places::value_at(file, at);
+        edges::mark_rule(rows, file, n, value);
+        at = places::next_at(file, at);
         i += 1;
     }
 }
 
 // The first rule that offends by the rows.
-pub fn first_offending(rows: &[u64; Rows::LENGTH], file: &[u8], counts: Counts) -> Judged
+pub fn first_offending(rows: &[u64; Rows::LENGTH], file: &[u8], counts: Counts) -> Outcome
     requires { ⌜ Counted (now file) counts ⌝ }
     ensures { λ r. ⌜ JudgedBy (rowHas (now (rows .entry))) (now (file .entry)) counts r ⌝ }
 {
@@ -75,14 +60,12 @@ pub fn first_offending(rows: &[u64; Rows::LENGTH], file: &[u8], counts: Counts) 
     let mut at = 8 * n;
     let mut rule = 0;
     while rule < rules {
-        let e = extent(file, at);
-        let start = e.start;
-        let len = e.len;
-        if places::offends(rows, file, n, &file[start..start + len]) {
-            return Judged::Offending(at);
+        let value = places::value_at(file, at);
+        if mixed::offends(rows, file, n, value) {
+            return Outcome::Offending(at);
         }
-        at = e.next;
+        at = places::next_at(file, at);
         rule += 1;
     }
-    Judged::Valid
+    Outcome::Valid
 }

@@ -5,32 +5,34 @@ use mathlib.Core.List.{List, [], _∷_}
 use mathlib.Core.Bool.{Bool, true, false, not, cond, _||_}
 use lib.Dec.{eqb, ltb, leb}
 use lib.IntN.{ℤ, natAbs}
-use lib.ListN.{length, getD, take, drop}
+use lib.ListN.{length, getD}
 use lib.Signed.{ltZ}
 use native.Mathlib.Omega.{arith}
-use borrow.Author.Tests.{eq-eqb, ne-eqb, eqb-true, lt-ltb, le-ltb, le-leb, lt-leb, ltb-false, leb-false, leb-true}
+use borrow.Author.Tests.{eq-eqb, ne-eqb, eqb-true, lt-ltb, le-ltb, le-leb, lt-leb, ltb-false, leb-true}
 use Rattle.format.specs.Limits.{maxNumber, maxTerms}
-use Rattle.format.specs.Numbers.{signedAt, beyond}
+use Rattle.format.specs.Numbers.{beyond}
 use Rattle.program.specs.Tables.{_when_, firstOf, anyBelow}
-use Rattle.program.specs.Program.{Variable, variable, rule, constraint, variableOf, ruleOf, constraintOf, termsOf, termIn, variablesAt}
+use Rattle.program.specs.Program.{variable, rule, constraint, variableOf, ruleOf, constraintOf, termsOf, termIn, variableIn, variablesAt}
 use Rattle.program.specs.Refusals.{wrongLength, notTerms, wrongForm, outsideRange, undeclared, wrongCount, variableTwice, negativeProduct, itemRefusal, unknownForm, wrongHead, wrongCountOf, wrongConstraint, bodyForm, wrongTerm, outsideTerm, undeclaredTerm, repeatedTerm, negativeTerm, notFrom}
-use Rattle.program.proofs.Bodies.{terms-length}
 use Rattle.program.proofs.Conditions.{below-none, none-below, never}
-use Rattle.program.proofs.Places.{variables-length, variable-at, sized-terms}
-use Rattle.parts.proofs.Bytes.{rest as part-rest}
+use Rattle.program.proofs.Places.{variables-length, sized-terms}
+use Rattle.parts.specs.Values.{Handed}
 use Rattle.faults.specs.Faults.{FaultsBelow, faultsNumber}
 use Rattle.values.specs.Lengths.{lengthRefusal}
 use Rattle.faults.specs.declared.Faults.{Faults}
 use Rattle.faults.proofs.TermLaws.{negative-other}
+use Rattle.program.specs.Variables.{founded}
+use Rattle.program.specs.declared.Variable.{Variable}
+use Rattle.program.specs.declared.Term.{Term}
 
 -- ---- variables
 
-module _ (v : List ℕ) where
-  pub range-outside : (a b d : Bool) → a ≡ beyond maxNumber (signedAt v 1) → b ≡ beyond maxNumber (signedAt v 3) → d ≡ ltZ (signedAt v 3) (signedAt v 1)
-      → ((a || b) || d) ≡ outsideRange (variable (variableOf v))
-  unfolding outsideRange
-  range-outside a b d e f g = rw (e, f, g)
+pub range-outside : (x : Variable) (a b d : Bool) → a ≡ beyond maxNumber (x .low) → b ≡ beyond maxNumber (x .high) → d ≡ ltZ (x .high) (x .low)
+    → ((a || b) || d) ≡ outsideRange (variable x)
+unfolding outsideRange
+range-outside x a b d e f g = rw (e, f, g)
 
+module _ (v : List ℕ) where
   module _ (vs : List Variable) where
     pub variable-length : (length v ≡ 5 → ⊥) → 6 ≡ lengthRefusal vs 1 v
     unfolding lengthRefusal wrongLength
@@ -48,6 +50,13 @@ module _ (v : List ℕ) where
       pub variable-fine : outsideRange (variable (variableOf v)) ≡ false → 0 ≡ lengthRefusal vs 1 v
       unfolding lengthRefusal wrongLength itemRefusal wrongForm undeclared wrongCount variableTwice negativeProduct
       variable-fine e = simp (eq-eqb (length v) 5 h, le-ltb 1 (getD v 0 0) k, e)
+
+-- the variable that was read is that of the value
+pub kind-of : {x y : Variable} → x ≡ y → x .kind ≡ y .kind
+kind-of e = ap (λ (x : Variable). x .kind) e
+
+pub range-of : {x y : Variable} {b : Bool} → x ≡ y → outsideRange (variable x) ≡ b → outsideRange (variable y) ≡ b
+range-of e h = rw e at h
 
 -- ---- lengths
 
@@ -163,9 +172,9 @@ module _ (s : List ℕ) (n head : ℕ) where
   unfolding wrongHead
   head-undeclared e = simp (variables-length, e)
 
-  pub head-kind : (kind : ℕ) → leb n head ≡ false → kind ≡ variableOf (drop (8 * head + 3) s) .kind → not (eqb kind 1) ≡ wrongHead (variablesAt s n) head
+  pub head-kind : {x : Variable} → leb n head ≡ false → x ≡ variableIn (variablesAt s n) head → not (founded x) ≡ wrongHead (variablesAt s n) head
   unfolding wrongHead
-  head-kind kind e k = simp (variables-length, e, variable-at s n head (leb-false n head e), k)
+  head-kind e k = simp (variables-length, e, k)
 
 -- ---- constraints
 
@@ -203,46 +212,40 @@ joined-is all own terms =
     × (all .repeated ≡ (own .repeated || terms .repeated)) × (all .negative ≡ (own .negative || terms .negative))
 
 -- the faults of a field's own parts and of its body, in order
-module _ (vs : List Variable) (v : List ℕ) (h form : ℕ) where
-  abbrev rest : List ℕ
-  rest = take (length v - h) (drop h v)
+abbrev inOrder : List Variable → ℕ → List Term → Bool → Bool → Bool → ℕ
+inOrder vs form ts a b c =
+    firstOf
+    ((7 when a || anyBelow (length ts) (λ i. wrongTerm form i (termIn ts i)))
+    ∷ (8 when b || anyBelow (length ts) (λ i. outsideTerm form i (termIn ts i)))
+    ∷ (9 when c || anyBelow (length ts) (λ i. undeclaredTerm vs (termIn ts i)))
+    ∷ (10 when wrongCountOf form (length ts))
+    ∷ (11 when anyBelow (length ts) (λ i. repeatedTerm ts i))
+    ∷ (12 when anyBelow (length ts) (λ i. negativeTerm vs form (termIn ts i)))
+    ∷ [])
 
-  pub body-refusal : (terms own all : Faults) (count : Bool) {a b c : Bool}
-      → FaultsBelow vs form (termsOf rest) (length rest / 4) terms
-      → own .form ≡ a → own .range ≡ b → own .variable ≡ c → own .repeated ≡ false → own .negative ≡ false
+module _ (vs : List Variable) {body b : List ℕ} (y : Handed body b) (form : ℕ) where
+  pub body-refusal : (terms own all : Faults) (count : Bool) {a r c : Bool}
+      → FaultsBelow vs form (termsOf b) (length b / 4) terms
+      → own .form ≡ a → own .range ≡ r → own .variable ≡ c → own .repeated ≡ false → own .negative ≡ false
       → joined-is all own terms
-      → count ≡ wrongCountOf form (length rest / 4)
-      → faultsNumber all count
-      ≡ firstOf
-      ((7 when a || anyBelow (length (termsOf (drop h v))) (λ i. wrongTerm form i (termIn (termsOf (drop h v)) i)))
-      ∷ (8 when b || anyBelow (length (termsOf (drop h v))) (λ i. outsideTerm form i (termIn (termsOf (drop h v)) i)))
-      ∷ (9 when c || anyBelow (length (termsOf (drop h v))) (λ i. undeclaredTerm vs (termIn (termsOf (drop h v)) i)))
-      ∷ (10 when wrongCountOf form (length (termsOf (drop h v))))
-      ∷ (11 when anyBelow (length (termsOf (drop h v))) (λ i. repeatedTerm (termsOf (drop h v)) i))
-      ∷ (12 when anyBelow (length (termsOf (drop h v))) (λ i. negativeTerm vs form (termIn (termsOf (drop h v)) i)))
-      ∷ [])
-  body-refusal terms own all count f a b c d n e k =
-      let g = rw (part-rest h v, ← terms-length (drop h v)) at f in
+      → count ≡ wrongCountOf form (length b / 4)
+      → faultsNumber all count ≡ inOrder vs form (termsOf body) a r c
+  body-refusal terms own all count f a r c d n e k =
+      let g = rw (y .many, y .is) at f in
       first-six
       (e .0 ∙ ap₂ _||_ a (g .form-is))
-      (e .1 ∙ ap₂ _||_ b (g .range-is))
+      (e .1 ∙ ap₂ _||_ r (g .range-is))
       (e .2 ∙ ap₂ _||_ c (g .variable-is))
-      (rw (part-rest h v, ← terms-length (drop h v)) at k)
+      (rw (y .many) at k)
       (e .3 ∙ ap₂ _||_ d (g .repeated-is))
       (e .4 ∙ ap₂ _||_ n (g .negative-is))
 
 module _ (vs : List Variable) (v : List ℕ) (n : ℕ) where
-  pub rule-refusal : n ≡ firstOf
-      ((7 when unknownForm (getD v 0 0) || anyBelow (length (termsOf (drop 4 v))) (λ i. wrongTerm (getD v 0 0) i (termIn (termsOf (drop 4 v)) i)))
-      ∷ (8 when beyond maxNumber (signedAt v 2) || anyBelow (length (termsOf (drop 4 v))) (λ i. outsideTerm (getD v 0 0) i (termIn (termsOf (drop 4 v)) i)))
-      ∷ (9 when wrongHead vs (getD v 1 0) || anyBelow (length (termsOf (drop 4 v))) (λ i. undeclaredTerm vs (termIn (termsOf (drop 4 v)) i)))
-      ∷ (10 when wrongCountOf (getD v 0 0) (length (termsOf (drop 4 v))))
-      ∷ (11 when anyBelow (length (termsOf (drop 4 v))) (λ i. repeatedTerm (termsOf (drop 4 v)) i))
-      ∷ (12 when anyBelow (length (termsOf (drop 4 v))) (λ i. negativeTerm vs (getD v 0 0) (termIn (termsOf (drop 4 v)) i)))
-      ∷ [])
+  pub rule-refusal : (form : ℕ) → form ≡ ruleOf v .form
+      → n ≡ inOrder vs form (ruleOf v .terms) (unknownForm (ruleOf v .form)) (beyond maxNumber (ruleOf v .c)) (wrongHead vs (ruleOf v .head))
       → n ≡ itemRefusal vs (rule (ruleOf v))
   unfolding itemRefusal wrongForm outsideRange undeclared wrongCount variableTwice negativeProduct
-  rule-refusal e = e
+  rule-refusal form h e = rw h at e
 
   no-product : (form : ℕ) → form ≡ bodyForm (getD v 0 0) → form ≡ 4 → ⊥
   no-product form e q = go (eqb (getD v 0 0) 1) (eqb (getD v 0 0) 2) (sym e ∙ q)
@@ -252,18 +255,13 @@ module _ (vs : List Variable) (v : List ℕ) (n : ℕ) where
       go false true w = omega arith
       go false false w = omega arith
 
-  pub constraint-refusal : (form : ℕ) → form ≡ bodyForm (getD v 0 0) → n ≡ firstOf
-      ((7 when wrongConstraint (getD v 0 0) (signedAt v 1) || anyBelow (length (termsOf (drop 3 v))) (λ i. wrongTerm form i (termIn (termsOf (drop 3 v)) i)))
-      ∷ (8 when beyond maxNumber (signedAt v 1) || anyBelow (length (termsOf (drop 3 v))) (λ i. outsideTerm form i (termIn (termsOf (drop 3 v)) i)))
-      ∷ (9 when false || anyBelow (length (termsOf (drop 3 v))) (λ i. undeclaredTerm vs (termIn (termsOf (drop 3 v)) i)))
-      ∷ (10 when wrongCountOf form (length (termsOf (drop 3 v))))
-      ∷ (11 when anyBelow (length (termsOf (drop 3 v))) (λ i. repeatedTerm (termsOf (drop 3 v)) i))
-      ∷ (12 when anyBelow (length (termsOf (drop 3 v))) (λ i. negativeTerm vs form (termIn (termsOf (drop 3 v)) i)))
-      ∷ [])
+  pub constraint-refusal : (form : ℕ) → form ≡ bodyForm (constraintOf v .form)
+      → n ≡ inOrder vs form (constraintOf v .terms) (wrongConstraint (constraintOf v .form) (constraintOf v .c)) (beyond maxNumber (constraintOf v .c)) false
       → n ≡ itemRefusal vs (constraint (constraintOf v))
   unfolding itemRefusal wrongForm outsideRange undeclared wrongCount variableTwice negativeProduct
   constraint-refusal form h e =
-      let z = below-none (length (termsOf (drop 3 v))) (λ i. negativeTerm vs form (termIn (termsOf (drop 3 v)) i)) (λ i k. sym (negative-other vs form (termIn (termsOf (drop 3 v)) i) (no-product form h))) in
+      let ts = constraintOf v .terms in
+      let z = below-none (length ts) (λ i. negativeTerm vs form (termIn ts i)) (λ i k. sym (negative-other vs form (termIn ts i) (no-product form h))) in
       rw (z, h) at e
 
   pub rule-length : notTerms 4 (length v) ≡ true → 6 ≡ lengthRefusal vs 2 v

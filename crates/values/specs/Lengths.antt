@@ -4,8 +4,9 @@ use mathlib.Core.List.{List, [], _∷_}
 use mathlib.Core.Bool.{true}
 use lib.ListN.{length}
 use Rattle.program.specs.Tables.{_when_, firstOf}
-use Rattle.program.specs.Program.{Variable, itemOf}
+use Rattle.program.specs.Program.{itemOf}
 use Rattle.program.specs.Refusals.{wrongLength, itemRefusal}
+use Rattle.program.specs.declared.Variable.{Variable}
 
 -- the refusals from 6 on of a field with this tag
 unfoldable pub lengthRefusal : List Variable → ℕ → List ℕ → ℕ

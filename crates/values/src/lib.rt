@@ -5,15 +5,21 @@ ghost use Prim.Native.Nat.{_*_, _<_, _≤_};
 ghost use lib.ListN.{length};
 ghost use lib.Signed.{ltZ};
 ghost use Rattle.format.specs.Limits.{maxTerms};
-ghost use Rattle.program.specs.Program.{Variable, Item, variableOf, ruleOf, constraintOf, variablesAt};
+ghost use Rattle.program.specs.Program.{Item, ruleOf, constraintOf, variablesAt};
 ghost use Rattle.program.specs.Refusals.{outsideRange, notTerms, unknownForm, wrongHead, wrongCountOf, wrongConstraint, bodyForm, notFrom, itemRefusal};
 ghost use Rattle.faults.specs.Faults.{checkedNumber};
+ghost use Rattle.parts.specs.Values.{ruleHeader, constraintHeader};
 ghost use Rattle.values.specs.Lengths.{lengthRefusal};
+ghost use Rattle.program.specs.declared.Variable.{Variable};
 use faults::Checked;
 use faults::Faults;
 use faults::by_form;
 use format::Format;
+use parts::constraints;
+use parts::rules;
+use parts::variables;
 use program::Refusal;
+use program::Variable;
 
 pub fn is_below(a: i64, b: i64) -> bool
     ensures { λ r. ⌜ r ≡ ltZ a b ⌝ }
@@ -22,32 +28,32 @@ pub fn is_below(a: i64, b: i64) -> bool
 }
 
 // Whether an end of a variable's range is outside its own, or low is above high.
-pub fn is_range_outside(value: &[u8]) -> bool
-    requires { ⌜ length (now value) ≡ 5 ⌝ }
-    ensures { λ r. ⌜ r ≡ outsideRange (Item.variable (variableOf (now (value .entry)))) ⌝ }
+pub fn is_range_outside(x: Variable) -> bool
+    ensures { λ r. ⌜ r ≡ outsideRange (Item.variable x) ⌝ }
 {
-    let low = format::signed_at(value, 1);
-    let high = format::signed_at(value, 3);
+    let low = x.low;
+    let high = x.high;
     let a = format::is_number_beyond(low);
     let b = format::is_number_beyond(high);
     a | b | is_below(high, low)
 }
 
-// A variable: kind (1), low (2), high (2).
+// A variable.
 pub fn check_variable(value: &[u8]) -> Checked
     ensures { λ r. ⌜ ((vs : List Variable) → checkedNumber r ≡ lengthRefusal vs 1 (now (value .entry))) ⌝ }
 {
     if value.len() != 5 {
         return Checked::Bad(Refusal::WrongLength);
     }
-    let kind = value[0];
+    let x = variables::variable_of(value);
+    let kind = x.kind;
     match kind {
         0 | 1 => {}
         2..=255 => {
             return Checked::Bad(Refusal::WrongForm);
         }
     }
-    if is_range_outside(value) {
+    if is_range_outside(x) {
         return Checked::Bad(Refusal::OutsideRange);
     }
     Checked::Fine
@@ -84,8 +90,8 @@ pub fn is_wrong_head(file: &[u8], variables: usize, head: u8) -> bool
     if faults::is_undeclared(variables, head) {
         return true;
     }
-    let kind = parts::variables::kind(file, head);
-    kind != 1
+    let x = variables::variable(file, head);
+    !x.is_founded()
 }
 
 // Whether a body has more terms than a body may have.
@@ -134,19 +140,18 @@ pub fn is_wrong_count(form: u8, n: usize) -> bool
     }
 }
 
-// A rule of a right length: form (1), head (1), c (2), terms.
+// A rule of a right length.
 pub fn check_rule_parts(file: &[u8], variables: usize, value: &[u8]) -> Checked
-    requires { ⌜ (8 * variables ≤ length (now file)) × (4 ≤ length (now value)) ⌝ }
+    requires { ⌜ (8 * variables ≤ length (now file)) × (ruleHeader ≤ length (now value)) ⌝ }
     ensures { λ r. ⌜ checkedNumber r ≡ itemRefusal (variablesAt (now (file .entry)) variables) (Item.rule (ruleOf (now (value .entry)))) ⌝ }
 {
-    let form = value[0];
-    let head = value[1];
-    let c = format::signed_at(value, 2);
-    let body = &value[4..];
+    let rule = rules::header(value);
+    let body = rules::body(value);
+    let form = rule.form;
     let own = Faults {
         form: is_unknown_form(form),
-        range: format::is_number_beyond(c),
-        variable: is_wrong_head(file, variables, head),
+        range: format::is_number_beyond(rule.c),
+        variable: is_wrong_head(file, variables, rule.head),
         repeated: false,
         negative: false,
     };
@@ -186,18 +191,17 @@ pub fn is_wrong_constraint(form: u8, c: i64) -> bool
     }
 }
 
-// A constraint of a right length: form (1), c (2), terms.
+// A constraint of a right length.
 pub fn check_constraint_parts(file: &[u8], variables: usize, value: &[u8]) -> Checked
-    requires { ⌜ (8 * variables ≤ length (now file)) × (3 ≤ length (now value)) ⌝ }
+    requires { ⌜ (8 * variables ≤ length (now file)) × (constraintHeader ≤ length (now value)) ⌝ }
     ensures { λ r. ⌜ checkedNumber r ≡ itemRefusal (variablesAt (now (file .entry)) variables) (Item.constraint (constraintOf (now (value .entry)))) ⌝ }
 {
-    let kind = value[0];
-    let form = body_form(kind);
-    let c = format::signed_at(value, 1);
-    let body = &value[3..];
+    let constraint = constraints::header(value);
+    let body = constraints::body(value);
+    let form = body_form(constraint.form);
     let own = Faults {
-        form: is_wrong_constraint(kind, c),
-        range: format::is_number_beyond(c),
+        form: is_wrong_constraint(constraint.form, constraint.c),
+        range: format::is_number_beyond(constraint.c),
         variable: false,
         repeated: false,
         negative: false,

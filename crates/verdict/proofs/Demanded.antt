@@ -12,14 +12,15 @@ use Rattle.program.proofs.Unique.{accepts-unique}
 use Rattle.meaning.specs.Founded.{Within, Least}
 use Rattle.meaning.specs.Reduct.{system}
 use Rattle.meaning.specs.Stable.{assigned, Meets, Stable}
-use Rattle.meaning.specs.Calls.{checkBytes, Refuses}
+use Rattle.meaning.specs.Calls.{Refuses, lengths}
 use Rattle.meaning.specs.LeastCall.{FirstOutside}
 use Rattle.meaning.proofs.Theory.{self-model, unfounded-iff-short, self-least-iff}
 use Rattle.meaning.proofs.Monotone.{laws}
 use Rattle.meaning.proofs.InRanges.{within-inside}
-use Rattle.meaning.proofs.Determined.{same-refusal, refused-or-called}
+use Rattle.meaning.proofs.Denials.{same-refusal, refused-or-called, lengths-fixed}
 use Rattle.report.specs.Report.{shown}
-use Rattle.verdict.specs.Checks.{Answer, refusal, range, rule, constraint, unfounded, stable, Judged, outside, rule-unmet, constraint-unmet, not-founded, founded, Checks, turned-down, judged}
+use Rattle.verdict.specs.Checks.{Answer, refusal, range, rule, constraint, unfounded, stable, Judged, outside, rule-unmet, constraint-unmet, not-founded, founded}
+use Rattle.verdict.specs.Checks.{checkBytes, Checks, turned-down, judged}
 use Rattle.verdict.specs.Demands.{HasUnfounded, Shows, NotRefused, Demands}
 use Rattle.verdict.proofs.Shown.{report-shows}
 use Rattle.program.specs.Readings.{Valuation}
@@ -118,12 +119,12 @@ module _ {P : Program} (promised : Promises P) {θ : Valuation} where
 -- ---- a call
 
 module _ {s a b : List ℕ} where
-  turned-down-is : {r : Answer} {b′ : List ℕ} → Checks s a b r b′ → (n at : ℕ) → r ≡ refusal n at → Refuses checkBytes s a b n at
-  turned-down-is (turned-down p) n at e = subst (λ x. Refuses checkBytes s a b (first x) (second x)) e p
+  turned-down-is : {r : Answer} {b′ : List ℕ} → Checks s a b r b′ → (n at : ℕ) → r ≡ refusal n at → Refuses (lengths checkBytes a b) s n at
+  turned-down-is (turned-down p) n at e = subst (λ x. Refuses (lengths checkBytes a b) s (first x) (second x)) e p
   turned-down-is (judged c j) n at e = absurd (not-refusal (accepts-promises (c .accepts)) j n at e)
 
-  is-turned-down : {r : Answer} {b′ : List ℕ} → Checks s a b r b′ → (n at : ℕ) → Refuses checkBytes s a b n at → r ≡ refusal n at
-  is-turned-down (turned-down p) n at q = let e = same-refusal p q in cc
+  is-turned-down : {r : Answer} {b′ : List ℕ} → Checks s a b r b′ → (n at : ℕ) → Refuses (lengths checkBytes a b) s n at → r ≡ refusal n at
+  is-turned-down (turned-down p) n at q = let e = same-refusal (lengths-fixed checkBytes a b) p q in cc
   is-turned-down (judged c j) n at q = absurd (refused-or-called q c)
 
   untouched-is : {r : Answer} {b′ : List ℕ} → Checks s a b r b′ → (n at : ℕ) → r ≡ refusal n at → b′ ≡ b

@@ -11,10 +11,11 @@ use Rattle.meaning.specs.Founded.{Least}
 use Rattle.meaning.specs.Reduct.{system}
 use Rattle.meaning.specs.Stable.{assigned}
 use Rattle.meaning.proofs.Theory.{least-unique}
-use Rattle.meaning.proofs.Monotone.{laws}
-use Rattle.meaning.proofs.Determined.{same-outside, same-refusal, refused-or-called}
+use Rattle.meaning.proofs.Denials.{same-refusal, refused-or-called, lengths-fixed}
+use Rattle.meaning.proofs.Determined.{same-outside}
 use Rattle.report.specs.Report.{bounds, conditions, reported}
-use Rattle.verdict.specs.Checks.{Answer, range, rule, constraint, unfounded, FirstUnmet, Judged, outside, rule-unmet, constraint-unmet, not-founded, founded, Checks, turned-down, judged}
+use Rattle.verdict.specs.Checks.{Answer, range, rule, constraint, unfounded, FirstUnmet, Judged, outside, rule-unmet, constraint-unmet, not-founded, founded}
+use Rattle.verdict.specs.Checks.{checkBytes, Checks, turned-down, judged}
 use Rattle.verdict.proofs.Demanded.{never-outside, none-short}
 use Rattle.program.specs.Readings.{Valuation}
 
@@ -31,7 +32,7 @@ Same r r′ b₁ b₂ = (r ≡ r′) × (b₁ ≡ b₂)
 module _ {P : Program} (promised : Promises P) {θ : Valuation} where
   -- the least model is one valuation
   one-model : {m m′ : Valuation} → Least (system P) θ m → Least (system P) θ m′ → m ≡ m′
-  one-model l k = λ i v. least-unique (laws promised) l k v i
+  one-model l k = λ i v. least-unique l k v i
 
   judged-unique : {b : List ℕ} {r r′ : Answer} {b₁ b₂ : List ℕ} → Judged P θ b r b₁ → Judged P θ b r′ b₂ → Same r r′ b₁ b₂
   judged-unique (outside o) (outside q) = (ap range (same-outside o q), refl)
@@ -63,7 +64,7 @@ module _ {P : Program} (promised : Promises P) {θ : Valuation} where
   judged-unique (founded st) (founded st′) = (refl, refl)
 
 pub checks-unique : {s a b : List ℕ} {r r′ : Answer} {b₁ b₂ : List ℕ} → Checks s a b r b₁ → Checks s a b r′ b₂ → (r ≡ r′) × (b₁ ≡ b₂)
-checks-unique (turned-down p) (turned-down q) = let e = same-refusal p q in (cc, refl)
+checks-unique {a = a} {b} (turned-down p) (turned-down q) = let e = same-refusal (lengths-fixed checkBytes a b) p q in (cc, refl)
 checks-unique (turned-down p) (judged c j) = absurd (refused-or-called p c)
 checks-unique (judged c j) (turned-down q) = absurd (refused-or-called q c)
 checks-unique {a = a} {b} {r′ = r′} {b₂ = b₂} (judged c j) (judged d k) =

@@ -1,4 +1,4 @@
--- Entries by their place in a list, their order, and how they are read off the report's bytes.
+-- Entries by their position in a list, their order, and how they are read off the report's bytes.
 use Prim.Native.Nat.{ℕ, zero, suc, _+_, _-_, _*_, _<_, _≤_}
 use mathlib.Core.Path.{_≡_, refl, sym, ap, ap₂, _∙_, subst}
 use mathlib.Core.Bool.{Bool, true, false}
@@ -10,10 +10,10 @@ use lib.ListN.{length, getD, length-append, List·getD-append}
 use lib.Seq.{getD-append-add}
 use Rattle.format.specs.Numbers.{bytesOf, signed}
 use Rattle.format.proofs.Ints.{read-written}
-use Rattle.meaning.proofs.Tests.{cases}
 use Rattle.report.specs.Report.{Entry, entry, entryBytes, bytesIn, ascending, only, bound, atMost, atLeast, boundsOf, conditionsOf}
 use Rattle.verdict.specs.Demands.{variableAt, markAt, numberAt}
 use Rattle.program.specs.Readings.{Valuation}
+use Rattle.program.proofs.Tests.{cases}
 
 abbrev pub entryIn : List Entry → ℕ → Entry
 entryIn es i = getD es i (entry 0 0 (pos 0))
@@ -28,7 +28,7 @@ pub record Listed (e : Entry) (es : List Entry) : Type 0 where
 abbrev pub Every : (Entry → Type 0) → List Entry → Type 0
 Every Q es = (i : ℕ) → i < length es → Q (entryIn es i)
 
--- a place of two lists is one of the first or of the second
+-- a position of two lists is one of the first or of the second
 module _ (es fs : List Entry) where
   pub left-is : (i : ℕ) → i < length es → entryIn (es ++ fs) i ≡ entryIn es i
   left-is i h = List·getD-append es fs (entry 0 0 (pos 0)) i h

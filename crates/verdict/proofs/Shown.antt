@@ -12,7 +12,7 @@ use lib.ListN.{length, length-append}
 use lib.Signed.{leZ}
 use Rattle.format.proofs.Int.{int}
 use Rattle.program.specs.Tables.{_⇒_, select, anyBelow}
-use Rattle.program.specs.Program.{Program, ruleIn}
+use Rattle.program.specs.Program.{Program, ruleIn, variableIn}
 use Rattle.program.specs.Directions.{direction}
 use Rattle.program.specs.declared.Direction.{Direction}
 use Rattle.program.specs.declared.Direction.the-variants.{Rising, Falling, Mixed}
@@ -21,16 +21,18 @@ use Rattle.program.proofs.Promises.{Promises}
 use Rattle.meaning.specs.Founded.{Below, Model, Least}
 use Rattle.meaning.specs.Reduct.{system}
 use Rattle.meaning.specs.Stable.{Meets}
-use Rattle.meaning.specs.Unfounded.{over, Unfounded, Condition, Conditions}
-use Rattle.meaning.proofs.Tests.{cases, is-true, is-test, and-left}
+use Rattle.meaning.specs.Unfounded.{over, Unfounded, AskedOf, Conditions}
 use Rattle.meaning.proofs.Theory.{self-model, inside-short, short-unfounded, bounded}
 use Rattle.meaning.proofs.Monotone.{laws}
 use Rattle.meaning.proofs.InRanges.{founded-declared, value-small}
-use Rattle.report.specs.Report.{Entry, bytesIn, asksMost, asksLeast, askedBy, asked, shown, bounds, conditions}
+use Rattle.report.specs.Report.{Entry, bytesIn, asksMost, asksLeast, askedAt, askedBy, asked, shown, bounds, conditions}
 use Rattle.report.proofs.Entries.{bytes-length}
-use Rattle.verdict.specs.Demands.{variableAt, markAt, numberAt, isShown, shownBound, Met, ConditionsMet, Shows}
+use Rattle.verdict.specs.Demands.{variableAt, markAt, numberAt, isShown, shownBound, ConditionMet, ConditionsMet, Shows}
 use Rattle.verdict.proofs.Listed.{entryIn, Listed, left-is, right-is, both-length, once-by-key, bounds-every, bounds-listed, bounds-sorted, conditions-every, most-listed, least-listed, conditions-sorted, variable-at, mark-at, number-at}
 use Rattle.program.specs.Readings.{Valuation, bodyVariable, kept}
+use Rattle.program.proofs.Tests.{cases, is-true, is-test}
+use Rattle.program.specs.Variables.{notPast}
+use Rattle.program.proofs.Variables.{short-founded}
 
 -- ---- tests
 
@@ -153,7 +155,7 @@ module _ {P : Program} (promised : Promises P) {θ m : Valuation} (meets : Meets
 
       outof : T (shown P θ m v) → isShown b n v ≡ true
       outof t =
-          let l = bounds-listed (shown P θ m) m (length (P .variables)) v (founded-declared (P .variables) v (and-left (system P .founded v) (not (leZ (θ v) (m v))) t)) t in
+          let l = bounds-listed (shown P θ m) m (length (P .variables)) v (founded-declared (P .variables) v (short-founded (variableIn (P .variables) v) (θ v) (m v) t)) t in
           below-some n (λ i. eqb (variableAt b i) v) (l .at) (l .inside) (eq-eqb (variableAt b (l .at)) v (bound-at (l .at) (l .inside) .variable ∙ ap (λ (x : Entry). x .variable) (l .is)))
 
   bound-is : (v : ℕ) → T (isShown b n v) → shownBound b n v ≡ m v
@@ -182,13 +184,13 @@ module _ {P : Program} (promised : Promises P) {θ m : Valuation} (meets : Meets
       f = conditions-every (asked P (shown P θ m) asksMost) (asked P (shown P θ m) asksLeast) θ (length (P .variables))
           (λ x. (x .number ≡ θ (x .variable)) × ((x .mark ≡ 1) ⊎ (x .mark ≡ 2))) (λ v t. (refl, inl refl)) (λ v t. (refl, inr refl)) (i - n) (omega arith)
 
-      place : i ≡ n + (i - n)
-      place = omega arith
+      back : i ≡ n + (i - n)
+      back = omega arith
 
       r : (variableAt b i ≡ e .variable) × (markAt b i ≡ e .mark) × (numberAt b i ≡ e .number)
-      r = read-at i h e (ap (entryIn es) place ∙ right-is (bounds P θ m) (conditions P θ m) (i - n)) (rw (f .0) (assigned-small (e .variable)))
+      r = read-at i h e (ap (entryIn es) back ∙ right-is (bounds P θ m) (conditions P θ m) (i - n)) (rw (f .0) (assigned-small (e .variable)))
 
-  met-self : (i : ℕ) → n ≤ i → i < n + k → Met θ b i
+  met-self : (i : ℕ) → n ≤ i → i < n + k → ConditionMet θ b i
   met-self i l h = record { met = go (condition-at i l h .marked) }
     where
       x : ℕ
@@ -204,29 +206,31 @@ module _ {P : Program} (promised : Promises P) {θ m : Valuation} (meets : Meets
   -- a listed condition that is met
   module _ {θ′ : Valuation} (all-met : ConditionsMet θ′ b n k) where
     met-at : {e : Entry} → Listed e (conditions P θ m) → natAbs (e .number) < 32768
-        → (i : ℕ) × Met θ′ b i × (variableAt b i ≡ e .variable) × (markAt b i ≡ e .mark) × (numberAt b i ≡ e .number)
+        → (i : ℕ) × ConditionMet θ′ b i × (variableAt b i ≡ e .variable) × (markAt b i ≡ e .mark) × (numberAt b i ≡ e .number)
     met-at {e} l small =
         let r = read-at (n + l .at) (omega (arith, l .inside)) e (right-is (bounds P θ m) (conditions P θ m) (l .at) ∙ l .is) small in
         (n + l .at, all-met (n + l .at) (omega arith) (omega (arith, l .inside)), r .0, r .1, r .2)
 
     most-met : (x : ℕ) → x < length (P .variables) → asked P (shown P θ m) asksMost x ≡ true → Below (system P) x (θ′ x) (θ x)
+    unfolding notPast
     most-met x h t =
         let w = met-at (most-listed (asked P (shown P θ m) asksMost) (asked P (shown P θ m) asksLeast) θ (length (P .variables)) x h (is-test t)) (assigned-small x) in
         record { le = rw (w .3, w .2, w .4) at (w .1 .met) }
 
     least-met : (x : ℕ) → x < length (P .variables) → asked P (shown P θ m) asksLeast x ≡ true → Below (system P) x (θ x) (θ′ x)
+    unfolding notPast
     least-met x h t =
         let w = met-at (least-listed (asked P (shown P θ m) asksMost) (asked P (shown P θ m) asksLeast) θ (length (P .variables)) x h (is-test t)) (assigned-small x) in
         record { le = rw (w .3, w .2, w .4) at (w .1 .met) }
 
-    -- a place of a rule that heads into the set asks
+    -- a position of a rule that heads into the set asks
     asked-at : (asks : Direction → Bool → Bool) (i j : ℕ) → i < length (P .rules) → j < length (ruleIn (P .rules) i .terms) → T (shown P θ m (ruleIn (P .rules) i .head))
         → asks (direction (P .variables) (ruleIn (P .rules) i) j) (kept (P .variables) (ruleIn (P .rules) i) j && shown P θ m (bodyVariable (ruleIn (P .rules) i) j)) ≡ true
         → asked P (shown P θ m) asks (bodyVariable (ruleIn (P .rules) i) j) ≡ true
-    unfolding asked askedBy
+    unfolding asked askedBy askedAt
     asked-at asks i j h l t q =
-        below-some (length (P .rules)) (λ i. shown P θ m (ruleIn (P .rules) i .head) && askedBy P (shown P θ m) asks (ruleIn (P .rules) i) x) i h
-        (and-true (shown P θ m (ruleIn (P .rules) i .head)) (askedBy P (shown P θ m) asks (ruleIn (P .rules) i) x) (is-true (shown P θ m (ruleIn (P .rules) i .head)) t)
+        below-some (length (P .rules)) (λ i. shown P θ m (ruleIn (P .rules) i .head) && askedBy (P .variables) (shown P θ m) asks (ruleIn (P .rules) i) x) i h
+        (and-true (shown P θ m (ruleIn (P .rules) i .head)) (askedBy (P .variables) (shown P θ m) asks (ruleIn (P .rules) i) x) (is-true (shown P θ m (ruleIn (P .rules) i .head)) t)
         (below-some (length (ruleIn (P .rules) i .terms)) (λ j. at j && eqb (bodyVariable (ruleIn (P .rules) i) j) x) j l (and-true (at j) (eqb x x) q (eq-eqb x x refl))))
       where
         x : ℕ
@@ -236,7 +240,7 @@ module _ {P : Program} (promised : Promises P) {θ m : Valuation} (meets : Meets
         at j = asks (direction (P .variables) (ruleIn (P .rules) i) j) (kept (P .variables) (ruleIn (P .rules) i) j && shown P θ m (bodyVariable (ruleIn (P .rules) i) j))
 
     conditions-meet : Conditions (system P) θ (shown P θ m) θ′
-    conditions-meet i h t x d (j, l, e, q) = subst (λ y. Condition (system P) θ (shown P θ m) θ′ y d) e (go d q)
+    conditions-meet i h t x d (j, l, e, q) = subst (λ y. AskedOf (system P) θ (shown P θ m) θ′ y d) e (go d q)
       where
         y : ℕ
         y = bodyVariable (ruleIn (P .rules) i) j
@@ -247,7 +251,7 @@ module _ {P : Program} (promised : Promises P) {θ m : Valuation} (meets : Meets
         c : Bool
         c = kept (P .variables) (ruleIn (P .rules) i) j && shown P θ m y
 
-        go : (d : Direction) → direction (P .variables) (ruleIn (P .rules) i) j ≡ d → Condition (system P) θ (shown P θ m) θ′ y d
+        go : (d : Direction) → direction (P .variables) (ruleIn (P .rules) i) j ≡ d → AskedOf (system P) θ (shown P θ m) θ′ y d
         go Rising q = λ u. most-met y declared (asked-at asksMost i j h l t (ap (λ w. asksMost w c) q ∙ not-kept (kept (P .variables) (ruleIn (P .rules) i) j) (shown P θ m y) u))
         go Falling q = least-met y declared (asked-at asksLeast i j h l t (ap (λ w. asksLeast w c) q))
         go Mixed q = (

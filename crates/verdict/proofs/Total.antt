@@ -2,32 +2,31 @@
 use Prim.Native.Nat.{ℕ, _<_}
 use mathlib.Core.Path.{_≡_, refl}
 use mathlib.Core.Logic.{_⊎_, inl, inr}
-use mathlib.Core.Bool.{Bool, true, not}
+use mathlib.Core.Bool.{Bool, true, not, false}
 use mathlib.Core.List.{List}
 use native.Mathlib.Omega.{arith}
 use lib.Dec.{T, not-T, T-not}
-use lib.IntN.{ℤ}
 use lib.ListN.{length}
-use lib.Signed.{leZ}
-use Rattle.program.specs.Program.{Program, ruleIn, constraintIn, termIn}
+use Rattle.program.specs.Program.{Program, ruleIn, constraintIn, termIn, variableIn}
 use Rattle.program.specs.Evaluate.{satisfied}
-use Rattle.program.specs.declared.Given.{Given}
-use Rattle.program.specs.declared.Given.the-variants.{Nothing, Value}
 use Rattle.program.proofs.Promises.{Promises, accepts-promises}
-use Rattle.meaning.specs.Founded.{Reaches, Within, Least}
+use Rattle.meaning.specs.Founded.{Within, Least}
 use Rattle.meaning.specs.Reduct.{system}
 use Rattle.meaning.specs.Stable.{assigned, RuleMet, ConstraintMet, Meets}
-use Rattle.meaning.specs.Calls.{checkBytes, Called}
+use Rattle.meaning.specs.Calls.{Called, lengths}
 use Rattle.meaning.specs.LeastCall.{FirstOutside, AllInside}
-use Rattle.meaning.proofs.Tests.{cases, First, first-or-all, is-it, and-left}
 use Rattle.meaning.proofs.InRanges.{founded-declared, assigned-within}
 use Rattle.meaning.proofs.Theory.{self-model, self-least-iff}
 use Rattle.meaning.proofs.Monotone.{laws}
 use Rattle.meaning.proofs.Search.{Solvable, solvable}
-use Rattle.meaning.proofs.Total.{ranged, Begun, begun}
+use Rattle.meaning.proofs.Total.{ranged}
 use Rattle.report.specs.Report.{shown}
-use Rattle.verdict.specs.Checks.{Answer, FirstUnmet, Judged, outside, rule-unmet, constraint-unmet, not-founded, founded, Checks, turned-down, judged}
+use Rattle.verdict.specs.Checks.{Answer, FirstUnmet, Judged, outside, rule-unmet, constraint-unmet, not-founded, founded, Checks, turned-down, judged, checkBytes}
 use Rattle.program.specs.Readings.{Valuation, gives}
+use Rattle.program.proofs.Tests.{cases, First, first-or-all, is-it}
+use Rattle.meaning.proofs.Denials.{Begun, begun, lengths-told, long}
+use Rattle.program.specs.Variables.{noMore}
+use Rattle.program.proofs.Variables.{short-founded}
 
 -- an answer, what the report then holds, and that they are the call's
 abbrev pub Answers : List ℕ → List ℕ → List ℕ → Type 0
@@ -35,9 +34,9 @@ Answers s a b = (r : Answer) × (b′ : List ℕ) × Checks s a b r b′
 
 -- ---- what is met can be told
 
-reached : (P : Program) (v : ℕ) (g : Given) (b : ℤ) → Dec (Reaches (system P) v g b)
-reached P v Nothing b = yes tt
-reached P v (Value a) b = cases (leZ a b) (λ c. Dec (Reaches (system P) v (Value a) b)) (λ t. yes (record { le = t })) (λ n. no (λ r. T-not (leZ a b) n (r .le)))
+told : (c : Bool) → Dec (T c)
+told true = yes tt
+told false = no (λ t. t)
 
 first-unmet : (Met : ℕ → Type 0) → ((i : ℕ) → Dec (Met i)) → (n : ℕ) → ((i : ℕ) × FirstUnmet Met n i) ⊎ ((i : ℕ) → i < n → Met i)
 first-unmet Met d n = go (first-or-all Met d n)
@@ -63,7 +62,7 @@ module _ {P : Program} (promised : Promises P) (θ : Valuation) (b : List ℕ) w
           is-short : (c : Bool) → (not c ≡ true → ⊥) → T c
           is-short c h = cases c (λ d. (not d ≡ true → ⊥) → T d) (λ t k. tt) (λ n k. absurd (k refl)) h
       go (inr all) = inr (λ v. not-T (shown P θ m v) (λ t.
-          never (shown P θ m v) t (all v (founded-declared (P .variables) v (and-left (system P .founded v) (not (leZ (θ v) (m v))) t)))))
+          never (shown P θ m v) t (all v (founded-declared (P .variables) v (short-founded (variableIn (P .variables) v) (θ v) (m v) t)))))
         where
           never : (c : Bool) → T c → not c ≡ true → ⊥
           never c t e = T-not c (rw e tt) t
@@ -88,14 +87,18 @@ module _ {P : Program} (promised : Promises P) (θ : Valuation) (b : List ℕ) w
   verdict : (AllInside P θ → Within (system P) θ) → ((v : ℕ) × FirstOutside P θ v) ⊎ AllInside P θ → Verdict
   verdict w (inl f) = (_, _, outside (f .1))
   verdict w (inr i) =
-      ruled (w i) (first-unmet (RuleMet P θ) (λ j. reached P (ruleIn (P .rules) j .head) (gives (P .variables) (ruleIn (P .rules) j) θ θ) (θ (ruleIn (P .rules) j .head))) (length (P .rules)))
+      ruled (w i)
+      (first-unmet (RuleMet P θ)
+      (λ j. let r = ruleIn (P .rules) j in told (noMore (variableIn (P .variables) (r .head)) (gives (P .variables) r θ θ) (θ (r .head)))) (length (P .rules)))
 
 pub checks-total : (s a b : List ℕ) → Answers s a b
-checks-total s a b = go (begun checkBytes s a b)
+checks-total s a b = go (begun (lengths checkBytes a b) (lengths-told checkBytes a b) s)
   where
-    called : (P : Program) → Called checkBytes s a b P → Answers s a b
-    called P c = let v = verdict (accepts-promises (c .accepts)) (assigned a) b (assigned-within P a (omega (arith, c .long))) (ranged P (assigned a)) in (v .0, v .1, judged c (v .2))
+    called : (P : Program) → Called (lengths checkBytes a b) s P → Answers s a b
+    called P c =
+        let v = verdict (accepts-promises (c .accepts)) (assigned a) b (assigned-within P a (omega (arith, long checkBytes a b c))) (ranged P (assigned a)) in
+        (v .0, v .1, judged c (v .2))
 
-    go : Begun checkBytes s a b → Answers s a b
+    go : Begun (lengths checkBytes a b) s → Answers s a b
     go (inl r) = (_, _, turned-down (r .2))
     go (inr c) = called (c .0) (c .1)

@@ -7,7 +7,7 @@ use Rattle.program.specs.Program.{Program}
 use Rattle.meaning.specs.Founded.{Within, Least}
 use Rattle.meaning.specs.Reduct.{system}
 use Rattle.meaning.specs.Stable.{assigned, RuleMet, ConstraintMet, Meets, Stable}
-use Rattle.meaning.specs.Calls.{checkBytes, Refuses, Called, denialNumber, denialPlace}
+use Rattle.meaning.specs.Calls.{Refuses, Called, lengths, denialNumber, denialPlace}
 use Rattle.meaning.specs.LeastCall.{FirstOutside}
 use Rattle.report.specs.Report.{shown, bounds, conditions, reported}
 use Rattle.verdict.specs.declared.Verdict.{Verdict}
@@ -49,7 +49,11 @@ pub data Judged (P : Program) (θ : Valuation) (b : List ℕ) : Answer → List 
       → Judged P θ b (unfounded (length (bounds P θ m)) (length (conditions P θ m))) (reported P θ m b)
   founded : Stable P θ → Judged P θ b stable b
 
+-- "lent buffer under 12 × variables (check)"
+abbrev pub checkBytes : ℕ
+checkBytes = 12
+
 -- what the call answers for a file, an assignment and a lent report, and the report afterwards
 pub data Checks (s a b : List ℕ) : Answer → List ℕ → Type 0 where
-  turned-down : {n at : ℕ} → Refuses checkBytes s a b n at → Checks s a b (refusal n at) b
-  judged : {P : Program} {r : Answer} {b′ : List ℕ} → Called checkBytes s a b P → Judged P (assigned a) b r b′ → Checks s a b r b′
+  turned-down : {n at : ℕ} → Refuses (lengths checkBytes a b) s n at → Checks s a b (refusal n at) b
+  judged : {P : Program} {r : Answer} {b′ : List ℕ} → Called (lengths checkBytes a b) s P → Judged P (assigned a) b r b′ → Checks s a b r b′

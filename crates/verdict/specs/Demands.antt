@@ -16,9 +16,9 @@ use Rattle.program.specs.Reading.{Accepts}
 use Rattle.meaning.specs.Founded.{Below}
 use Rattle.meaning.specs.Reduct.{system}
 use Rattle.meaning.specs.Stable.{assigned, Meets, Stable}
-use Rattle.meaning.specs.Calls.{checkBytes, Refuses}
+use Rattle.meaning.specs.Calls.{Refuses, lengths}
 use Rattle.meaning.specs.Unfounded.{Unfounded}
-use Rattle.verdict.specs.Checks.{Answer, refusal, unfounded, stable}
+use Rattle.verdict.specs.Checks.{Answer, refusal, unfounded, stable, checkBytes}
 use Rattle.program.specs.Readings.{Valuation}
 
 -- ---- what is shown, read off the report's bytes
@@ -44,12 +44,12 @@ shownBound b (suc n) v = cond (eqb (variableAt b n) v) (numberAt b n) (shownBoun
 
 -- "A condition is true of an assignment, or met by it, when its variable is assigned at most (mark 1) or at least (mark 2) its number." An
 -- entry with another mark is no condition, and met by nothing
-pub record Met (θ : Valuation) (b : List ℕ) (i : ℕ) : Type 0 where
+pub record ConditionMet (θ : Valuation) (b : List ℕ) (i : ℕ) : Type 0 where
   pub met : T (select (markAt b i) ((1 ⇒ leZ (θ (variableAt b i)) (numberAt b i)) ∷ (2 ⇒ leZ (numberAt b i) (θ (variableAt b i))) ∷ []) false)
 
 -- "the conditions shown are the entries after them, as many as the second says"
 abbrev pub ConditionsMet : Valuation → List ℕ → ℕ → ℕ → Type 0
-ConditionsMet θ b n k = (i : ℕ) → n ≤ i → i < n + k → Met θ b i
+ConditionsMet θ b n k = (i : ℕ) → n ≤ i → i < n + k → ConditionMet θ b i
 
 -- "has an unfounded set"
 abbrev pub HasUnfounded : Program → Valuation → Type 0
@@ -84,7 +84,7 @@ NotRefused r = (n at : ℕ) → r ≡ refusal n at → ⊥
 -- that every call returns, for any file, assignment and lent buffer, is what it means for `check` to be proved with no `requires`
 pub record Demands (s a b : List ℕ) (r : Answer) (b′ : List ℕ) : Type 0 where
   -- 1: "a file is turned down only under document 01's conditions, with the number and place fixed there"
-  pub turned-down : (n at : ℕ) → (r ≡ refusal n at) ↔ Refuses checkBytes s a b n at
+  pub turned-down : (n at : ℕ) → (r ≡ refusal n at) ↔ Refuses (lengths checkBytes a b) s n at
   -- "a refusal leaves every buffer untouched"
   pub untouched : (n at : ℕ) → r ≡ refusal n at → b′ ≡ b
   -- a file that is not turned down means a program; what follows stands for that program

@@ -35,11 +35,6 @@ module _ {e : ℕ → ℕ → Bool} where
       go (inr q) (inl v) = inl (step p q v)
       go (inr q) (inr v) = inr (step p q (v .0), v .1)
 
--- two tests that agree have the same walks
-pub same-edges : {e e′ : ℕ → ℕ → Bool} → ((i j : ℕ) → e i j ≡ e′ i j) → {n i j : ℕ} → Walk e n i j → Walk e′ n i j
-same-edges s (edge {i = i} {j = j} p) = edge (sym (s i j) ∙ p)
-same-edges s (step {i = i} {m = m} p l w) = step (sym (s i m) ∙ p) l (same-edges s w)
-
 or-cases : (x y : Bool) → (x || y) ≡ true → (x ≡ true) ⊎ (y ≡ true)
 or-cases true y p = inl refl
 or-cases false y p = inr p

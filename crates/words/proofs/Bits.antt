@@ -8,8 +8,8 @@ use native.Mathlib.Decide.{ℕ-discrete, decLt}
 use native.Mathlib.Numerals.{one-add}
 use native.Mathlib.Omega.{arith}
 use lib.Dec.{eqb, ltb, eqb·zero-suc, eqb·suc-zero, eqb·suc-suc}
-use lib.ListN.{length, getD, set, take, drop, replicate, List·getD-eq-default}
-use lib.Seq.{getD-set-same, getD-set-other, getD-take, getD-drop}
+use lib.ListN.{length, getD, set, replicate, List·getD-eq-default}
+use lib.Seq.{getD-set-same, getD-set-other}
 use lib.Pow.{shr-shr, shl-exact}
 use lib.Bits.{bitOr, or-shr, or-step}
 use borrow.Author.Tests.{eq-eqb, ne-eqb, eqb-true, lt-ltb, le-ltb}
@@ -203,16 +203,3 @@ none-in m i = ap (λ (w : ℕ). bit w (i % wordBits)) (zeros m (i / wordBits)) �
 pub none-past : (ws : List ℕ) (i : ℕ) → length ws ≤ i / wordBits → has ws i ≡ false
 unfolding has
 none-past ws i h = ap (λ (w : ℕ). bit w (i % wordBits)) (List·getD-eq-default ws 0 h) ∙ bit-zero (i % wordBits)
-
--- a part of a table: the m words from `base` on
-pub has-part : (ws : List ℕ) (base m j : ℕ) → j / wordBits < m → has (take m (drop base ws)) j ≡ has ws (wordBits * base + j)
-unfolding has
-has-part ws base m j h =
-    ap (λ (w : ℕ). bit w (j % wordBits)) (getD-take m (drop base ws) (j / wordBits) 0 h ∙ getD-drop base ws (j / wordBits) 0)
-    ∙ ap₂ (λ (k b : ℕ). bit (getD ws k 0) b) (word base j) (place base j)
-  where
-    word : (base j : ℕ) → base + j / wordBits ≡ (wordBits * base + j) / wordBits
-    word base j = omega arith
-
-    place : (base j : ℕ) → j % wordBits ≡ (wordBits * base + j) % wordBits
-    place base j = omega arith

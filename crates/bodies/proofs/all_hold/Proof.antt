@@ -1,3 +1,4 @@
+-- Invariant: whether every literal before position i holds.
 use mathlib.Core.Path.{_≡_, refl, ap, ap₂, _∙_}
 use mathlib.Core.Bool.{_&&_}
 use Prim.Native.Nat.{_≤_, _-_, _/_}
@@ -13,10 +14,10 @@ use Rattle.bodies.proofs.all_hold.Statement.{statement}
 use Rattle.bodies.proofs.all_hold.Tie as tie
 
 abbrev Inv-loop : tie.InvT-loop
-Inv-loop body kept first second n all₀ place₀ all place = (place ≤ n) × (n ≡ length body / 4) × (all ≡ allHold (termsOf body) (readingOf kept first second (termsOf body)) place)
+Inv-loop body kept first second n all₀ i₀ all i = (i ≤ n) × (n ≡ length body / 4) × (all ≡ allHold (termsOf body) (readingOf kept first second (termsOf body)) i)
 
 abbrev μ-loop : tie.MeasureT-loop
-μ-loop body kept first second n all₀ place₀ all place = n - place
+μ-loop body kept first second n all₀ i₀ all i = n - i
 
 loop-holds : tie.Need-loop-holds Inv-loop μ-loop
 loop-holds c = (omega arith, refl, hold-none _ _)
@@ -24,8 +25,8 @@ loop-holds c = (omega arith, refl, hold-none _ _)
 is-met-requires : tie.Need-is-met-requires Inv-loop μ-loop
 is-met-requires c κs = (omega arith, omega arith)
 
-add-place : tie.Need-add-place Inv-loop μ-loop
-add-place c = search needs
+add-i : tie.Need-add-i Inv-loop μ-loop
+add-i c = search needs
 
 loop-less : tie.Need-loop-less Inv-loop μ-loop
 loop-less c = search needs
@@ -36,10 +37,10 @@ loop-again c = (omega arith, refl, ap₂ _&&_ (c .before .before .loop .inv .2) 
 returns : tie.Need-returns Inv-loop μ-loop
 returns c =
     let a = c .before .before .before .args in
-    let e : c .before .loop .place ≡ length (termsOf (a .body .now)) = omega (arith, terms-length (a .body .now)) in
+    let e : c .before .loop .i ≡ length (termsOf (a .body .now)) = omega (arith, terms-length (a .body .now)) in
     c .before .loop .inv .2 ∙ ap (allHold _ _) e
 
 pub all-hold-spec : {M : Type 1} → statement M
 all-hold-spec =
     tie.close
-    (tie.spec Inv-loop μ-loop loop-holds is-met-requires add-place loop-less loop-again returns)
+    (tie.spec Inv-loop μ-loop loop-holds is-met-requires add-i loop-less loop-again returns)

@@ -1,3 +1,4 @@
+-- Invariant: whether some literal before position i holds.
 use mathlib.Core.Path.{_≡_, refl}
 use Prim.Native.Nat.{_≤_, _-_, _/_}
 use native.Mathlib.Omega.{arith}
@@ -13,11 +14,11 @@ use Rattle.bodies.proofs.any_holds.Statement.{statement}
 use Rattle.bodies.proofs.any_holds.Tie as tie
 
 abbrev Inv-loop : tie.InvT-loop
-Inv-loop body kept first second n any₀ place₀ any place =
-    (place ≤ n) × (n ≡ length body / 4) × (any ≡ anyBelow place (λ i. holds (termIn (termsOf body) i) (readingOf kept first second (termsOf body) i)))
+Inv-loop body kept first second n any₀ i₀ any i =
+    (i ≤ n) × (n ≡ length body / 4) × (any ≡ anyBelow i (λ i. holds (termIn (termsOf body) i) (readingOf kept first second (termsOf body) i)))
 
 abbrev μ-loop : tie.MeasureT-loop
-μ-loop body kept first second n any₀ place₀ any place = n - place
+μ-loop body kept first second n any₀ i₀ any i = n - i
 
 loop-holds : tie.Need-loop-holds Inv-loop μ-loop
 loop-holds c = (omega arith, refl, any-none _)
@@ -25,8 +26,8 @@ loop-holds c = (omega arith, refl, any-none _)
 is-met-requires : tie.Need-is-met-requires Inv-loop μ-loop
 is-met-requires c κs = (omega arith, omega arith)
 
-add-place : tie.Need-add-place Inv-loop μ-loop
-add-place c = search needs
+add-i : tie.Need-add-i Inv-loop μ-loop
+add-i c = search needs
 
 loop-less : tie.Need-loop-less Inv-loop μ-loop
 loop-less c = search needs
@@ -37,10 +38,10 @@ loop-again c = (omega arith, refl, any-more _ _ _ _ (c .before .before .loop .in
 returns : tie.Need-returns Inv-loop μ-loop
 returns c =
     let a = c .before .before .before .args in
-    let e : c .before .loop .place ≡ length (termsOf (a .body .now)) = omega (arith, terms-length (a .body .now)) in
+    let e : c .before .loop .i ≡ length (termsOf (a .body .now)) = omega (arith, terms-length (a .body .now)) in
     rw e at (c .before .loop .inv .2)
 
 pub any-holds-spec : {M : Type 1} → statement M
 any-holds-spec =
     tie.close
-    (tie.spec Inv-loop μ-loop loop-holds is-met-requires add-place loop-less loop-again returns)
+    (tie.spec Inv-loop μ-loop loop-holds is-met-requires add-i loop-less loop-again returns)

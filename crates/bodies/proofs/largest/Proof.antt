@@ -1,3 +1,4 @@
+-- Invariant: the largest of the first i values; a turn takes the larger of it and the next.
 use mathlib.Core.Path.{_≡_, refl, ap, ap₂, _∙_}
 use Prim.Native.Nat.{ℕ, _≤_, _-_, _/_}
 use native.Mathlib.Omega.{arith}
@@ -19,16 +20,16 @@ Inv-loop body kept first second n found₀ i₀ found i = (1 ≤ i) × (i ≤ n)
 abbrev μ-loop : tie.MeasureT-loop
 μ-loop body kept first second n found₀ i₀ found i = n - i
 
-read-place-requires : tie.Need-read-place-requires Inv-loop μ-loop
-read-place-requires c κs = (omega arith, omega arith)
+read-position-requires : tie.Need-read-position-requires Inv-loop μ-loop
+read-position-requires c κs = (omega arith, omega arith)
 
 loop-holds : tie.Need-loop-holds Inv-loop μ-loop
 loop-holds c =
-    let r : toZ w64 (ofZ w64 (c .read-place .result)) ≡ c .read-place .result = search needs in
-    (omega arith, omega arith, refl, r ∙ c .read-place .ensures ∙ largest-one _)
+    let r : toZ w64 (ofZ w64 (c .read-position .result)) ≡ c .read-position .result = search needs in
+    (omega arith, omega arith, refl, r ∙ c .read-position .ensures ∙ largest-one _)
 
-read-place-requires-2 : tie.Need-read-place-requires-2 Inv-loop μ-loop
-read-place-requires-2 c κs = (omega arith, omega arith)
+read-position-requires-2 : tie.Need-read-position-requires-2 Inv-loop μ-loop
+read-position-requires-2 c κs = (omega arith, omega arith)
 
 larger-requires : tie.Need-larger-requires Inv-loop μ-loop
 larger-requires c κs = search needs
@@ -42,9 +43,9 @@ loop-less c = search needs
 loop-again : tie.Need-loop-again Inv-loop μ-loop
 loop-again c =
     let r : toZ w64 (ofZ w64 (c .larger .result)) ≡ c .larger .result = search needs in
-    let v : toZ w64 (ofZ w64 (c .before .read-place2 .result)) ≡ c .before .read-place2 .result = search needs in
+    let v : toZ w64 (ofZ w64 (c .before .read-position2 .result)) ≡ c .before .read-position2 .result = search needs in
     let l = c .before .before .before .loop in
-    (omega arith, omega arith, refl, r ∙ c .larger .ensures ∙ ap₂ larger (l .inv .3) (v ∙ c .before .read-place2 .ensures) ∙ largest-more _ (l .i) (l .inv .0))
+    (omega arith, omega arith, refl, r ∙ c .larger .ensures ∙ ap₂ larger (l .inv .3) (v ∙ c .before .read-position2 .ensures) ∙ largest-more _ (l .i) (l .inv .0))
 
 returns : tie.Need-returns Inv-loop μ-loop
 returns c =
@@ -58,9 +59,9 @@ largest-spec =
     (tie.spec
     Inv-loop
     μ-loop
-    read-place-requires
+    read-position-requires
     loop-holds
-    read-place-requires-2
+    read-position-requires-2
     larger-requires
     add-i
     loop-less

@@ -1,3 +1,4 @@
+-- The mask's bit says which of the two valuations the position is read in.
 use mathlib.Core.Path.{_≡_, ap, _∙_}
 use Prim.Native.Nat.{ℕ}
 use lib.IntN.{pos}
@@ -6,6 +7,7 @@ use mir.Syntax.{w64}
 use mir.Val.{toZ, ofZ}
 use borrow.Author.Tests.{eq-eqb, ne-eqb}
 use Rattle.bodies.proofs.Loops.{read-first, read-second}
+use Rattle.words.specs.Bit.{bit}
 use borrow.Author.Needs.{needs}
 use Rattle.bodies.proofs.read.Statement.{statement}
 use Rattle.bodies.proofs.read.Tie as tie
@@ -32,6 +34,7 @@ element-copy-out-result-2 : tie.Need-element-copy-out-result-2
 element-copy-out-result-2 c = search needs
 
 returns : tie.Need-returns
+unfolding bit
 returns c =
     let a = c .before .before .before .args in
     let v = getD (a .first .now) (c .before .before .wide .result) (pos 0) in
@@ -40,6 +43,7 @@ returns c =
     r ∙ ap (λ (x : ℕ). getD (a .first .now) x (pos 0)) x ∙ read-first (a .kept) (a .first .now) (a .second .now) (a .i) (a .x) (eq-eqb _ 1 (c .before .if1 .taken))
 
 returns-2 : tie.Need-returns-2
+unfolding bit
 returns-2 c =
     let a = c .before .before .before .args in
     let v = getD (a .second .now) (c .before .before .wide .result) (pos 0) in

@@ -1,3 +1,4 @@
+-- Invariant: c and the first i terms' amounts; each is small, so the sum so far fits.
 use mathlib.Core.Path.{_≡_, refl, ap, ap₂, _∙_}
 use Prim.Native.Nat.{ℕ, _*_, _-_, _/_, _≤_, _<_}
 use native.Mathlib.Omega.{arith}

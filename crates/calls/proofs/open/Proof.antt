@@ -1,9 +1,9 @@
+-- A refused file is turned down as it was read; an accepted one by the table of lengths.
 use mathlib.Core.Path.{subst}
 use Rattle.program.specs.Reading.{Reads, answerOf}
 use Rattle.program.specs.declared.Reading.{Reading}
-use Rattle.validity.proofs.RuleLaws.{variables-few}
 use Rattle.meaning.specs.Calls.{bad-file}
-use Rattle.reader.proofs.Accepted.{counted}
+use Rattle.reader.proofs.Published.{limited}
 use borrow.Author.Needs.{needs}
 use Rattle.calls.proofs.open.Statement.{statement}
 use Rattle.calls.proofs.open.Tie as tie
@@ -21,7 +21,7 @@ fitted-requires : tie.Need-fitted-requires
 fitted-requires c κs =
     let s = c .before .before .before .before .before .before .args .file .now in
     let r = subst (λ (q : Reading). Reads s (answerOf q)) (c .before .counts .given .1) (c .before .before .before .read .ensures) in
-    (c .before .before .before .before .before .before .pre, variables-few (counted s _ r))
+    (c .before .before .before .before .before .before .pre, limited r .few-variables)
 
 returns : tie.Need-returns
 returns c = λ b e. bad-file (subst (λ (q : Reading). Reads (c .before .before .before .before .before .before .args .file .now) (answerOf q)) (c .before .why .given .1) (c .before .before .before .read .ensures))

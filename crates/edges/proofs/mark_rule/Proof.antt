@@ -1,3 +1,4 @@
+-- One position after the other.
 use native.Mathlib.Omega.{arith}
 use borrow.Author.Needs.{needs}
 use mathlib.Core.Path.{_≡_}
@@ -7,7 +8,7 @@ use Rattle.program.specs.Tables.{anyBelow}
 use Rattle.program.specs.Program.{ruleOf, variablesAt}
 use Rattle.reach.specs.Rows.{rowsLength, rowHas}
 use Rattle.edges.specs.Edges.{Grown, drawsAt}
-use Rattle.edges.proofs.PlaceLaws.{grown-none, grown-more, draws-done}
+use Rattle.edges.proofs.PositionLaws.{grown-none, grown-more, draws-done}
 use Rattle.edges.proofs.mark_rule.Statement.{statement}
 use Rattle.edges.proofs.mark_rule.Tie as tie
 
@@ -19,14 +20,14 @@ Inv-loop rows₀ file variables value n i₀ rows i =
 abbrev μ-loop : tie.MeasureT-loop
 μ-loop rows₀ file variables value n i₀ rows i = n - i
 
-sub-n : tie.Need-sub-n Inv-loop μ-loop
-sub-n c = search needs
+positions-requires : tie.Need-positions-requires Inv-loop μ-loop
+positions-requires c κs = search needs
 
 loop-holds : tie.Need-loop-holds Inv-loop μ-loop
-loop-holds c = (omega arith, omega arith, c .before .before .pre .1, grown-none _ _)
+loop-holds c = (omega arith, omega arith, c .before .before .before .pre .1, grown-none _ _)
 
-mark-place-requires : tie.Need-mark-place-requires Inv-loop μ-loop
-mark-place-requires c κs = search needs
+mark-position-requires : tie.Need-mark-position-requires Inv-loop μ-loop
+mark-position-requires c κs = search needs
 
 add-i : tie.Need-add-i Inv-loop μ-loop
 add-i c = search needs
@@ -35,7 +36,7 @@ loop-less : tie.Need-loop-less Inv-loop μ-loop
 loop-less c = search needs
 
 loop-again : tie.Need-loop-again Inv-loop μ-loop
-loop-again c = (omega arith, omega arith, c .mark-place .ensures .0, grown-more _ _ (c .before .before .before .loop .inv .3) (c .mark-place .ensures .1))
+loop-again c = (omega arith, omega arith, c .mark-position .ensures .0, grown-more _ _ (c .before .before .before .loop .inv .3) (c .mark-position .ensures .1))
 
 returns : tie.Need-returns Inv-loop μ-loop
 returns c = (c .before .loop .inv .2, draws-done _ _ (omega arith) (c .before .loop .inv .3))
@@ -46,9 +47,9 @@ mark-rule-spec =
     (tie.spec
     Inv-loop
     μ-loop
-    sub-n
+    positions-requires
     loop-holds
-    mark-place-requires
+    mark-position-requires
     add-i
     loop-less
     loop-again

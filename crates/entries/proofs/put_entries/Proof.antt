@@ -1,3 +1,4 @@
+-- Invariant: the lines of the first i entries are written.
 use mathlib.Core.Path.{_≡_, subst}
 use Prim.Native.Nat.{ℕ, _+_, _*_, _-_, _≤_}
 use native.Mathlib.Omega.{arith}

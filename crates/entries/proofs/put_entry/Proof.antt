@@ -1,3 +1,4 @@
+-- By the mark: each has its words, and an entry of no known mark has no line.
 use mathlib.Core.Path.{_≡_, ap, _∙_}
 use Prim.Native.Nat.{ℕ, _+_, _*_, _≤_}
 use mathlib.Core.List.{List}

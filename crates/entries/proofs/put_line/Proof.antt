@@ -1,3 +1,4 @@
+-- The parts are appended one after the other.
 use mir.Facts.{toZ-ofZ}
 use mathlib.Core.Path.{ap}
 use Rattle.text.specs.Decimal.{decimal, number}

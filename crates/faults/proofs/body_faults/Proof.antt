@@ -1,3 +1,4 @@
+-- Invariant: the faults of the terms before i are noted.
 use native.Mathlib.Omega.{arith}
 use borrow.Author.Needs.{needs}
 use Prim.Native.Nat.{_≤_, _-_}

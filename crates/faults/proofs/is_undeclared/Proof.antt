@@ -1,3 +1,4 @@
+-- The machine's test is the specification's.
 use mathlib.Core.Path.{ap}
 use Prim.Native.Nat.{ℕ}
 use lib.Dec.{leb}

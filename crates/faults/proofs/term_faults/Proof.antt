@@ -1,6 +1,4 @@
-use mathlib.Core.Path.{_≡_}
-use mir.Syntax.{w64}
-use mir.Val.{toZ, ofZ}
+-- Each test is that of its refusal, at term i.
 use Rattle.faults.proofs.FaultLaws.{term-faults}
 use borrow.Author.Needs.{needs}
 use Rattle.faults.proofs.term_faults.Statement.{statement}
@@ -25,9 +23,10 @@ is-negative-requires : tie.Need-is-negative-requires
 is-negative-requires c κs = search needs
 
 returns : tie.Need-returns
-returns c = let t = c .before .before .before .before .before .before .term in
-    let r : toZ w64 (ofZ w64 (t .result .number)) ≡ t .result .number = search needs in
-    term-faults _ _ _ _ _ (t .result) _ (t .ensures) r (c .before .before .before .before .is-wrong-term .ensures) (c .before .before .before .is-outside-term .ensures) (c .before .before .is-undeclared .ensures) (c .before .is-repeated .ensures) (c .is-negative .ensures)
+returns c =
+    let t = c .before .before .before .before .before .term in
+    term-faults _ _ _ _ _ (t .ensures) (c .before .before .before .before .is-wrong-term .ensures) (c .before .before .before .is-outside-term .ensures)
+    (c .before .before .is-undeclared .ensures) (c .before .is-repeated .ensures) (c .is-negative .ensures)
 
 pub term-faults-spec : {M : Type 1} → statement M
 term-faults-spec =

@@ -1,3 +1,4 @@
+-- Below, above or within: each branch by the order of ℤ.
 use mir.Facts.{toZ-ofZ}
 use Rattle.format.proofs.Ints.{beyond-below, beyond-above}
 use borrow.Author.Needs.{needs}

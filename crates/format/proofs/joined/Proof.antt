@@ -1,3 +1,4 @@
+-- The high byte times 256 and the low byte, which fits.
 use native.Mathlib.Omega.{arith}
 use borrow.Author.Needs.{needs}
 use Rattle.format.proofs.joined.Statement.{statement}

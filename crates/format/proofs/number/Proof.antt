@@ -1,3 +1,4 @@
+-- From 32,768 on, 65,536 is taken off.
 use Prim.Native.Nat.{_+_, _*_}
 use native.Mathlib.Omega.{arith}
 use Rattle.format.proofs.Int.{≡-out}

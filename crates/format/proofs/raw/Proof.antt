@@ -1,3 +1,4 @@
+-- A negative number's 16 bits are 65,536 more than it.
 use mathlib.Core.Path.{refl, sym, ap, subst}
 use Prim.Native.Nat.{_<_}
 use lib.IntN.{ℤ, pos, natAbs}

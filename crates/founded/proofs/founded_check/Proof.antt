@@ -1,3 +1,4 @@
+-- The answer is the call's own, packed; its numbers fit.
 use Rattle.packing.proofs.Bounds.{check-fits}
 use Rattle.founded.proofs.Exported.{exported-check}
 use borrow.Author.Needs.{needs}

@@ -1,3 +1,4 @@
+-- By the answer: each has its word and its numbers.
 use mathlib.Core.Path.{refl, ap₂}
 use mathlib.Core.List.{_++_}
 use Prim.Native.Nat.{ℕ}

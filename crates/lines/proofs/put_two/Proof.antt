@@ -1,3 +1,4 @@
+-- The parts are appended one after the other.
 use native.Mathlib.Omega.{arith}
 use Rattle.text.proofs.OutputLaws.{appends-both}
 use borrow.Author.Needs.{needs}

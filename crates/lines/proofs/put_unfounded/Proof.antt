@@ -1,3 +1,4 @@
+-- The first line, then the lines of the entries.
 use native.Mathlib.Omega.{arith}
 use Rattle.entries.specs.Text.{answerLine}
 use Rattle.text.proofs.OutputLaws.{appends-both}

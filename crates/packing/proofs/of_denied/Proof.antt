@@ -1,3 +1,4 @@
+-- The word of a refusal, its number and its place.
 use borrow.Author.Needs.{needs}
 use Rattle.packing.proofs.of_denied.Statement.{statement}
 use Rattle.packing.proofs.of_denied.Tie as tie

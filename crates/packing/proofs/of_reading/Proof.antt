@@ -1,3 +1,4 @@
+-- By the answer: its word and its numbers.
 use mathlib.Core.Path.{refl}
 use borrow.Author.Needs.{needs}
 use Rattle.packing.proofs.of_reading.Statement.{statement}

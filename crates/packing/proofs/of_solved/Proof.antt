@@ -1,3 +1,4 @@
+-- By the answer: its word and its numbers.
 use borrow.Author.Needs.{needs}
 use Rattle.packing.proofs.of_solved.Statement.{statement}
 use Rattle.packing.proofs.of_solved.Tie as tie

@@ -1,3 +1,4 @@
+-- The word is below 256 and each number below 65,536, so the sum fits.
 use native.Mathlib.Omega.{arith}
 use Rattle.packing.specs.Packing.{packed}
 use borrow.Author.Needs.{needs}

@@ -1,3 +1,4 @@
+-- Nothing is promised of the number; no step overflows, and the loop ends with the text.
 use mathlib.Core.Path.{_≡_}
 use Prim.Native.Nat.{_-_}
 use lib.ListN.{length}

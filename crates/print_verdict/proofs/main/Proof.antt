@@ -1,3 +1,4 @@
+-- What was read is printed; every index is within its buffer.
 use mathlib.Core.Path.{sym}
 use native.Mathlib.Omega.{arith}
 use lib.Seq.{length-take-le}

@@ -1,3 +1,4 @@
+-- Under two bytes, shorter than announced or too long: each branch is a case of the framing.
 use native.Mathlib.Omega.{arith}
 use Rattle.printing.proofs.PrintLaws.{too-few, file-short, by-length}
 use borrow.Author.Needs.{needs}

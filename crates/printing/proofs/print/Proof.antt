@@ -1,3 +1,4 @@
+-- A misframed input has the text of refusal 16; any other that of what the check answers.
 use mathlib.Core.Path.{_≡_, ap}
 use mathlib.Core.Bool.{false}
 use Prim.Native.Nat.{ℕ, _+_, _≤_}

@@ -1,3 +1,4 @@
+-- The report has room for every entry, so its lines are those of the answer's counts.
 use native.Mathlib.Omega.{arith}
 use Rattle.printing.proofs.PrintLaws.{entries-fit, told}
 use borrow.Author.Needs.{needs}

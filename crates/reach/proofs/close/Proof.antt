@@ -1,3 +1,4 @@
+-- Invariant: each row has what is reached with every stop between below k; a round lets k be one.
 use mathlib.Core.Path.{_≡_}
 use Prim.Native.Nat.{_≤_, _-_}
 use native.Mathlib.Omega.{arith}

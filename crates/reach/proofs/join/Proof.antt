@@ -1,3 +1,4 @@
+-- Invariant: the first words of row i have taken in those of row k, and no other row has changed.
 use mathlib.Core.Path.{_≡_, _∙_}
 use Prim.Native.Nat.{_≤_, _-_}
 use native.Mathlib.Omega.{arith}

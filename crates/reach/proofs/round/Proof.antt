@@ -1,3 +1,4 @@
+-- Invariant: the rows before i are done, those from i on are as they were.
 use mathlib.Core.Path.{_≡_, sym, ap, _∙_}
 use mathlib.Core.Logic.{⊎-elim}
 use Prim.Native.Nat.{_≤_, _<_, _-_}

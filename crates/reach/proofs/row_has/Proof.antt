@@ -1,3 +1,4 @@
+-- The bit of v in its row's word.
 use mathlib.Core.Path.{refl}
 use Rattle.words.specs.Bit.{bit}
 use Rattle.reach.specs.Rows.{rowHas}

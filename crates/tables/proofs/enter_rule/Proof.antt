@@ -1,29 +1,36 @@
-use native.Mathlib.Omega.{arith}
-use borrow.Author.Needs.{needs}
+-- One position after the other.
+use Prim.Native.Nat.{_≤_, _-_}
 use mathlib.Core.Path.{_≡_}
 use mathlib.Core.Bool.{_&&_}
-use Prim.Native.Nat.{_≤_, _-_, _+_, _*_}
+use native.Mathlib.Omega.{arith}
 use lib.Dec.{eqb}
-use lib.ListN.{length, getD}
+use lib.ListN.{length}
+use borrow.Author.Needs.{needs}
+use Rattle.words.specs.Bit.{bit}
 use Rattle.program.specs.Tables.{anyBelow}
-use Rattle.bodies.specs.Readings.{bit}
+use Rattle.program.specs.Program.{ruleOf}
+use Rattle.program.specs.Readings.{bodyVariable}
 use Rattle.tables.specs.Tabled.{readersWords, Entered}
-use Rattle.tables.proofs.EntryLaws.{entered-start, entered-more, entered-done}
+use Rattle.tables.proofs.EntryLaws.{entered-start, entered-more, entered-rule}
 use Rattle.tables.proofs.enter_rule.Statement.{statement}
 use Rattle.tables.proofs.enter_rule.Tie as tie
 
 abbrev Inv-loop : tie.InvT-loop
-Inv-loop readers₀ value mask k terms j₀ readers j =
-    (j ≤ terms) × (length readers ≡ readersWords) × Entered readers₀ readers k (λ x. anyBelow j (λ n. bit mask n && eqb (getD value (4 + 4 * n) 0) x))
+Inv-loop readers₀ value mask k n j₀ readers j =
+    (j ≤ n) × (n ≡ length (ruleOf value .terms)) × (length readers ≡ readersWords)
+    × Entered readers₀ readers k (λ x. anyBelow j (λ i. bit mask i && eqb (bodyVariable (ruleOf value) i) x))
 
 abbrev μ-loop : tie.MeasureT-loop
-μ-loop readers₀ value mask k terms j₀ readers j = terms - j
+μ-loop readers₀ value mask k n j₀ readers j = n - j
+
+positions-requires : tie.Need-positions-requires Inv-loop μ-loop
+positions-requires c κs = search needs
 
 loop-holds : tie.Need-loop-holds Inv-loop μ-loop
-loop-holds c = (omega arith, omega arith, entered-start _ _ _)
+loop-holds c = (omega arith, c .positions .ensures, c .before .before .pre .1, entered-start _ _ _)
 
-enter-place-requires : tie.Need-enter-place-requires Inv-loop μ-loop
-enter-place-requires c κs = search needs
+enter-position-requires : tie.Need-enter-position-requires Inv-loop μ-loop
+enter-position-requires c κs = search needs
 
 add-j : tie.Need-add-j Inv-loop μ-loop
 add-j c = search needs
@@ -32,12 +39,21 @@ loop-less : tie.Need-loop-less Inv-loop μ-loop
 loop-less c = search needs
 
 loop-again : tie.Need-loop-again Inv-loop μ-loop
-loop-again c = (omega arith, c .enter-place .ensures .0, entered-more _ _ _ _ _ _ (c .before .before .before .loop .inv .2) (c .enter-place .ensures .1))
+loop-again c = let l = c .before .before .before .loop in (omega arith, omega arith, c .enter-position .ensures .0, entered-more _ _ _ _ _ _ (l .inv .3) (c .enter-position .ensures .1))
 
 returns : tie.Need-returns Inv-loop μ-loop
-returns c = (c .before .loop .inv .1, entered-done _ _ _ _ _ _ (omega arith) (c .before .loop .inv .2))
+returns c = let l = c .before .loop in (l .inv .2, entered-rule _ _ _ _ _ _ (omega arith) (l .inv .3))
 
 pub enter-rule-spec : {M : Type 1} → statement M
 enter-rule-spec =
     tie.close
-    (tie.spec Inv-loop μ-loop loop-holds enter-place-requires add-j loop-less loop-again returns)
+    (tie.spec
+    Inv-loop
+    μ-loop
+    positions-requires
+    loop-holds
+    enter-position-requires
+    add-j
+    loop-less
+    loop-again
+    returns)

@@ -1,3 +1,4 @@
+-- The digits before the last are written first, by the function itself on a smaller number.
 use native.Mathlib.Omega.{arith}
 use Rattle.text.proofs.OutputLaws.{appends-as, appends-both}
 use Rattle.text.proofs.DecimalLaws.{decimal-one, decimal-more, decimal-short}

@@ -1,3 +1,4 @@
+-- The byte is written where there is room, and counted in any case.
 use Rattle.text.proofs.OutputLaws.{put-here, put-past}
 use borrow.Author.Needs.{needs}
 use Rattle.text.proofs.put.Statement.{statement}

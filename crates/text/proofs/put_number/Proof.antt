@@ -1,3 +1,4 @@
+-- A negative number has its sign and the digits of its absolute value.
 use mathlib.Core.Path.{_≡_, ap, _∙_}
 use mathlib.Core.Bool.{true, false}
 use native.Mathlib.Omega.{arith}

@@ -1,3 +1,4 @@
+-- Invariant: the first i bytes of the word are written.
 use mathlib.Core.Path.{_≡_}
 use Prim.Native.Nat.{_+_, _≤_, _-_}
 use native.Mathlib.Omega.{arith}

@@ -1,3 +1,4 @@
+-- Without a mixed position the file is valid; else the rows are what the edges reach, and they decide.
 use native.Mathlib.Omega.{arith}
 use mathlib.Core.Path.{sym, _∙_}
 use borrow.Author.Tests.{not-true}

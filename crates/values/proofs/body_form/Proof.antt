@@ -1,3 +1,4 @@
+-- By the constraint's form.
 use native.Mathlib.Omega.{arith}
 use Rattle.values.proofs.ValueLaws.{body-sum, body-literals, body-unknown}
 use Rattle.values.proofs.body_form.Statement.{statement}

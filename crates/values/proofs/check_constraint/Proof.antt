@@ -1,3 +1,4 @@
+-- The length first, then the value's parts.
 use mathlib.Core.Path.{sym, _∙_}
 use native.Mathlib.Omega.{arith}
 use Rattle.values.proofs.ValueLaws.{constraint-length, constraint-rest, terms-header}

@@ -1,33 +1,24 @@
+-- The faults of the header and of the body, in order.
+use mathlib.Core.Path.{_≡_, refl, ap, ap₂, _∙_}
 use mathlib.Core.Bool.{false}
-use mathlib.Core.Path.{_≡_, refl, ap, _∙_}
 use mir.Syntax.{w64}
 use mir.Val.{toZ, ofZ}
 use Rattle.format.specs.Limits.{maxNumber}
 use Rattle.format.specs.Numbers.{beyond}
-use Rattle.program.specs.Refusals.{wrongConstraint}
-use lib.ListN.{getD}
+use Rattle.program.specs.Refusals.{bodyForm, wrongConstraint}
 use Rattle.values.proofs.ValueLaws.{constraint-refusal, body-refusal}
 use borrow.Author.Needs.{needs}
 use Rattle.values.proofs.check_constraint_parts.Statement.{statement}
 use Rattle.values.proofs.check_constraint_parts.Tie as tie
 
-shared-slice-read-kind : tie.Need-shared-slice-read-kind
-shared-slice-read-kind c = search needs
+header-requires : tie.Need-header-requires
+header-requires c κs = search needs
+
+body-requires : tie.Need-body-requires
+body-requires c κs = search needs
 
 body-form-requires : tie.Need-body-form-requires
 body-form-requires c κs = search needs
-
-signed-at-requires : tie.Need-signed-at-requires
-signed-at-requires c κs = search needs
-
-sub-body : tie.Need-sub-body
-sub-body c = search needs
-
-part-body-start : tie.Need-part-body-start
-part-body-start c = search needs
-
-part-body-end : tie.Need-part-body-end
-part-body-end c = search needs
 
 is-wrong-constraint-requires : tie.Need-is-wrong-constraint-requires
 is-wrong-constraint-requires c κs = search needs
@@ -48,21 +39,22 @@ first-requires : tie.Need-first-requires
 first-requires c κs = search needs
 
 returns : tie.Need-returns
-returns c = let v = c .before .before .before .before .before .before .before .before .before .before .before .before .args .value .now in
-    let z = c .before .before .before .before .before .before .before .signed-at in
-    let r : toZ w64 (ofZ w64 (z .result)) ≡ z .result = search needs in
-    constraint-refusal _ v _ _ (c .before .before .before .before .before .before .before .before .body-form .ensures) (c .first .ensures ∙ body-refusal _ v 3 _ _ _ _ _ {c = false} (c .before .before .before .body-faults .ensures) (c .before .before .before .before .before .is-wrong-constraint .ensures ∙ ap (wrongConstraint (getD v 0 0)) (r ∙ z .ensures)) (c .before .before .before .before .is-number-beyond .ensures ∙ ap (beyond maxNumber) (r ∙ z .ensures)) refl refl refl (c .before .before .with .ensures) (c .before .is-wrong-count .ensures))
+returns c =
+    let v = c .before .before .before .before .before .before .before .before .before .before .before .before .before .args .value .now in
+    let h = c .before .before .before .before .before .before .before .before .before .before .header in
+    let z : toZ w64 (ofZ w64 (h .result .c)) ≡ h .result .c = search needs in
+    constraint-refusal _ v _ _ (c .before .before .before .before .before .before .before .before .body-form .ensures ∙ ap bodyForm (h .ensures .0))
+    (c .first .ensures ∙ body-refusal _ (c .before .before .before .before .before .before .before .before .before .body .ensures) _ _ _ _ _ {c = false} (c .before .before .before .body-faults .ensures)
+    (c .before .before .before .before .before .before .is-wrong-constraint .ensures ∙ ap₂ wrongConstraint (h .ensures .0) (z ∙ h .ensures .1))
+    (c .before .before .before .before .is-number-beyond .ensures ∙ ap (beyond maxNumber) (z ∙ h .ensures .1)) refl refl refl (c .before .before .with .ensures) (c .before .is-wrong-count .ensures))
 
 pub check-constraint-parts-spec : {M : Type 1} → statement M
 check-constraint-parts-spec =
     tie.close
     (tie.spec
-    shared-slice-read-kind
+    header-requires
+    body-requires
     body-form-requires
-    signed-at-requires
-    sub-body
-    part-body-start
-    part-body-end
     is-wrong-constraint-requires
     is-number-beyond-requires
     body-faults-requires

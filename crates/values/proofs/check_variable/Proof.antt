@@ -1,6 +1,7 @@
+-- Each way of the tests is a case of the refusals 6 to 8.
 use mathlib.Core.Path.{sym, _∙_}
 use native.Mathlib.Omega.{arith}
-use Rattle.values.proofs.ValueLaws.{variable-length, variable-kind, variable-range, variable-fine}
+use Rattle.values.proofs.ValueLaws.{variable-length, variable-kind, variable-range, variable-fine, kind-of, range-of}
 use borrow.Author.Needs.{needs}
 use Rattle.values.proofs.check_variable.Statement.{statement}
 use Rattle.values.proofs.check_variable.Tie as tie
@@ -8,28 +9,22 @@ use Rattle.values.proofs.check_variable.Tie as tie
 returns : tie.Need-returns
 returns c = λ vs. variable-length _ vs (omega arith)
 
-shared-slice-read-kind : tie.Need-shared-slice-read-kind
-shared-slice-read-kind c = search needs
+variable-of-requires : tie.Need-variable-of-requires
+variable-of-requires c κs = search needs
 
 returns-2 : tie.Need-returns-2
-returns-2 c = λ vs. variable-kind _ vs (omega arith) (omega arith)
+returns-2 c = λ vs. variable-kind _ vs (omega arith) (omega (arith, kind-of (c .before .variable-of .ensures)))
 
 is-range-outside-requires : tie.Need-is-range-outside-requires
 is-range-outside-requires c κs = search needs
 
 returns-3 : tie.Need-returns-3
-returns-3 c = λ vs. variable-range _ vs (omega arith) (omega arith) (sym (c .before .is-range-outside .ensures) ∙ c .if3 .taken)
+returns-3 c = λ vs. variable-range _ vs (omega arith) (omega (arith, kind-of (c .before .before .before .variable-of .ensures))) (range-of (c .before .before .before .variable-of .ensures) (sym (c .before .is-range-outside .ensures) ∙ c .if3 .taken))
 
 returns-4 : tie.Need-returns-4
-returns-4 c = λ vs. variable-fine _ vs (omega arith) (omega arith) (sym (c .before .is-range-outside .ensures) ∙ c .if3 .left)
+returns-4 c = λ vs. variable-fine _ vs (omega arith) (omega (arith, kind-of (c .before .before .before .variable-of .ensures))) (range-of (c .before .before .before .variable-of .ensures) (sym (c .before .is-range-outside .ensures) ∙ c .if3 .left))
 
 pub check-variable-spec : {M : Type 1} → statement M
 check-variable-spec =
     tie.close
-    (tie.spec
-    returns
-    shared-slice-read-kind
-    returns-2
-    is-range-outside-requires
-    returns-3
-    returns-4)
+    (tie.spec returns variable-of-requires returns-2 is-range-outside-requires returns-3 returns-4)

@@ -1,3 +1,4 @@
+-- The machine's test is the specification's.
 use native.Mathlib.Omega.{arith}
 use Rattle.values.proofs.ValueLaws.{count-in, count-out}
 use Rattle.values.proofs.is_not_any.Statement.{statement}

@@ -1,3 +1,4 @@
+-- Both ends of the count, each by the machine's test.
 use native.Mathlib.Omega.{arith}
 use Rattle.values.proofs.ValueLaws.{count-in, count-out}
 use Rattle.values.proofs.is_not_several.Statement.{statement}

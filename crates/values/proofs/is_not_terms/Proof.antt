@@ -1,3 +1,4 @@
+-- Shorter than the header, no multiple of four after it, or by the number of terms.
 use native.Mathlib.Omega.{arith}
 use Rattle.values.proofs.ValueLaws.{terms-short, terms-uneven, terms-even}
 use Rattle.values.proofs.is_not_terms.Statement.{statement}

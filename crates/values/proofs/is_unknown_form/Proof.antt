@@ -1,3 +1,4 @@
+-- The forms 1 to 7 are known, 0 and all above are not.
 use native.Mathlib.Omega.{arith}
 use Rattle.values.proofs.ValueLaws.{form-known, form-zero, form-above}
 use Rattle.values.proofs.is_unknown_form.Statement.{statement}

@@ -1,3 +1,4 @@
+-- By the constraint's form.
 use native.Mathlib.Omega.{arith}
 use Rattle.values.proofs.ValueLaws.{constraint-sum, constraint-literals, constraint-unknown}
 use mir.Facts.{toZ-ofZ}

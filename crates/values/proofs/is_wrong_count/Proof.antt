@@ -1,3 +1,4 @@
+-- By the form: each has its own test of the count.
 use mathlib.Core.Path.{_∙_}
 use native.Mathlib.Omega.{arith}
 use Rattle.values.proofs.ValueLaws.{count-form, count-sum, count-max, count-min, count-product, count-size, count-if, count-carry, count-unknown}

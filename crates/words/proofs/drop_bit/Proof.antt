@@ -1,3 +1,4 @@
+-- The word has the bit, so taking its power off clears it and no other.
 use mathlib.Core.Path.{refl, sym, _∙_}
 use Prim.Native.Nat.{_%_}
 use native.Mathlib.Omega.{arith}

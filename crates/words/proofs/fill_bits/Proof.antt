@@ -1,3 +1,4 @@
+-- Invariant: the numbers below i are in.
 use mathlib.Core.Path.{_≡_, refl, ap, _∙_}
 use mathlib.Core.Bool.{Bool, _||_}
 use Prim.Native.Nat.{ℕ, _≤_, _-_}

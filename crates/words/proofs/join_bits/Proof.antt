@@ -1,3 +1,4 @@
+-- Invariant: the first i words have taken in the other's.
 use mathlib.Core.Path.{sym, ap}
 use Prim.Native.Nat.{ℕ, _≤_, _-_}
 use native.Mathlib.Nat.{zero-add}

@@ -1,3 +1,4 @@
+-- The machine's test is the order of ℤ.
 use mathlib.Core.Path.{_≡_}
 use mathlib.Core.Bool.{true, false}
 use lib.Signed.{ltZ}

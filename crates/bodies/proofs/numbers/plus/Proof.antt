@@ -1,3 +1,4 @@
+-- The sum of two small numbers fits the machine's.
 use mir.Facts.{toZ-ofZ}
 use Rattle.bodies.proofs.Sizes.{sum-fits}
 use Rattle.bodies.proofs.numbers.plus.Statement.{statement}

@@ -1,3 +1,4 @@
+-- A small number's negative fits, so both branches are its absolute value.
 use mathlib.Core.Path.{_≡_, _∙_}
 use mathlib.Core.Bool.{true, false}
 use lib.IntN.{pos}

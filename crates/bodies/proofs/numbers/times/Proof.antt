@@ -1,3 +1,4 @@
+-- The product of two small numbers fits the machine's.
 use mir.Facts.{toZ-ofZ}
 use Rattle.bodies.proofs.Sizes.{product-fits}
 use Rattle.bodies.proofs.numbers.times.Statement.{statement}

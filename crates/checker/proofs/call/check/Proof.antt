@@ -1,7 +1,8 @@
+-- A call that is turned down answers the refusal; of any other the next step says what `Checks` asks, and the demands follow from that.
 use mathlib.Core.Path.{refl, subst}
-use Rattle.meaning.specs.Calls.{checkBytes, Opened}
+use Rattle.meaning.specs.Calls.{Opened}
 use Rattle.meaning.specs.declared.Opening.{Opening}
-use Rattle.verdict.specs.Checks.{turned-down}
+use Rattle.verdict.specs.Checks.{checkBytes, turned-down}
 use Rattle.verdict.proofs.Demanded.{checks-demands}
 use borrow.Author.Needs.{needs}
 use Rattle.checker.proofs.call.check.Statement.{statement}
@@ -16,8 +17,8 @@ enum-known-why c = search needs
 enum-known-counts : tie.Need-enum-known-counts
 enum-known-counts c = search needs
 
-judged-requires : tie.Need-judged-requires
-judged-requires c κs =
+check-ranges-requires : tie.Need-check-ranges-requires
+check-ranges-requires c κs =
     let b = c .before .before .before .before .before .before .before .before in
     let o = subst (λ (q : Opening). Opened checkBytes (b .args .file .now) (b .args .assignment .now) (b .args .report .now) q) (c .before .before .counts .given .1) (c .before .before .before .before .open .ensures _ refl) in
     (o .0, (o .1, o .2))
@@ -33,7 +34,7 @@ same-length : tie.Need-same-length
 same-length c = search needs
 
 returns-2 : tie.Need-returns-2
-returns-2 c = let k = c .before .before .judged .ensures in (k, checks-demands k)
+returns-2 c = let k = c .before .before .check-ranges .ensures in (k, checks-demands k)
 
 pub check-spec : {M : Type 1} → statement M
 check-spec =
@@ -42,7 +43,7 @@ check-spec =
     open-requires
     enum-known-why
     enum-known-counts
-    judged-requires
+    check-ranges-requires
     returns
     same-length
     returns-2)

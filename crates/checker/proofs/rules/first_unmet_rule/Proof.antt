@@ -1,3 +1,4 @@
+-- Invariant: every rule before i is met; a rule that demands more than its head has is not.
 use Prim.Native.Nat.{ℕ, _-_, _<_, _≤_}
 use native.Mathlib.Omega.{arith}
 use Rattle.program.specs.Program.{Program}

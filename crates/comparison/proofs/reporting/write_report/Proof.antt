@@ -1,3 +1,4 @@
+-- The bounds take the first entries, the conditions are written into the rest, and together they are the report's bytes.
 use Rattle.format.specs.Limits.{maxVariables}
 use Rattle.words.specs.Bit.{has}
 use Rattle.report.specs.Report.{ascending, boundsOf, conditionsOf}

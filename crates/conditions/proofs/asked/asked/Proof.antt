@@ -1,30 +1,33 @@
+-- One rule after the other, each where the table says.
 use Prim.Native.Nat.{_-_, _≤_}
 use native.Mathlib.Omega.{arith}
-use borrow.Author.Needs.{needs}
 use lib.ListN.{getD}
+use borrow.Author.Needs.{needs}
 use Rattle.format.specs.Limits.{maxRules}
 use Rattle.words.specs.Bit.{has}
 use Rattle.program.specs.Tables.{anyBelow}
 use Rattle.program.specs.Fields.{valueAt}
-use Rattle.program.specs.Program.{variablesAt}
-use Rattle.conditions.specs.Asking.{Grown, asksInto}
+use Rattle.program.specs.Program.{ruleOf, variablesAt}
+use Rattle.report.specs.Report.{asksMost, asksLeast}
+use Rattle.conditions.specs.Asking.{AsksMore, askedInto}
 use Rattle.conditions.proofs.AskLaws.{grown-none, grown-more}
-use Rattle.conditions.proofs.AskedLaws.{laid-few, laid-here, asked-all}
+use Rattle.conditions.proofs.AskedLaws.{rules-few, rule-here, asked-all}
 use Rattle.conditions.proofs.asked.asked.Statement.{statement}
 use Rattle.conditions.proofs.asked.asked.Tie as tie
 
 abbrev Inv-loop : tie.InvT-loop
-Inv-loop file places masks set n rules all₀ i₀ all i =
-    (i ≤ rules) × (rules ≤ maxRules) × Grown all₀ all (λ asks v. anyBelow i (λ j. asksInto (variablesAt file n) (has (set .words)) (valueAt file (getD places j 0)) (getD masks j 0) asks v))
+Inv-loop file places set n rules all₀ i₀ all i =
+    (i ≤ rules) × (rules ≤ maxRules)
+    × AsksMore all₀ all (λ asks v. anyBelow i (λ j. askedInto (variablesAt file n) (has (set .words)) (ruleOf (valueAt file (getD places j 0))) asks v))
 
 abbrev μ-loop : tie.MeasureT-loop
-μ-loop file places masks set n rules all₀ i₀ all i = rules - i
+μ-loop file places set n rules all₀ i₀ all i = rules - i
 
 empty-requires : tie.Need-empty-requires Inv-loop μ-loop
 empty-requires c κs = search needs
 
 loop-holds : tie.Need-loop-holds Inv-loop μ-loop
-loop-holds c = (omega arith, laid-few (c .before .before .pre), grown-none _ _)
+loop-holds c = let s = c .before .before in (omega arith, rules-few (s .args .file .now) (s .args .places .now) (s .args .counts) (s .pre .0) (s .pre .1), grown-none _ _)
 
 mul-at : tie.Need-mul-at Inv-loop μ-loop
 mul-at c = search needs
@@ -32,14 +35,8 @@ mul-at c = search needs
 element-copy-out-at : tie.Need-element-copy-out-at Inv-loop μ-loop
 element-copy-out-at c = search needs
 
-mul-mask : tie.Need-mul-mask Inv-loop μ-loop
-mul-mask c = search needs
-
-element-copy-out-mask : tie.Need-element-copy-out-mask Inv-loop μ-loop
-element-copy-out-mask c = search needs
-
 ask-field-requires : tie.Need-ask-field-requires Inv-loop μ-loop
-ask-field-requires c κs = laid-here (c .before .before .before .before .before .before .pre) _ (c .before .before .loop-test .taken)
+ask-field-requires c κs = let s = c .before .before .before .before .before in rule-here (s .args .file .now) (s .args .places .now) (s .args .counts) (s .pre .0) (s .pre .1) _ (c .before .loop-test .taken)
 
 add-i : tie.Need-add-i Inv-loop μ-loop
 add-i c = search needs
@@ -48,14 +45,16 @@ loop-less : tie.Need-loop-less Inv-loop μ-loop
 loop-less c = search needs
 
 loop-again : tie.Need-loop-again Inv-loop μ-loop
-loop-again c = (omega arith, omega arith, grown-more _ _ (c .before .before .before .before .loop .inv .2) (c .ask-field .ensures))
+loop-again c = let l = c .before .before .before .loop in (omega arith, omega arith, grown-more _ _ (l .inv .2) (c .ask-field .ensures))
 
 returns : tie.Need-returns Inv-loop μ-loop
 returns c =
     let s = c .before .before .before .before in
     let g = c .before .loop .inv .2 in
-    let z = c .before .before .empty .ensures in
-    (asked-all (s .pre) _ _ (omega arith) z (g .most), asked-all (s .pre) _ _ (omega arith) z (g .least))
+    let z = c .before .before .empty .ensures in (
+      λ P x v. asked-all (s .args .file .now) (s .args .places .now) (s .args .counts) (s .pre .0) (s .pre .1) (has (s .args .set .words)) asksMost P x v (omega arith) z (g .most),
+      λ P x v. asked-all (s .args .file .now) (s .args .places .now) (s .args .counts) (s .pre .0) (s .pre .1) (has (s .args .set .words)) asksLeast P x v (omega arith) z (g .least),
+    )
 
 pub asked-spec : {M : Type 1} → statement M
 asked-spec =
@@ -67,8 +66,6 @@ asked-spec =
     loop-holds
     mul-at
     element-copy-out-at
-    mul-mask
-    element-copy-out-mask
     ask-field-requires
     add-i
     loop-less

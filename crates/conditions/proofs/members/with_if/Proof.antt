@@ -1,3 +1,4 @@
+-- By cases on whether x is wanted.
 use borrow.Author.Needs.{needs}
 use Rattle.conditions.proofs.MemberLaws.{with-one, with-none}
 use Rattle.conditions.proofs.members.with_if.Statement.{statement}

@@ -1,3 +1,4 @@
+-- One variable after the other.
 use mathlib.Core.Path.{_≡_, _∙_}
 use mathlib.Core.Bool.{_&&_}
 use Prim.Native.Nat.{ℕ, _-_, _≤_}
@@ -44,6 +45,9 @@ element-copy-out-least c = search needs
 cast-x : tie.Need-cast-x Inv-loop μ-loop
 cast-x c = search needs
 
+variable-requires : tie.Need-variable-requires Inv-loop μ-loop
+variable-requires c κs = search needs
+
 is-short-requires : tie.Need-is-short-requires Inv-loop μ-loop
 is-short-requires c κs = search needs
 
@@ -58,11 +62,12 @@ loop-less c = search needs
 
 loop-again : tie.Need-loop-again Inv-loop μ-loop
 loop-again c =
-    let a = c .before .before .before .before .before .before .before .before .args in
-    let l = c .before .before .before .before .before .loop in
+    let a = c .before .before .before .before .before .before .before .before .before .args in
+    let l = c .before .before .before .before .before .before .loop in
     let e : toZ w64 (ofZ w64 (getD (a .assigned .now) (l .v) (pos 0))) ≡ getD (a .assigned .now) (l .v) (pos 0) = search needs in
     let f : toZ w64 (ofZ w64 (getD (a .model .now) (l .v) (pos 0))) ≡ getD (a .model .now) (l .v) (pos 0) = search needs in
-    let q = short-variable (a .file .now) (a .variables) (valued (a .assigned .now)) (valued (a .model .now)) (l .v) (omega arith) e f in
+    let x = c .before .before .variable .ensures (a .variables) (omega arith) in
+    let q = short-variable (a .file .now) (a .variables) (valued (a .assigned .now)) (valued (a .model .now)) (l .v) x e f in
     (omega arith, below-one _ (l .v) (c .before .is-short .ensures ∙ q) (l .inv .1) (c .with-if .ensures))
 
 returns : tie.Need-returns Inv-loop μ-loop
@@ -83,6 +88,7 @@ short-set-spec =
     mul-least
     element-copy-out-least
     cast-x
+    variable-requires
     is-short-requires
     with-if-requires
     add-v

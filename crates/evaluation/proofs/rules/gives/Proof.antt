@@ -1,46 +1,47 @@
-use mathlib.Core.Path.{_≡_, _∙_}
+-- The amount is given where every literal holds, and nothing else.
+use mathlib.Core.Path.{_≡_, sym, _∙_}
+use native.Mathlib.Omega.{arith}
 use mir.Syntax.{w64}
 use mir.Val.{toZ, ofZ}
-use Rattle.evaluation.proofs.Gives.{evaluable-rest, length-rest, evaluate-rest}
+use borrow.Author.Tests.{not-true, not-false}
+use Rattle.evaluation.proofs.Gives.{handed-plain, handed-evaluable, given-nothing, given-value}
 use borrow.Author.Needs.{needs}
 use Rattle.evaluation.proofs.rules.gives.Statement.{statement}
 use Rattle.evaluation.proofs.rules.gives.Tie as tie
 
-shared-slice-read-form : tie.Need-shared-slice-read-form
-shared-slice-read-form c = search needs
+header-requires : tie.Need-header-requires
+header-requires c κs = search needs
 
-signed-at-requires : tie.Need-signed-at-requires
-signed-at-requires c κs = search needs
+body-requires : tie.Need-body-requires
+body-requires c κs = search needs
 
-sub-evaluated : tie.Need-sub-evaluated
-sub-evaluated c = search needs
-
-part-evaluated-start : tie.Need-part-evaluated-start
-part-evaluated-start c = search needs
-
-part-evaluated-end : tie.Need-part-evaluated-end
-part-evaluated-end c = search needs
-
-evaluated-requires : tie.Need-evaluated-requires
-evaluated-requires c κs =
-    let s = c .before .before .before .before in
-    let z : toZ w64 (ofZ w64 (c .before .signed-at .result)) ≡ c .before .signed-at .result = search needs in
-    (evaluable-rest (s .args .value .now) (z ∙ c .before .signed-at .ensures) (s .pre .0), (length-rest (s .args .value .now) (s .pre .1 .0), s .pre .1 .1))
+is-met-requires : tie.Need-is-met-requires
+is-met-requires c κs =
+    let s = c .before .before .before in
+    (omega (arith, s .pre .0 .few, c .body .ensures .many), handed-plain (s .args .value .now) (c .before .header .ensures) (c .body .ensures) (s .pre .0))
 
 returns : tie.Need-returns
 returns c =
-    let a = c .before .before .before .before .before .args in
-    let z : toZ w64 (ofZ w64 (c .before .before .signed-at .result)) ≡ c .before .before .signed-at .result = search needs in
-    c .evaluated .ensures ∙ evaluate-rest (a .value .now) (a .kept) (a .first .now) (a .second .now) (z ∙ c .before .before .signed-at .ensures)
+    let b = c .before .before in
+    let a = b .before .before .before .args in
+    given-nothing (a .value .now) (b .before .header .ensures) (b .body .ensures) (a .kept) (a .first .now) (a .second .now)
+    (sym (not-true _ (c .if1 .taken)) ∙ c .before .is-met .ensures)
+
+amount-requires : tie.Need-amount-requires
+amount-requires c κs =
+    let b = c .before .before in
+    let s = b .before .before .before in
+    (handed-evaluable (s .args .value .now) (b .before .header .ensures) (b .body .ensures) (s .pre .0), s .pre .1 .1)
+
+returns-2 : tie.Need-returns-2
+returns-2 c =
+    let b = c .before .before .before in
+    let a = b .before .before .before .args in
+    let z : toZ w64 (ofZ w64 (c .amount .result)) ≡ c .amount .result = search needs in
+    given-value (a .value .now) (b .before .header .ensures) (b .body .ensures) (a .kept) (a .first .now) (a .second .now)
+    (sym (not-false _ (c .before .if1 .left)) ∙ c .before .before .is-met .ensures) (z ∙ c .amount .ensures)
 
 pub gives-spec : {M : Type 1} → statement M
 gives-spec =
     tie.close
-    (tie.spec
-    shared-slice-read-form
-    signed-at-requires
-    sub-evaluated
-    part-evaluated-start
-    part-evaluated-end
-    evaluated-requires
-    returns)
+    (tie.spec header-requires body-requires is-met-requires returns amount-requires returns-2)

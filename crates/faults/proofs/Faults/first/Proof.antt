@@ -1,3 +1,4 @@
+-- The tests stand in the order of the refusals' numbers.
 use mathlib.Core.Path.{refl}
 use borrow.Author.Needs.{needs}
 use Rattle.faults.proofs.Faults.first.Statement.{statement}

@@ -1,3 +1,4 @@
+-- Invariant: whether some position before j has the variable of position i.
 use Rattle.program.proofs.Conditions.{any-none}
 use native.Mathlib.Omega.{arith}
 use borrow.Author.Needs.{needs}

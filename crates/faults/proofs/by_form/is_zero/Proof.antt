@@ -1,3 +1,4 @@
+-- A number is 0 exactly where its absolute value is.
 use Rattle.faults.proofs.TermLaws.{zero-bits}
 use Rattle.faults.proofs.by_form.is_zero.Statement.{statement}
 use Rattle.faults.proofs.by_form.is_zero.Tie as tie

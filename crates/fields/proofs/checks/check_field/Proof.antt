@@ -1,12 +1,13 @@
+-- The tests stand in the order of the refusals 3 to 5, and the value is judged last.
 use native.Mathlib.Omega.{arith}
 use mathlib.Core.Path.{sym, ap, _∙_}
 use lib.ListN.{length}
-use Rattle.program.specs.Program.{Variable}
 use mathlib.Core.List.{List}
 use Rattle.program.proofs.Places.{variables-length}
 use Rattle.fields.proofs.FieldLaws.{whole-unknown, whole-below, whole-many, whole-value}
 use borrow.Author.Needs.{needs}
 use Rattle.fields.proofs.checks.check_field.Statement.{statement}
+use Rattle.program.specs.declared.Variable.{Variable}
 use Rattle.fields.proofs.checks.check_field.Tie as tie
 
 is-unknown-tag-requires : tie.Need-is-unknown-tag-requires

@@ -1,3 +1,4 @@
+-- By the tag: the value of a variable, a rule or a constraint.
 use native.Mathlib.Omega.{arith}
 use Rattle.fields.proofs.FieldLaws.{value-tag, tag-last}
 use borrow.Author.Needs.{needs}

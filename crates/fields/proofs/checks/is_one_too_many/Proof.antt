@@ -1,3 +1,4 @@
+-- By the tag: the count of its kind against its limit.
 use native.Mathlib.Omega.{arith}
 use Rattle.fields.proofs.FieldLaws.{many-variables, many-rules, many-constraints, many-unknown}
 use Rattle.fields.proofs.checks.is_one_too_many.Statement.{statement}

@@ -1,3 +1,4 @@
+-- The tags 1 to 3 are known, 0 and all above are not.
 use native.Mathlib.Omega.{arith}
 use Rattle.fields.proofs.FieldLaws.{tag-known, tag-zero, tag-above}
 use Rattle.fields.proofs.checks.is_unknown_tag.Statement.{statement}

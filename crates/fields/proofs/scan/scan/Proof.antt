@@ -1,3 +1,4 @@
+-- Invariant: the fields before the cursor meet no refusal and are counted; what is left of the file grows less.
 use mathlib.Core.Path.{sym, _∙_}
 use Prim.Native.Nat.{_-_}
 use lib.ListN.{length}

@@ -1,3 +1,4 @@
+-- The constants are the specification's numbers.
 use mathlib.Core.Path.{refl}
 use Rattle.format.proofs.Format.quoted.Statement.{statement}
 use Rattle.format.proofs.Format.quoted.Tie as tie

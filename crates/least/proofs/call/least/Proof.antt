@@ -1,7 +1,8 @@
+-- A call that is turned down answers the refusal and writes nothing; any other is solved.
 use mathlib.Core.Path.{refl, subst}
 use native.Mathlib.Omega.{arith}
-use Rattle.meaning.specs.Calls.{leastBytes, Opened}
-use Rattle.meaning.specs.LeastCall.{turned-down}
+use Rattle.meaning.specs.Calls.{Opened}
+use Rattle.meaning.specs.LeastCall.{leastBytes, turned-down}
 use Rattle.meaning.specs.declared.Opening.{Opening}
 use borrow.Author.Needs.{needs}
 use Rattle.least.proofs.call.least.Statement.{statement}
@@ -16,8 +17,8 @@ enum-known-why c = search needs
 enum-known-counts : tie.Need-enum-known-counts
 enum-known-counts c = search needs
 
-judged-requires : tie.Need-judged-requires
-judged-requires c κs =
+solve-in-ranges-requires : tie.Need-solve-in-ranges-requires
+solve-in-ranges-requires c κs =
     let b = c .before .before .before .before .before .before .before .before in
     let o = subst (λ (q : Opening). Opened leastBytes (b .args .file .now) (b .args .assignment .now) (b .args .buffer .now) q) (c .before .before .counts .given .1) (c .before .before .before .before .open .ensures _ refl) in
     (o .0, (o .1, o .2))
@@ -40,7 +41,7 @@ least-spec =
     open-requires
     enum-known-why
     enum-known-counts
-    judged-requires
+    solve-in-ranges-requires
     returns
     same-length
     returns-2)

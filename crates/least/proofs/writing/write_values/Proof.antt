@@ -1,3 +1,4 @@
+-- Invariant: the first i values are written, and all bytes after them are as they were.
 use mathlib.Core.Path.{_≡_, refl, ap, _∙_}
 use Prim.Native.Nat.{_+_, _-_, _*_, _/_, _≤_, _%_}
 use native.Mathlib.Omega.{arith}

@@ -1,5 +1,6 @@
+-- The 4 bytes are those of term i.
 use native.Mathlib.Omega.{arith}
-use Rattle.parts.proofs.Bytes.{term-read}
+use Rattle.parts.proofs.Bytes.{term-part}
 use borrow.Author.Needs.{needs}
 use Rattle.parts.proofs.terms.term.Statement.{statement}
 use Rattle.parts.proofs.terms.term.Tie as tie
@@ -26,7 +27,7 @@ whole-requires : tie.Need-whole-requires
 whole-requires c κs = search needs
 
 returns : tie.Need-returns
-returns c = term-read _ _ _ (omega arith) (c .whole .ensures)
+returns c = term-part _ _ (omega arith) (c .whole .ensures)
 
 pub term-spec : {M : Type 1} → statement M
 term-spec =

@@ -1,24 +1,25 @@
-use mathlib.Core.Path.{_≡_, refl, _∙_}
+-- Each field is read from its own bytes.
+use mathlib.Core.Path.{_≡_, _∙_}
 use mir.Syntax.{w64}
 use mir.Val.{toZ, ofZ}
 use borrow.Author.Needs.{needs}
 use Rattle.parts.proofs.terms.whole.Statement.{statement}
 use Rattle.parts.proofs.terms.whole.Tie as tie
 
-shared-slice-read-t3 : tie.Need-shared-slice-read-t3
-shared-slice-read-t3 c = search needs
-
-shared-slice-read-t5 : tie.Need-shared-slice-read-t5
-shared-slice-read-t5 c = search needs
-
 signed-at-requires : tie.Need-signed-at-requires
 signed-at-requires c κs = search needs
 
+shared-slice-read-t4 : tie.Need-shared-slice-read-t4
+shared-slice-read-t4 c = search needs
+
+shared-slice-read-t6 : tie.Need-shared-slice-read-t6
+shared-slice-read-t6 c = search needs
+
 returns : tie.Need-returns
 returns c =
-    let z : toZ w64 (ofZ w64 (c .signed-at .result)) ≡ c .signed-at .result = search needs in
-    (refl, refl, z ∙ c .signed-at .ensures)
+    let z : toZ w64 (ofZ w64 (c .before .before .signed-at .result)) ≡ c .before .before .signed-at .result = search needs in
+    rw (z ∙ c .before .before .signed-at .ensures)
 
 pub whole-spec : {M : Type 1} → statement M
 whole-spec =
-    tie.close (tie.spec shared-slice-read-t3 shared-slice-read-t5 signed-at-requires returns)
+    tie.close (tie.spec signed-at-requires shared-slice-read-t4 shared-slice-read-t6 returns)

@@ -1,3 +1,4 @@
+-- By the tag: one more of its kind, and an unknown tag counts for none.
 use native.Mathlib.Omega.{arith}
 use Rattle.program.proofs.Counting.{one-variable, one-rule, one-constraint, one-unknown}
 use borrow.Author.Needs.{needs}

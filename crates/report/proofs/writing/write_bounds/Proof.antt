@@ -1,3 +1,4 @@
+-- Marked entries of one set, the second being empty.
 use mathlib.Core.Path.{ap}
 use native.Mathlib.Omega.{arith}
 use lib.ListN.{length}

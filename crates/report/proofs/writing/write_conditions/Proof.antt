@@ -1,3 +1,4 @@
+-- Marked entries of the two sets.
 use native.Mathlib.Omega.{arith}
 use Rattle.words.specs.Bit.{has}
 use Rattle.report.proofs.Entries.{marked-count}

@@ -1,3 +1,4 @@
+-- Four bytes at 4 i; all others stay.
 use mathlib.Core.Path.{ap, _∙_}
 use Prim.Native.Nat.{_/_, _%_}
 use native.Mathlib.Omega.{arith}

@@ -1,3 +1,4 @@
+-- Invariant: the entries of all variables below `from` are written; the next variable is the least that either set has.
 use mathlib.Core.Path.{_≡_, refl, _∙_}
 use mathlib.Core.List.{List, []}
 use Prim.Native.Nat.{ℕ, _-_, _≤_, _<_}

@@ -1,3 +1,4 @@
+-- By cases on whether the set has v.
 use mathlib.Core.Path.{sym, ap, _∙_}
 use native.Mathlib.Omega.{arith}
 use lib.IntN.{natAbs}

@@ -1,3 +1,4 @@
+-- The first set's entry, then the second's.
 use mathlib.Core.Path.{_≡_, ap, _∙_}
 use native.Mathlib.Omega.{arith}
 use lib.IntN.{pos, natAbs}

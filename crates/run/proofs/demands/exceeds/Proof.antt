@@ -1,6 +1,7 @@
+-- More is what comes after, in the head's order.
+use mathlib.Core.Path.{_≡_}
 use mir.Syntax.{w64}
 use mir.Val.{toZ, ofZ}
-use mathlib.Core.Path.{_≡_}
 use Rattle.run.proofs.RunLaws.{nothing-given, value-more, value-enough}
 use borrow.Author.Needs.{needs}
 use Rattle.run.proofs.demands.exceeds.Statement.{statement}
@@ -13,23 +14,27 @@ enum-told : tie.Need-enum-told
 enum-told c = search needs
 
 returns : tie.Need-returns
-returns c = nothing-given _ (c .enum-told .given .1)
+returns c = nothing-given (c .before .before .args .x) _ (c .enum-told .given .1)
+
+is-before-requires : tie.Need-is-before-requires
+is-before-requires c κs = search needs
 
 returns-2 : tie.Need-returns-2
 returns-2 c =
-    let g = c .before .before .given .given in
-    let s = c .before .before .before .before in
+    let g = c .before .before .before .given .given in
+    let s = c .before .before .before .before .before in
     let z : toZ w64 (ofZ w64 (g .0 .0)) ≡ g .0 .0 = search needs in
     let y : toZ w64 (ofZ w64 (s .args .value)) ≡ s .args .value = search needs in
-    rw z (value-more (s .args .value) (g .0 .0) (g .1) (simp (z, y) at (c .if1 .taken)))
+    rw z (value-more (s .args .x) (s .args .value) (g .0 .0) (g .1) (simp (z, y) at (c .before .is-before .ensures)) (c .if1 .taken))
 
 returns-3 : tie.Need-returns-3
 returns-3 c =
-    let g = c .before .before .given .given in
-    let s = c .before .before .before .before in
+    let g = c .before .before .before .given .given in
+    let s = c .before .before .before .before .before in
     let z : toZ w64 (ofZ w64 (g .0 .0)) ≡ g .0 .0 = search needs in
     let y : toZ w64 (ofZ w64 (s .args .value)) ≡ s .args .value = search needs in
-    value-enough (s .args .value) (g .0 .0) (g .1) (simp (z, y) at (c .if1 .left))
+    value-enough (s .args .x) (s .args .value) (g .0 .0) (g .1) (simp (z, y) at (c .before .is-before .ensures)) (c .if1 .left)
 
 pub exceeds-spec : {M : Type 1} → statement M
-exceeds-spec = tie.close (tie.spec enum-known-given enum-told returns returns-2 returns-3)
+exceeds-spec =
+    tie.close (tie.spec enum-known-given enum-told returns is-before-requires returns-2 returns-3)

@@ -1,11 +1,12 @@
+-- What the rule gives is held against its head's value, in the order of the head's variable.
 use Prim.Native.Nat.{ℕ}
-use mathlib.Core.Path.{_≡_, sym, ap, _∙_}
+use mathlib.Core.Path.{_≡_, ap, _∙_}
 use lib.IntN.{ℤ, pos}
 use lib.ListN.{getD}
 use mir.Syntax.{w64}
 use mir.Val.{toZ, ofZ}
 use Rattle.run.specs.Running.{headOf}
-use Rattle.run.proofs.RunLaws.{head-inside, here-head, demanded}
+use Rattle.run.proofs.RunLaws.{head-lies, here-head, head-field, head-variable, demanded}
 use borrow.Author.Needs.{needs}
 use Rattle.run.proofs.demands.look.Statement.{statement}
 use Rattle.run.proofs.demands.look.Tie as tie
@@ -25,9 +26,11 @@ element-copy-out-mask c = search needs
 demand-requires : tie.Need-demand-requires
 demand-requires c κs = search needs
 
-head-of-requires : tie.Need-head-of-requires
-head-of-requires c κs =
-    let s = c .before .before .before .before in (s .pre .0, head-inside (s .pre .1 .0 .here))
+head-at-requires : tie.Need-head-at-requires
+head-at-requires c κs = head-lies (c .before .before .before .before .pre .1 .0 .here)
+
+variable-requires : tie.Need-variable-requires
+variable-requires c κs = head-field (c .before .before .before .before .before .pre .1 .0 .here) (c .head-at .ensures)
 
 wide-requires : tie.Need-wide-requires
 wide-requires c κs = search needs
@@ -43,12 +46,14 @@ exceeds-requires c κs = search needs
 
 returns : tie.Need-returns
 returns c =
-    let a = c .before .before .before .before .before .before .before .before .args in
+    let a = c .before .before .before .before .before .before .before .before .before .args in
     let x = c .before .before .wide in
     let v : ℤ = getD (a .model .now) (x .result) (pos 0) in
-    let z : toZ w64 (ofZ w64 v) ≡ v = search needs in λ P h.
-    let e : x .result ≡ headOf P (a .i) = x .ensures .0 ∙ c .before .before .before .head-of .ensures ∙ sym (here-head h) in
-    demanded P _ _ (a .i) (c .exceeds .ensures) (c .before .before .before .before .demand .ensures P (a .i) h) (z ∙ ap (λ (k : ℕ). getD (a .model .now) k (pos 0)) e)
+    let z : toZ w64 (ofZ w64 v) ≡ v = search needs in
+    λ P h.
+    let e : x .result ≡ headOf P (a .i) = x .ensures .0 ∙ here-head h (c .before .before .before .before .head-at .ensures) in
+    demanded P _ _ (a .i) (c .exceeds .ensures) (head-variable h (c .before .before .before .before .head-at .ensures) (c .before .before .before .variable .ensures)) (c .before .before .before .before .before .demand .ensures P (a .i) h)
+    (z ∙ ap (λ (k : ℕ). getD (a .model .now) k (pos 0)) e)
 
 pub look-spec : {M : Type 1} → statement M
 look-spec =
@@ -59,7 +64,8 @@ look-spec =
     mul-mask
     element-copy-out-mask
     demand-requires
-    head-of-requires
+    head-at-requires
+    variable-requires
     wide-requires
     mul-value
     element-copy-out-value

@@ -1,3 +1,4 @@
+-- Invariant: the rules that left the set are met; the lowest that demands more is the answer.
 use mathlib.Core.Path.{_≡_}
 use lib.ListN.{length}
 use mir.Syntax.{w64}

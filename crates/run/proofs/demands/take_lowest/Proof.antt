@@ -1,3 +1,4 @@
+-- The least bit of the set is dropped, or there is none.
 use mathlib.Core.Path.{_∙_}
 use native.Mathlib.Omega.{arith}
 use Rattle.words.specs.Bit.{has}

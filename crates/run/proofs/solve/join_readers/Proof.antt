@@ -1,3 +1,4 @@
+-- The row of x has the rules that read it at a kept position.
 use Prim.Native.Nat.{_*_}
 use Rattle.tables.specs.Tabled.{rowWords}
 use native.Mathlib.Omega.{arith}

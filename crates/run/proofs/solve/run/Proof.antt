@@ -1,21 +1,20 @@
+-- At the starting ends every model is above, and every rule waits.
 use Rattle.tables.specs.Tabled.{rowWords}
 use Rattle.words.proofs.Bits.{none-in}
-use Rattle.validity.proofs.RuleLaws.{variables-few, variables-inside}
-use Rattle.tables.proofs.TableLaws.{rules-few}
-use Rattle.reader.proofs.Accepted.{counted}
+use Rattle.reader.proofs.Published.{limited}
 use Rattle.run.proofs.StartLaws.{begun}
 use borrow.Author.Needs.{needs}
 use Rattle.run.proofs.solve.run.Statement.{statement}
 use Rattle.run.proofs.solve.run.Tie as tie
 
 start-values-requires : tie.Need-start-values-requires
-start-values-requires c κs = let b = c .before .before in let k = counted _ _ (b .pre .0) in ((variables-inside k, variables-few k), b .pre .1 .1 .1 .1)
+start-values-requires c κs = let b = c .before .before in let f = limited (b .pre .0) in ((f .inside, f .few-variables), b .pre .1 .1 .1 .1)
 
 slice-aggregate-fill-bits : tie.Need-slice-aggregate-fill-bits
 slice-aggregate-fill-bits c = search needs
 
 fill-bits-requires : tie.Need-fill-bits-requires
-fill-bits-requires c κs = rules-few (counted _ _ (c .before .before .before .before .pre .0))
+fill-bits-requires c κs = limited (c .before .before .before .before .pre .0) .few-rules
 
 solve-requires : tie.Need-solve-requires
 solve-requires c κs = let b = c .before .before .before .before .before .before .before .before in (

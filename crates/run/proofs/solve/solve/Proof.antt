@@ -1,15 +1,17 @@
+-- Each raise keeps the values at or before every model and brings one of them nearer to its far end.
 use mathlib.Core.Path.{_≡_}
+use native.Mathlib.Omega.{arith}
 use lib.ListN.{length}
 use mir.Syntax.{w64}
 use mir.Val.{toZ, ofZ}
 use borrow.Author.Tests.{not-true, not-false}
+use borrow.Author.Needs.{needs}
 use Rattle.format.specs.Limits.{maxVariables}
 use Rattle.program.specs.Program.{variablesAt}
-use Rattle.run.specs.Running.{Running}
-use Rattle.tables.specs.Tabled.{rowWords}
 use Rattle.meaning.proofs.Steps.{gap}
-use Rattle.run.proofs.SolveLaws.{run-ready, run-small, run-stepped, run-ended, run-done, run-among, run-inside, head-field, no-lift, lift-on, lift-nearer}
-use borrow.Author.Needs.{needs}
+use Rattle.tables.specs.Tabled.{rowWords}
+use Rattle.run.specs.Running.{Running}
+use Rattle.run.proofs.SolveLaws.{run-ready, run-small, run-stepped, run-ended, run-done, run-among, run-head, run-field, no-lift, lift-on, lift-nearer}
 use Rattle.run.proofs.solve.solve.Statement.{statement}
 use Rattle.run.proofs.solve.solve.Tie as tie
 
@@ -21,12 +23,10 @@ abbrev μ-loop : tie.MeasureT-loop
 μ-loop file places masks readers model₀ assigned waiting₀ model waiting = gap (variablesAt file maxVariables) model
 
 loop-holds : tie.Need-loop-holds Inv-loop μ-loop
-loop-holds c =
-    let p = c .before .pre in (p .0, p .1 .0, p .1 .1)
+loop-holds c = let p = c .before .pre in (p .0, p .1 .0, p .1 .1)
 
 step-requires : tie.Need-step-requires Inv-loop μ-loop
-step-requires c κs =
-    let i = c .before .before .loop .inv in (run-ready (i .0), (run-small (i .0), i .2))
+step-requires c κs = let i = c .before .before .loop .inv in (run-ready (i .0), (run-small (i .0), i .2))
 
 enum-known-next : tie.Need-enum-known-next Inv-loop μ-loop
 enum-known-next c = search needs
@@ -40,51 +40,75 @@ returns c =
     let d = c .before .before .step .ensures in
     (i .1, (d .0, run-done (i .0) (run-ended (i .0) _ (d .1 .1) (c .enum-told .given .1))))
 
-head-of-requires : tie.Need-head-of-requires Inv-loop μ-loop
-head-of-requires c κs =
+mul-head-at : tie.Need-mul-head-at Inv-loop μ-loop
+mul-head-at c =
     let l = c .before .before .before .before .before .before .loop in
     let d = c .before .before .before .step .ensures in
     let n = c .before .next .given in
     let x = run-stepped (l .inv .0) _ (d .1 .1) (n .1) in
-    (run-among (l .inv .0) _ x, run-inside (l .inv .0) _ x)
+    let m = run-among (l .inv .0) _ x in omega arith
+
+element-copy-out-head-at : tie.Need-element-copy-out-head-at Inv-loop μ-loop
+element-copy-out-head-at c =
+    let l = c .before .before .before .before .before .before .loop in
+    let d = c .before .before .before .step .ensures in
+    let n = c .before .next .given in
+    let x = run-stepped (l .inv .0) _ (d .1 .1) (n .1) in
+    let m = run-among (l .inv .0) _ x in search needs
+
+head-at-requires : tie.Need-head-at-requires Inv-loop μ-loop
+head-at-requires c κs =
+    let l = c .before .before .before .before .before .before .before .loop in
+    let d = c .before .before .before .before .step .ensures in
+    let n = c .before .before .next .given in
+    let x = run-stepped (l .inv .0) _ (d .1 .1) (n .1) in
+    run-head (l .inv .0) _ x
+
+variable-requires : tie.Need-variable-requires Inv-loop μ-loop
+variable-requires c κs =
+    let l = c .before .before .before .before .before .before .before .before .loop in
+    let d = c .before .before .before .before .before .step .ensures in
+    let n = c .before .before .before .next .given in
+    let x = run-stepped (l .inv .0) _ (d .1 .1) (n .1) in
+    run-field (l .inv .0) _ x (c .head-at .ensures)
 
 raise-requires : tie.Need-raise-requires Inv-loop μ-loop
 raise-requires c κs =
-    let l = c .before .before .before .before .before .before .before .before .before .loop in
-    let d = c .before .before .before .before .before .before .step .ensures in
-    let n = c .before .before .before .before .next .given in
-    let x = run-stepped (l .inv .0) _ (d .1 .1) (n .1) in
-    (head-field (l .inv .0) _ x (c .before .before .head-of .ensures), (l .inv .1, d .0))
+    let l = c .before .before .before .before .before .before .before .before .before .before .before .loop in
+    (l .inv .1, c .before .before .before .before .before .before .before .before .step .ensures .0)
 
 returns-2 : tie.Need-returns-2 Inv-loop μ-loop
 returns-2 c =
-    let l = c .before .before .before .before .before .before .before .before .before .before .before .loop in
-    let d = c .before .before .before .before .before .before .before .before .step .ensures in
-    let n = c .before .before .before .before .before .before .next .given in
+    let l = c .before .before .before .before .before .before .before .before .before .before .before .before .before .loop in
+    let d = c .before .before .before .before .before .before .before .before .before .before .step .ensures in
+    let n = c .before .before .before .before .before .before .before .before .next .given in
     let x = run-stepped (l .inv .0) _ (d .1 .1) (n .1) in
     let z : toZ w64 (ofZ w64 (n .0 .1 .0)) ≡ n .0 .1 .0 = search needs in
     let r = c .before .raise in
-    (r .ensures .0, (r .ensures .1 .0, no-lift (l .inv .0) _ x (c .before .before .before .before .head-of .ensures) z (r .last .1 .1 .1 .1 .0) (r .last .1 .1 .1 .1 .1 .0) (r .result) (r .ensures .1 .1) (not-true _ (c .if1 .taken))))
+    (r .ensures .0, (r .ensures .1 .0, no-lift (l .inv .0) _ x (c .before .before .before .before .before .head-at .ensures) (c .before .before .before .before .variable .ensures) z (r .last .1 .1 .1 .1 .0) (r .last .1 .1 .1 .1 .1 .0) (r .result) (r .ensures .1 .1) (not-true _ (c .if1 .taken))))
 
 loop-less : tie.Need-loop-less Inv-loop μ-loop
 loop-less c =
-    let l = c .before .before .before .before .before .before .before .before .before .before .before .loop in
-    let d = c .before .before .before .before .before .before .before .before .step .ensures in
-    let n = c .before .before .before .before .before .before .next .given in
+    let l = c .before .before .before .before .before .before .before .before .before .before .before .before .before .loop in
+    let d = c .before .before .before .before .before .before .before .before .before .before .step .ensures in
+    let n = c .before .before .before .before .before .before .before .before .next .given in
     let x = run-stepped (l .inv .0) _ (d .1 .1) (n .1) in
     let z : toZ w64 (ofZ w64 (n .0 .1 .0)) ≡ n .0 .1 .0 = search needs in
     let r = c .before .raise in
-    lift-nearer (l .inv .0) _ x (c .before .before .before .before .head-of .ensures) z (r .last .1 .1 .1 .1 .0) (r .last .1 .1 .1 .1 .1 .0) (r .result) (r .ensures .1 .1) (not-false _ (c .if1 .left)) (d .1 .0) (l .inv .1)
+    lift-nearer (l .inv .0) _ x (c .before .before .before .before .before .head-at .ensures) (c .before .before .before .before .variable .ensures) z (r .last .1 .1 .1 .1 .0) (r .last .1 .1 .1 .1 .1 .0) (r .result) (r .ensures .1 .1) (not-false _ (c .if1 .left)) (d .1 .0) (l .inv .1)
 
 loop-again : tie.Need-loop-again Inv-loop μ-loop
 loop-again c =
-    let l = c .before .before .before .before .before .before .before .before .before .before .before .loop in
-    let d = c .before .before .before .before .before .before .before .before .step .ensures in
-    let n = c .before .before .before .before .before .before .next .given in
+    let l = c .before .before .before .before .before .before .before .before .before .before .before .before .before .loop in
+    let d = c .before .before .before .before .before .before .before .before .before .before .step .ensures in
+    let n = c .before .before .before .before .before .before .before .before .next .given in
     let x = run-stepped (l .inv .0) _ (d .1 .1) (n .1) in
     let z : toZ w64 (ofZ w64 (n .0 .1 .0)) ≡ n .0 .1 .0 = search needs in
-    let r = c .before .raise in
-    (lift-on (l .inv .0) _ x (c .before .before .before .before .head-of .ensures) z (r .last .1 .1 .1 .1 .0) (r .last .1 .1 .1 .1 .1 .0) (r .result) (r .ensures .1 .1) (not-false _ (c .if1 .left)) (d .1 .0) (l .inv .1), r .ensures .0, r .ensures .1 .0)
+    let r = c .before .raise in (
+      lift-on (l .inv .0) _ x (c .before .before .before .before .before .head-at .ensures) (c .before .before .before .before .variable .ensures) z (r .last .1 .1 .1 .1 .0) (r .last .1 .1 .1 .1 .1 .0) (r .result) (r .ensures .1 .1) (not-false _ (c .if1 .left)) (d .1 .0) (l .inv .1),
+      r .ensures .0,
+      r .ensures .1 .0,
+    )
 
 pub solve-spec : {M : Type 1} → statement M
 solve-spec =
@@ -97,7 +121,10 @@ solve-spec =
     enum-known-next
     enum-told
     returns
-    head-of-requires
+    mul-head-at
+    element-copy-out-head-at
+    head-at-requires
+    variable-requires
     raise-requires
     returns-2
     loop-less

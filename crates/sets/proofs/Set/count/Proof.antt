@@ -1,3 +1,4 @@
+-- The ones of the four words, added.
 use Prim.Native.Nat.{ℕ, _≤_, _<_, _^_}
 use native.Mathlib.Omega.{arith}
 use lib.Count.{ones, ones-le}

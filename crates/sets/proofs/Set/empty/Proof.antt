@@ -1,3 +1,4 @@
+-- Words of 0 have no bit.
 use Rattle.words.specs.Bit.{wordCount}
 use Rattle.words.proofs.Bits.{none-in}
 use Rattle.sets.proofs.Set.empty.Statement.{statement}

@@ -1,3 +1,4 @@
+-- The word of v gets its bit; no other bit changes.
 use mathlib.Core.Path.{_≡_}
 use Prim.Native.Nat.{_<_, _/_, _%_}
 use lib.ListN.{length}

@@ -1,3 +1,4 @@
+-- Word by word, a bit is in either.
 use Rattle.words.proofs.Bits.{has-union}
 use borrow.Author.Needs.{needs}
 use Rattle.sets.proofs.Set.union.Statement.{statement}

@@ -1,14 +1,15 @@
+-- One rule after the other: each stands where the one before it ends.
+use Prim.Native.Nat.{_+_, _≤_, _-_}
+use mathlib.Core.Path.{_≡_, ap, _∙_}
 use native.Mathlib.Omega.{arith}
 use borrow.Author.Needs.{needs}
-use Prim.Native.Nat.{_+_, _≤_, _-_}
+use Rattle.program.specs.Tables.{anyBelow}
 use Rattle.program.specs.Fields.{place}
 use Rattle.program.specs.Program.{variablesAt}
-use mathlib.Core.Path.{_≡_, ap, _∙_}
-use Rattle.program.specs.Tables.{anyBelow}
 use Rattle.program.proofs.Conditions.{any-none, any-more}
 use Rattle.edges.specs.Edges.{anyMixed}
 use Rattle.validity.specs.Marks.{ruleAt}
-use Rattle.validity.proofs.RuleLaws.{variables-inside, first-rule, next-rule, rule-inside, standing-part, part-rule, mixed-all}
+use Rattle.validity.proofs.RuleLaws.{variables-inside, first-rule, next-rule, rule-inside, standing-at, field-rule, mixed-all}
 use Rattle.validity.proofs.rules.any_mixed.Statement.{statement}
 use Rattle.validity.proofs.rules.any_mixed.Tie as tie
 
@@ -25,23 +26,14 @@ mul-at c = omega (arith, variables-inside (c .before .pre))
 loop-holds : tie.Need-loop-holds Inv-loop μ-loop
 loop-holds c = (omega arith, first-rule (c .before .pre), any-none _)
 
-extent-requires : tie.Need-extent-requires Inv-loop μ-loop
-extent-requires c κs = rule-inside (c .before .before .before .pre) _ (omega arith) _ (c .before .loop .inv .1)
-
-add-is-mixed : tie.Need-add-is-mixed Inv-loop μ-loop
-add-is-mixed c = search needs
-
-sub-is-mixed : tie.Need-sub-is-mixed Inv-loop μ-loop
-sub-is-mixed c = search needs
-
-part-is-mixed-start : tie.Need-part-is-mixed-start Inv-loop μ-loop
-part-is-mixed-start c = search needs
-
-part-is-mixed-end : tie.Need-part-is-mixed-end Inv-loop μ-loop
-part-is-mixed-end c = search needs
+value-at-requires : tie.Need-value-at-requires Inv-loop μ-loop
+value-at-requires c κs = rule-inside (c .before .before .before .pre) _ (omega arith) (c .before .loop .inv .1)
 
 is-mixed-requires : tie.Need-is-mixed-requires Inv-loop μ-loop
-is-mixed-requires c κs = standing-part (c .before .before .before .before .before .pre) _ (omega arith) _ (c .before .before .before .loop .inv .1) (c .before .extent .ensures)
+is-mixed-requires c κs = standing-at (c .before .before .before .before .pre) _ (omega arith) (c .before .before .loop .inv .1) (c .value-at .ensures)
+
+next-at-requires : tie.Need-next-at-requires Inv-loop μ-loop
+next-at-requires c κs = rule-inside (c .before .before .before .before .before .pre) _ (omega arith) (c .before .before .before .loop .inv .1)
 
 add-i : tie.Need-add-i Inv-loop μ-loop
 add-i c = search needs
@@ -52,8 +44,8 @@ loop-less c = search needs
 loop-again : tie.Need-loop-again Inv-loop μ-loop
 loop-again c =
     let l = c .before .before .before .before .loop in
-    let x = c .before .before .extent .ensures in
-    (omega arith, next-rule _ _ _ _ (l .inv .1) x, any-more _ _ _ _ (l .inv .2) (c .is-mixed .ensures ∙ ap (anyMixed _) (part-rule _ _ _ _ (l .inv .1) x)))
+    let e = field-rule _ _ _ (l .inv .1) (c .before .before .value-at .ensures) in
+    (omega arith, next-rule _ _ _ (l .inv .1) (c .next-at .ensures), any-more _ _ _ _ (l .inv .2) (c .before .is-mixed .ensures ∙ ap (anyMixed _) e))
 
 returns : tie.Need-returns Inv-loop μ-loop
 returns c = mixed-all _ _ (omega arith) (c .before .loop .inv .2)
@@ -66,12 +58,9 @@ any-mixed-spec =
     μ-loop
     mul-at
     loop-holds
-    extent-requires
-    add-is-mixed
-    sub-is-mixed
-    part-is-mixed-start
-    part-is-mixed-end
+    value-at-requires
     is-mixed-requires
+    next-at-requires
     add-i
     loop-less
     loop-again

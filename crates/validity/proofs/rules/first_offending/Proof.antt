@@ -1,14 +1,15 @@
-use native.Mathlib.Omega.{arith}
-use borrow.Author.Needs.{needs}
+-- One rule after the other: the first that offends ends the loop.
 use Prim.Native.Nat.{ℕ, _+_, _≤_, _<_, _-_}
-use Rattle.program.specs.Fields.{place}
-use Rattle.program.specs.Program.{variablesAt}
 use mathlib.Core.Path.{_≡_, sym, ap, _∙_}
 use mathlib.Core.Bool.{false}
+use native.Mathlib.Omega.{arith}
+use borrow.Author.Needs.{needs}
+use Rattle.program.specs.Fields.{place}
+use Rattle.program.specs.Program.{variablesAt}
 use Rattle.reach.specs.Rows.{rowHas}
 use Rattle.edges.specs.Edges.{offendsIn}
 use Rattle.validity.specs.Marks.{ruleAt}
-use Rattle.validity.proofs.RuleLaws.{variables-inside, first-rule, next-rule, rule-inside, standing-part, part-rule, none-more}
+use Rattle.validity.proofs.RuleLaws.{variables-inside, first-rule, next-rule, rule-inside, standing-at, field-rule, none-more}
 use Rattle.validity.proofs.rules.first_offending.Statement.{statement}
 use Rattle.validity.proofs.rules.first_offending.Tie as tie
 
@@ -25,35 +26,26 @@ mul-at c = omega (arith, variables-inside (c .before .pre))
 loop-holds : tie.Need-loop-holds Inv-loop μ-loop
 loop-holds c = (omega arith, first-rule (c .before .pre), λ j l. absurd (omega arith))
 
-extent-requires : tie.Need-extent-requires Inv-loop μ-loop
-extent-requires c κs = rule-inside (c .before .before .before .pre) _ (omega arith) _ (c .before .loop .inv .1)
-
-add-offends : tie.Need-add-offends Inv-loop μ-loop
-add-offends c = search needs
-
-sub-offends : tie.Need-sub-offends Inv-loop μ-loop
-sub-offends c = search needs
-
-part-offends-start : tie.Need-part-offends-start Inv-loop μ-loop
-part-offends-start c = search needs
-
-part-offends-end : tie.Need-part-offends-end Inv-loop μ-loop
-part-offends-end c = search needs
+value-at-requires : tie.Need-value-at-requires Inv-loop μ-loop
+value-at-requires c κs = rule-inside (c .before .before .before .pre) _ (omega arith) (c .before .loop .inv .1)
 
 offends-requires : tie.Need-offends-requires Inv-loop μ-loop
-offends-requires c κs = standing-part (c .before .before .before .before .before .pre) _ (omega arith) _ (c .before .before .before .loop .inv .1) (c .before .extent .ensures)
+offends-requires c κs = standing-at (c .before .before .before .before .pre) _ (omega arith) (c .before .before .loop .inv .1) (c .value-at .ensures)
 
 returns : tie.Need-returns Inv-loop μ-loop
 returns c =
-    let l = c .before .before .before .before .before .loop in
-    let x = c .before .before .before .extent .ensures in
+    let l = c .before .before .before .before .loop in
+    let e = field-rule _ _ _ (l .inv .1) (c .before .before .value-at .ensures) in
     record {
       rule = l .rule;
       among = omega arith;
-      offends = sym (c .before .offends .ensures ∙ ap (offendsIn _ _) (part-rule _ _ _ _ (l .inv .1) x)) ∙ c .if1 .taken;
+      offends = sym (c .before .offends .ensures ∙ ap (offendsIn _ _) e) ∙ c .if1 .taken;
       first = l .inv .2;
       placed = l .inv .1;
     }
+
+next-at-requires : tie.Need-next-at-requires Inv-loop μ-loop
+next-at-requires c κs = rule-inside (c .before .before .before .before .before .before .pre) _ (omega arith) (c .before .before .before .before .loop .inv .1)
 
 add-rule : tie.Need-add-rule Inv-loop μ-loop
 add-rule c = search needs
@@ -64,14 +56,11 @@ loop-less c = search needs
 loop-again : tie.Need-loop-again Inv-loop μ-loop
 loop-again c =
     let l = c .before .before .before .before .before .loop in
-    let x = c .before .before .before .extent .ensures in (
-      omega arith,
-      next-rule _ _ _ _ (l .inv .1) x,
-      none-more _ _ (l .inv .2) (sym (c .before .offends .ensures ∙ ap (offendsIn _ _) (part-rule _ _ _ _ (l .inv .1) x)) ∙ c .if1 .left),
-    )
+    let e = field-rule _ _ _ (l .inv .1) (c .before .before .before .value-at .ensures) in
+    (omega arith, next-rule _ _ _ (l .inv .1) (c .next-at .ensures), none-more _ _ (l .inv .2) (sym (c .before .before .offends .ensures ∙ ap (offendsIn _ _) e) ∙ c .before .if1 .left))
 
 returns-2 : tie.Need-returns-2 Inv-loop μ-loop
-returns-2 c = λ j l. c .before .loop .inv .2 j (omega arith)
+returns-2 c = λ i l. c .before .loop .inv .2 i (omega arith)
 
 pub first-offending-spec : {M : Type 1} → statement M
 first-offending-spec =
@@ -81,13 +70,10 @@ first-offending-spec =
     μ-loop
     mul-at
     loop-holds
-    extent-requires
-    add-offends
-    sub-offends
-    part-offends-start
-    part-offends-end
+    value-at-requires
     offends-requires
     returns
+    next-at-requires
     add-rule
     loop-less
     loop-again

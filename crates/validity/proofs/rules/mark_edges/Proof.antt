@@ -1,16 +1,17 @@
-use native.Mathlib.Omega.{arith}
-use borrow.Author.Needs.{needs}
+-- One rule after the other: each stands where the one before it ends.
 use Prim.Native.Nat.{_+_, _≤_, _-_}
-use Rattle.program.specs.Fields.{place}
-use Rattle.program.specs.Program.{variablesAt}
 use mathlib.Core.Path.{_≡_, ap}
 use lib.ListN.{length}
+use native.Mathlib.Omega.{arith}
+use borrow.Author.Needs.{needs}
 use Rattle.program.specs.Tables.{anyBelow}
+use Rattle.program.specs.Fields.{place}
+use Rattle.program.specs.Program.{variablesAt}
 use Rattle.reach.specs.Rows.{rowsLength, rowHas}
 use Rattle.edges.specs.Edges.{Grown, drawsIn}
+use Rattle.edges.proofs.PositionLaws.{grown-none, grown-more, grown-as}
 use Rattle.validity.specs.Marks.{ruleAt}
-use Rattle.edges.proofs.PlaceLaws.{grown-none, grown-more, grown-as}
-use Rattle.validity.proofs.RuleLaws.{variables-inside, first-rule, next-rule, rule-inside, standing-part, part-rule, edges-all}
+use Rattle.validity.proofs.RuleLaws.{variables-inside, first-rule, next-rule, rule-inside, standing-at, field-rule, edges-all}
 use Rattle.validity.proofs.rules.mark_edges.Statement.{statement}
 use Rattle.validity.proofs.rules.mark_edges.Tie as tie
 
@@ -28,23 +29,14 @@ mul-at c = omega (arith, variables-inside (c .before .pre .0))
 loop-holds : tie.Need-loop-holds Inv-loop μ-loop
 loop-holds c = (omega arith, first-rule (c .before .pre .0), c .before .pre .1, grown-none _ _)
 
-extent-requires : tie.Need-extent-requires Inv-loop μ-loop
-extent-requires c κs = rule-inside (c .before .before .before .pre .0) _ (omega arith) _ (c .before .loop .inv .1)
-
-add-mark-rule : tie.Need-add-mark-rule Inv-loop μ-loop
-add-mark-rule c = search needs
-
-sub-mark-rule : tie.Need-sub-mark-rule Inv-loop μ-loop
-sub-mark-rule c = search needs
-
-part-mark-rule-start : tie.Need-part-mark-rule-start Inv-loop μ-loop
-part-mark-rule-start c = search needs
-
-part-mark-rule-end : tie.Need-part-mark-rule-end Inv-loop μ-loop
-part-mark-rule-end c = search needs
+value-at-requires : tie.Need-value-at-requires Inv-loop μ-loop
+value-at-requires c κs = rule-inside (c .before .before .before .pre .0) _ (omega arith) (c .before .loop .inv .1)
 
 mark-rule-requires : tie.Need-mark-rule-requires Inv-loop μ-loop
-mark-rule-requires c κs = (standing-part (c .before .before .before .before .before .before .pre .0) _ (omega arith) _ (c .before .before .before .before .loop .inv .1) (c .before .before .extent .ensures), c .before .before .before .before .loop .inv .2)
+mark-rule-requires c κs = (standing-at (c .before .before .before .before .before .pre .0) _ (omega arith) (c .before .before .before .loop .inv .1) (c .before .value-at .ensures), c .before .before .before .loop .inv .2)
+
+next-at-requires : tie.Need-next-at-requires Inv-loop μ-loop
+next-at-requires c κs = rule-inside (c .before .before .before .before .before .before .pre .0) _ (omega arith) (c .before .before .before .before .loop .inv .1)
 
 add-i : tie.Need-add-i Inv-loop μ-loop
 add-i c = search needs
@@ -55,11 +47,11 @@ loop-less c = search needs
 loop-again : tie.Need-loop-again Inv-loop μ-loop
 loop-again c =
     let l = c .before .before .before .before .before .loop in
-    let x = c .before .before .before .extent .ensures in (
+    let e = field-rule _ _ _ (l .inv .1) (c .before .before .before .value-at .ensures) in (
       omega arith,
-      next-rule _ _ _ _ (l .inv .1) x,
-      c .mark-rule .ensures .0,
-      grown-more _ _ (l .inv .3) (grown-as (ap (drawsIn _) (part-rule _ _ _ _ (l .inv .1) x)) (c .mark-rule .ensures .1)),
+      next-rule _ _ _ (l .inv .1) (c .next-at .ensures),
+      c .before .mark-rule .ensures .0,
+      grown-more _ _ (l .inv .3) (grown-as (ap (drawsIn _) e) (c .before .mark-rule .ensures .1)),
     )
 
 returns : tie.Need-returns Inv-loop μ-loop
@@ -73,12 +65,9 @@ mark-edges-spec =
     μ-loop
     mul-at
     loop-holds
-    extent-requires
-    add-mark-rule
-    sub-mark-rule
-    part-mark-rule-start
-    part-mark-rule-end
+    value-at-requires
     mark-rule-requires
+    next-at-requires
     add-i
     loop-less
     loop-again

@@ -1,3 +1,4 @@
+-- At the file's end there is none; else its header and its value fit, or it is cut short.
 use native.Mathlib.Omega.{arith}
 use Rattle.fields.proofs.FieldLaws.{field-end, field-no-header, field-no-value, field-whole}
 use borrow.Author.Needs.{needs}

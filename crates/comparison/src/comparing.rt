@@ -1,0 +1,68 @@
+// An assignment that lies in its ranges and meets every rule and constraint: stable or unfounded.
+ghost use Prim.Native.Nat.{_*_, _≤_};
+ghost use lib.ListN.{length};
+ghost use Rattle.words.specs.Bit.{has};
+ghost use Rattle.program.specs.Program.{Program};
+ghost use Rattle.program.specs.Reading.{AcceptedAs, Accepts};
+ghost use Rattle.meaning.specs.Stable.{Meets};
+ghost use Rattle.tables.specs.Tabled.{TablesOf};
+ghost use Rattle.verdict.specs.Checks.{answerOf, Judged, checkBytes};
+ghost use Rattle.comparison.specs.Shows.{entryCount, ShowsSets};
+ghost use Rattle.program.specs.Readings.{valued};
+ghost use Rattle.program.specs.Evaluable.{Small};
+use crate::reporting::write_report;
+use conditions::asked::asked;
+use conditions::asking::Asked;
+use conditions::short::short_set;
+use format::Format;
+use program::Counts;
+use run::solve::run;
+use sets::Set;
+use tables::Tables;
+use verdict::Verdict;
+
+// The set is shown, with its conditions.
+fn show(
+    report: &mut [u8],
+    set: Set,
+    asked: Asked,
+    model: &[i64; Format::MAX_VARIABLES],
+    assigned: &[i64; Format::MAX_VARIABLES],
+) -> Verdict
+    requires { ⌜ 4 * entryCount (has (set .words)) (has (asked .most .words)) (has (asked .least .words)) ≤ length (now report) ⌝ }
+    requires { ⌜ Small (now model) × Small (now assigned) ⌝ }
+    ensures { λ r. ⌜ ShowsSets (has (set .words)) (has (asked .most .words)) (has (asked .least .words)) (valued (now (model .entry))) (valued (now (assigned .entry))) (now (report .entry)) (now (report .exit)) r ⌝ }
+{
+    write_report(report, set, asked, model, assigned);
+    let bounds = set.count() as usize;
+    let most = asked.most.count() as usize;
+    let least = asked.least.count() as usize;
+    Verdict::Unfounded(bounds, most + least)
+}
+
+// The least model is compared with the assignment.
+pub fn compare(
+    file: &[u8],
+    counts: Counts,
+    places: &[usize; Format::MAX_RULES],
+    masks: &[u32; Format::MAX_RULES],
+    readers: &[u64; Tables::READERS],
+    assigned: &[i64; Format::MAX_VARIABLES],
+    report: &mut [u8],
+) -> Verdict
+    requires { ⌜ AcceptedAs (now file) counts ⌝ }
+    requires { ⌜ TablesOf (now file) (now places) (now masks) (now readers) ⌝ }
+    requires { ⌜ ((P : Program) → Accepts (now file) P → Meets P (valued (now assigned))) ⌝ }
+    requires { ⌜ checkBytes * counts .variables ≤ length (now report) ⌝ }
+    ensures { λ r. ⌜ ((P : Program) → Accepts (now (file .entry)) P → Judged P (valued (now (assigned .entry))) (now (report .entry)) (answerOf r) (now (report .exit))) ⌝ }
+{
+    let n = counts.variables;
+    let mut model = [0i64; Format::MAX_VARIABLES];
+    run(file, counts, places, masks, readers, assigned, &mut model);
+    let set = short_set(file, n, assigned, &model);
+    if set.count() == 0 {
+        return Verdict::Stable;
+    }
+    let conditions = asked(file, counts, places, set);
+    show(report, set, conditions, &model, assigned)
+}

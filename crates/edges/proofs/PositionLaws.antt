@@ -1,0 +1,124 @@
+-- The positions of one rule, and rows that take in edges, case by case.
+use Prim.Native.Nat.{ℕ, _+_}
+use mathlib.Core.Path.{_≡_, refl, sym, ap, _∙_, subst}
+use mathlib.Core.List.{List}
+use mathlib.Core.Bool.{Bool, true, false, _||_, _&&_, or-false, or-comm, or-assoc}
+use native.Mathlib.Decide.{ℕ-discrete}
+use lib.ListN.{length}
+use lib.Dec.{eqb}
+use borrow.Author.Tests.{eq-eqb, ne-eqb}
+use Rattle.reach.specs.Rows.{Marked}
+use Rattle.program.specs.Tables.{anyBelow}
+use Rattle.program.specs.Program.{Rule, termIn}
+use Rattle.program.specs.Directions.{direction, isFalling, isMixed}
+use Rattle.program.specs.declared.Direction.{Direction}
+use Rattle.program.specs.declared.Direction.the-variants.{Rising, Falling, Mixed}
+use Rattle.program.proofs.Conditions.{any-next, never}
+use Rattle.edges.specs.Edges.{Grown, anyMixed, drawsEdge, drawsAt, drawsIn, shareIn, offendsAt, offendsIn}
+use Rattle.program.specs.declared.Variable.{Variable}
+
+-- ---- rows that take in edges
+
+eqb-swap : (a b : ℕ) → eqb a b ≡ eqb b a
+eqb-swap a b = go (ℕ-discrete a b)
+  where
+    go : Dec (a ≡ b) → eqb a b ≡ eqb b a
+    go (yes e) = eq-eqb a b e ∙ sym (eq-eqb b a (sym e))
+    go (no f) = ne-eqb a b f ∙ sym (ne-eqb b a (λ e. f (sym e)))
+
+pub grown-as : {r r′ e e′ : ℕ → ℕ → Bool} → e ≡ e′ → Grown r r′ e → Grown r r′ e′
+grown-as {r} {r′} q g = subst (Grown r r′) q g
+
+module _ (p : ℕ → ℕ → ℕ → Bool) where
+  pub grown-none : (r : ℕ → ℕ → Bool) → Grown r r (λ a b. anyBelow 0 (λ i. p i a b))
+  unfolding anyBelow
+  grown-none r = record { is = λ a b ha hb. sym (or-false (r a b)) }
+
+  pub grown-more : (n : ℕ) {r r′ r″ : ℕ → ℕ → Bool} → Grown r r′ (λ a b. anyBelow n (λ i. p i a b)) → Grown r′ r″ (p n)
+      → Grown r r″ (λ a b. anyBelow (n + 1) (λ i. p i a b))
+  grown-more n {r} g h = record {
+    is = λ a b ha hb. h .is a b ha hb ∙ ap (λ (t : Bool). t || p n a b) (g .is a b ha hb) ∙ or-assoc (r a b) (anyBelow n (λ i. p i a b)) (p n a b)
+        ∙ ap (λ (t : Bool). r a b || t) (sym (any-next n (λ i. p i a b)));
+  }
+
+  pub grown-done : {i n : ℕ} {r r′ : ℕ → ℕ → Bool} → i ≡ n → Grown r r′ (λ a b. anyBelow i (λ j. p j a b)) → Grown r r′ (λ a b. anyBelow n (λ j. p j a b))
+  grown-done e g = rw e at g
+
+-- ---- one rule
+
+-- a position draws an edge exactly where it does not fall
+pub falling-draws : (d : Direction) {e : Direction} {f : Bool} → f ≡ isFalling e → e ≡ d → f ≡ true → drawsEdge d ≡ false
+falling-draws d p q h = by d (sym (ap isFalling q) ∙ sym p ∙ h)
+  where
+    by : (d : Direction) → isFalling d ≡ true → drawsEdge d ≡ false
+    by Rising k = absurd (never k refl)
+    by Falling k = refl
+    by Mixed k = absurd (never k refl)
+
+pub other-draws : (d : Direction) {e : Direction} {f : Bool} → f ≡ isFalling e → e ≡ d → f ≡ false → drawsEdge d ≡ true
+other-draws d p q h = by d (sym (ap isFalling q) ∙ sym p ∙ h)
+  where
+    by : (d : Direction) → isFalling d ≡ false → drawsEdge d ≡ true
+    by Rising k = refl
+    by Falling k = absurd (never refl k)
+    by Mixed k = refl
+
+module _ (vs : List Variable) (r : Rule) where
+  pub mixed-done : {i : ℕ} {f : Bool} → i ≡ length (r .terms) → f ≡ anyBelow i (λ j. isMixed (direction vs r j)) → f ≡ anyMixed vs r
+  unfolding anyMixed
+  mixed-done e h = rw e at h
+
+  pub draws-done : {i : ℕ} {t t′ : ℕ → ℕ → Bool} → i ≡ length (r .terms) → Grown t t′ (λ a b. anyBelow i (λ j. drawsAt vs r j a b)) → Grown t t′ (drawsIn vs r)
+  unfolding drawsIn
+  draws-done e g = grown-done (drawsAt vs r) e g
+
+  pub offends-done : (t : ℕ → ℕ → Bool) {i : ℕ} {f : Bool} → i ≡ length (r .terms) → f ≡ anyBelow i (offendsAt t vs r) → f ≡ offendsIn t vs r
+  unfolding offendsIn
+  offends-done t e h = rw e at h
+
+  module _ (i : ℕ) where
+    -- a position that draws no edge
+    pub draws-none : (t : ℕ → ℕ → Bool) → drawsEdge (direction vs r i) ≡ false → Grown t t (drawsAt vs r i)
+    unfolding drawsAt
+    draws-none t e = record { is = λ a b ha hb. go a b (eqb (r .head) a) (eqb (termIn (r .terms) i .variable) b) }
+      where
+        go : (a b : ℕ) (x y : Bool) → t a b ≡ (t a b || (x && (y && drawsEdge (direction vs r i))))
+        go a b true true = sym (ap (λ (z : Bool). t a b || z) e ∙ or-false (t a b))
+        go a b true false = sym (or-false (t a b))
+        go a b false y = sym (or-false (t a b))
+
+    -- a position that draws one
+    pub draws-one : {t t′ : ℕ → ℕ → Bool} (h x : ℕ) → drawsEdge (direction vs r i) ≡ true
+        → h ≡ r .head → x ≡ termIn (r .terms) i .variable → Marked t t′ h x → Grown t t′ (drawsAt vs r i)
+    unfolding drawsAt
+    draws-one {t} h x e p q m = record {
+      is = λ a b ha hb. m a b ha hb ∙ or-comm (eqb a h && eqb b x) (t a b)
+          ∙ ap (λ (z : Bool). t a b || z)
+          (go a b (eqb a h) (eqb b x) (eqb-swap a h ∙ ap (λ (y : ℕ). eqb y a) p) (eqb-swap b x ∙ ap (λ (y : ℕ). eqb y b) q));
+    }
+      where
+        go : (a b : ℕ) (y z : Bool) → y ≡ eqb (r .head) a → z ≡ eqb (termIn (r .terms) i .variable) b
+            → (y && z) ≡ (eqb (r .head) a && (eqb (termIn (r .terms) i .variable) b && drawsEdge (direction vs r i)))
+        go a b true true u w = rw (← u, ← w, e)
+        go a b true false u w = rw (← u, ← w)
+        go a b false z u w = rw (← u)
+
+    pub offends-none : (t : ℕ → ℕ → Bool) → isMixed (direction vs r i) ≡ false → false ≡ offendsAt t vs r i
+    unfolding offendsAt
+    offends-none t e = rw e
+
+    pub offends-shared : (t : ℕ → ℕ → Bool) {f : Bool} (h x : ℕ) → isMixed (direction vs r i) ≡ true
+        → h ≡ r .head → x ≡ termIn (r .terms) i .variable → f ≡ shareIn t h x → f ≡ offendsAt t vs r i
+    unfolding offendsAt
+    offends-shared t h x e p q s = s ∙ rw (e, p, q)
+
+-- ---- two variables
+
+module _ (t : ℕ → ℕ → Bool) (x y : ℕ) where
+  pub share-same : x ≡ y → true ≡ shareIn t x y
+  unfolding shareIn
+  share-same e = simp (eq-eqb x y e)
+
+  pub share-other : {there back : Bool} → (x ≡ y → ⊥) → there ≡ t x y → back ≡ t y x → (there && back) ≡ shareIn t x y
+  unfolding shareIn
+  share-other f p q = simp (ne-eqb x y f, p, q)

@@ -1,0 +1,51 @@
+-- A position that is not mixed does not offend; a mixed one does where it shares.
+use mathlib.Core.Path.{sym, ap, _∙_}
+use borrow.Author.Tests.{not-true, not-false}
+use Rattle.program.specs.Directions.{isMixed}
+use Rattle.edges.proofs.PositionLaws.{offends-none, offends-shared}
+use borrow.Author.Needs.{needs}
+use Rattle.edges.proofs.mixed.offends_position.Statement.{statement}
+use Rattle.edges.proofs.mixed.offends_position.Tie as tie
+
+position-at-requires : tie.Need-position-at-requires
+position-at-requires c κs = search needs
+
+is-mixed-requires : tie.Need-is-mixed-requires
+is-mixed-requires c κs = search needs
+
+returns : tie.Need-returns
+returns c =
+    let e = ap isMixed (c .before .before .position-at .ensures .direction-is) in
+    offends-none _ _ _ _ (sym e ∙ sym (c .before .is-mixed .ensures) ∙ not-true _ (c .if1 .taken))
+
+header-requires : tie.Need-header-requires
+header-requires c κs = search needs
+
+wide-requires : tie.Need-wide-requires
+wide-requires c κs = search needs
+
+wide-requires-2 : tie.Need-wide-requires-2
+wide-requires-2 c κs = search needs
+
+share-requires : tie.Need-share-requires
+share-requires c κs = search needs
+
+returns-2 : tie.Need-returns-2
+returns-2 c =
+    let p = c .before .before .before .before .before .before .position-at .ensures in
+    let h = c .before .before .wide .ensures .0 ∙ c .before .before .before .header .ensures .head-is in
+    let x = c .before .wide2 .ensures .0 ∙ p .variable-is in
+    offends-shared _ _ _ _ _ _ (sym (ap isMixed (p .direction-is)) ∙ sym (c .before .before .before .before .before .is-mixed .ensures) ∙ not-false _ (c .before .before .before .before .if1 .left)) h x (c .share .ensures)
+
+pub offends-position-spec : {M : Type 1} → statement M
+offends-position-spec =
+    tie.close
+    (tie.spec
+    position-at-requires
+    is-mixed-requires
+    returns
+    header-requires
+    wide-requires
+    wide-requires-2
+    share-requires
+    returns-2)

@@ -1,0 +1,93 @@
+// The mixed positions of one rule, and which of them share its head's component.
+ghost use mathlib.Core.Path.{_≡_};
+ghost use Prim.Native.Nat.{_<_};
+ghost use lib.ListN.{length};
+ghost use Rattle.format.specs.Limits.{maxVariables};
+ghost use Rattle.program.specs.Program.{ruleOf, variablesAt};
+ghost use Rattle.program.specs.Directions.{direction, isMixed};
+ghost use Rattle.reach.specs.Rows.{rowHas};
+ghost use Rattle.edges.specs.Edges.{anyMixed, shareIn, offendsAt, offendsIn};
+ghost use Rattle.parts.specs.Values.{Standing};
+use parts::rules;
+use positions::position_at;
+use reach::Rows;
+use reach::row_has;
+
+// Whether position i of the rule in a field's value is mixed.
+fn is_mixed_position(file: &[u8], variables: usize, value: &[u8], i: usize) -> bool
+    requires { ⌜ Standing (now file) variables (now value) ⌝ }
+    requires { ⌜ i < length (ruleOf (now value) .terms) ⌝ }
+    ensures { λ r. ⌜ r ≡ isMixed (direction (variablesAt (now (file .entry)) variables) (ruleOf (now (value .entry))) i) ⌝ }
+{
+    let p = position_at(file, variables, value, i);
+    let d = p.direction;
+    d.is_mixed()
+}
+
+// Whether some position of the rule is mixed.
+pub fn is_mixed(file: &[u8], variables: usize, value: &[u8]) -> bool
+    requires { ⌜ Standing (now file) variables (now value) ⌝ }
+    ensures { λ r. ⌜ r ≡ anyMixed (variablesAt (now (file .entry)) variables) (ruleOf (now (value .entry))) ⌝ }
+{
+    let n = rules::positions(value);
+    let mut i = 0;
+    let mut found = false;
+    while i < n {
+        let mixed = is_mixed_position(file, variables, value, i);
+        found = found | mixed;
+        i += 1;
+    }
+    found
+}
+
+// Whether two variables are the same or each reaches the other.
+fn share(rows: &[u64; Rows::LENGTH], x: usize, y: usize) -> bool
+    requires { ⌜ (x < maxVariables) × (y < maxVariables) ⌝ }
+    ensures { λ r. ⌜ r ≡ shareIn (rowHas (now (rows .entry))) x y ⌝ }
+{
+    if x == y {
+        return true;
+    }
+    let there = row_has(rows, x, y);
+    let back = row_has(rows, y, x);
+    there & back
+}
+
+// Whether position i is mixed and its variable shares the head's component.
+fn offends_position(
+    rows: &[u64; Rows::LENGTH],
+    file: &[u8],
+    variables: usize,
+    value: &[u8],
+    i: usize,
+) -> bool
+    requires { ⌜ Standing (now file) variables (now value) ⌝ }
+    requires { ⌜ i < length (ruleOf (now value) .terms) ⌝ }
+    ensures { λ r. ⌜ r ≡ offendsAt (rowHas (now (rows .entry))) (variablesAt (now (file .entry)) variables) (ruleOf (now (value .entry))) i ⌝ }
+{
+    let p = position_at(file, variables, value, i);
+    let d = p.direction;
+    if !d.is_mixed() {
+        return false;
+    }
+    let rule = rules::header(value);
+    let head = format::wide(rule.head);
+    let x = format::wide(p.variable);
+    share(rows, head, x)
+}
+
+// Whether some position does.
+pub fn offends(rows: &[u64; Rows::LENGTH], file: &[u8], variables: usize, value: &[u8]) -> bool
+    requires { ⌜ Standing (now file) variables (now value) ⌝ }
+    ensures { λ r. ⌜ r ≡ offendsIn (rowHas (now (rows .entry))) (variablesAt (now (file .entry)) variables) (ruleOf (now (value .entry))) ⌝ }
+{
+    let n = rules::positions(value);
+    let mut i = 0;
+    let mut found = false;
+    while i < n {
+        let one = offends_position(rows, file, variables, value, i);
+        found = found | one;
+        i += 1;
+    }
+    found
+}

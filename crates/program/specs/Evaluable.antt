@@ -1,0 +1,50 @@
+-- Rules and constraints whose evaluation fits the machine: those of accepted files (`promised-evaluable`, `promised-satisfiable`).
+use Prim.Native.Nat.{ℕ, _<_, _≤_}
+use mathlib.Core.Path.{_≡_}
+use mathlib.Core.List.{List, [], _∷_}
+use mathlib.Core.Bool.{Bool, true, false}
+use lib.IntN.{ℤ, natAbs}
+use lib.ListN.{length}
+use Rattle.format.specs.Limits.{maxTerms, maxNumber, maxCoefficient}
+use Rattle.program.specs.Tables.{_⇒_, select}
+use Rattle.program.specs.Program.{Rule, Constraint, termIn}
+use Rattle.program.specs.Readings.{valued}
+use Rattle.program.specs.declared.Term.{Term}
+
+-- values within the format's range
+abbrev pub Small : List ℤ → Type 0
+Small vs = (v : ℕ) → natAbs (valued vs v) ≤ maxNumber
+
+-- numbers within the range of coefficients
+abbrev pub Coefficients : List Term → Type 0
+Coefficients ts = (i : ℕ) → i < length ts → natAbs (termIn ts i .number) ≤ maxCoefficient
+
+-- no literal among the terms
+abbrev pub Plain : List Term → Type 0
+Plain ts = (i : ℕ) → i < length ts → termIn ts i .op ≡ 0
+
+-- the fewest terms that a form reads
+abbrev pub fewest : ℕ → ℕ
+fewest form = select form ((2 ⇒ 1) ∷ (3 ⇒ 1) ∷ (4 ⇒ 2) ∷ (5 ⇒ 1) ∷ (7 ⇒ 1) ∷ []) 0
+
+-- the forms that have literals
+abbrev pub hasLiterals : ℕ → Bool
+hasLiterals form = select form ((6 ⇒ true) ∷ (7 ⇒ true) ∷ []) false
+
+-- a rule of a known form, within the format's limits as far as its evaluation goes
+pub record Evaluable (r : Rule) : Type 0 where
+  pub from : 1 ≤ r .form
+  pub to : r .form ≤ 7
+  pub near : natAbs (r .c) ≤ maxNumber
+  pub weights : r .form ≡ 1 → Coefficients (r .terms)
+  pub plain : hasLiterals (r .form) ≡ false → Plain (r .terms)
+  pub few : length (r .terms) ≤ maxTerms
+  pub enough : fewest (r .form) ≤ length (r .terms)
+
+-- a constraint of a known form, within the format's limits as far as its evaluation goes
+pub record Satisfiable (k : Constraint) : Type 0 where
+  pub from : 1 ≤ k .form
+  pub to : k .form ≤ 2
+  pub near : natAbs (k .c) ≤ maxNumber
+  pub weights : k .form ≡ 1 → Coefficients (k .terms)
+  pub few : length (k .terms) ≤ maxTerms
