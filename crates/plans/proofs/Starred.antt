@@ -56,7 +56,7 @@ unfoldable pub unmet-in : Program → Valuation → ℕ → Bool
 unmet-in P θ n = anyBelow n (λ i. not (rule-met P θ i))
 
 -- one of the variables is past m
-unfoldable pub above-in : Program → Valuation → Valuation → Bool
+unfoldable above-in : Program → Valuation → Valuation → Bool
 above-in P θ m = anyBelow (length (P .variables)) (λ v. not (notPast (variableIn (P .variables) v) (θ v) (m v)))
 
 -- unfolding these unfolds the reading of a file
@@ -109,7 +109,7 @@ pub all-inside : (P : Program) (θ : Valuation) → outside-in P θ ≡ false �
 unfolding outside-in
 all-inside P θ e v h = not-false (inRange (variableIn (P .variables) v) (θ v)) (none-below (length (P .variables)) _ e v h)
 
-pub rules-met : (P : Program) (θ : Valuation) (n : ℕ) → unmet-in P θ n ≡ false → (i : ℕ) → i < n → RuleMet P θ i
+rules-met : (P : Program) (θ : Valuation) (n : ℕ) → unmet-in P θ n ≡ false → (i : ℕ) → i < n → RuleMet P θ i
 unfolding unmet-in
 rules-met P θ n e i h = is-test (not-false (rule-met P θ i) (none-below n _ e i h))
 

@@ -29,7 +29,7 @@ unfolding plans.computes bytesOf bytesIn ascending askedAt askedBy asked
 computes = tt
 
 -- a plan of n variables is not turned down
-pub plan-called : (b : List ℕ) {s a : List ℕ} {P : Program} → Plan s a P → (n : ℕ) → length a ≡ 2 * n → checkBytes * n ≤ length b → Called (lengths checkBytes a b) s P
+plan-called : (b : List ℕ) {s a : List ℕ} {P : Program} → Plan s a P → (n : ℕ) → length a ≡ 2 * n → checkBytes * n ≤ length b → Called (lengths checkBytes a b) s P
 plan-called b {a = a} p n e h = called checkBytes a b (p .accepts) (p .long) (omega (arith, p .long))
 
 stable-checked : {s a : List ℕ} → StablePlan s a → (n : ℕ) → length a ≡ 2 * n → Checked s a n stable []

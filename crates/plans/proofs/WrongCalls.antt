@@ -20,7 +20,7 @@ use Rattle.meaning.specs.Stable.{assigned}
 use Rattle.meaning.proofs.Denials.{called}
 use Rattle.meaning.proofs.Determined.{least-call-unique}
 use Rattle.meaning.proofs.Search.{Right, search-right}
-use Rattle.verdict.specs.Checks.{refusal, range, rule, constraint, checkBytes, Checks, turned-down}
+use Rattle.verdict.specs.Checks.{refusal, rule, constraint, checkBytes, Checks, turned-down}
 use Rattle.verdict.specs.Checks as check
 use Rattle.verdict.proofs.Demanded.{word, first}
 use Rattle.verdict.proofs.Determined.{checks-unique}

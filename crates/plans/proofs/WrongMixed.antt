@@ -10,7 +10,7 @@ use lib.IntN.{pos, negℤ}
 use lib.ListN.{length, getD, replicate}
 use Rattle.walks.specs.Walk as walk
 use Rattle.walks.specs.Walk.{Walk}
-use Rattle.program.specs.Program.{Program, program, termIn, ruleIn}
+use Rattle.program.specs.Program.{program, termIn, ruleIn}
 use Rattle.program.specs.Components.{draws, edge, Share, Valid}
 use Rattle.program.specs.Directions.{direction, isMixed}
 use Rattle.program.specs.Reading.{Reads, refused, Accepts}

@@ -5,7 +5,7 @@ use mathlib.Core.List.{List, [], _∷_}
 use lib.IntN.{ℤ, pos, negℤ}
 use Rattle.format.proofs.Int.{int}
 use Rattle.program.specs.Program.{Rule}
-use Rattle.program.specs.Evaluate.{sumBelow, largestTo, smallestTo, allHold, amount, evaluate}
+use Rattle.program.specs.Evaluate.{largestTo, smallestTo, allHold, amount, evaluate}
 use Rattle.program.specs.declared.Given.{Given}
 use Rattle.program.specs.declared.Term.{Term}
 use Rattle.program.specs.declared.Given.the-variants.{Nothing, Value}
