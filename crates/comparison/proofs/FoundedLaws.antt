@@ -30,7 +30,7 @@ use Rattle.meaning.proofs.Theory.{self-model, self-least-iff}
 use Rattle.meaning.proofs.Monotone.{laws}
 use Rattle.report.specs.Report.{bytesIn, ascending, boundsOf, conditionsOf, asksMost, asksLeast, askedAt, askedBy, asked, shown, bounds, conditions, reported}
 use Rattle.report.proofs.Entries.{ascending-past, bounds-count, conditions-count}
-use Rattle.verdict.specs.Checks.{Answer, unfounded, stable, answerOf, Judged, not-founded, founded, checkBytes}
+use Rattle.verdict.specs.Checks.{Answer, unfounded, stable, answerOf, Judged, some-shown, is-stable, checkBytes}
 use Rattle.comparison.specs.Shows.{ShowsSets}
 use Rattle.verdict.specs.declared.Verdict.{Verdict}
 use Rattle.program.specs.Readings.{Valuation, bodyVariable, kept, valued}
@@ -118,7 +118,7 @@ module _ {P : Program} (promised : Promises P) (few : length (P .variables) ≤ 
   same-set = λ i v. is v i
 
   pub all-founded : countFrom set 0 maxVariables ≡ 0 → Judged P θ b stable b
-  all-founded e = founded (record { meets = meets; least = self-least-iff (laws promised) (self-model (meets .ranges) (meets .rules)) least .1 none })
+  all-founded e = is-stable (record { meets = meets; least = self-least-iff (laws promised) (self-model (meets .ranges) (meets .rules)) least .1 none })
     where
       none : (v : ℕ) → T (not (shown P θ m v))
       none v = not-T (shown P θ m v) (λ t. never (is v ∙ is-true (shown P θ m v) t)
@@ -159,7 +159,7 @@ module _ {P : Program} (promised : Promises P) (few : length (P .variables) ≤ 
     all-shown some b′ r w =
         subst (λ (x : List ℕ). Judged P θ b (answerOf r) x) (sym bytes)
         (subst (λ (x : Answer). Judged P θ b x (reported P θ m b)) (sym answer)
-        (not-founded meets least (let v = count-some set 0 maxVariables some in (v .0, subst (λ (p : ℕ → Bool). T (p (v .0))) same-set (v .1)))))
+        (some-shown meets least (let v = count-some set 0 maxVariables some in (v .0, subst (λ (p : ℕ → Bool). T (p (v .0))) same-set (v .1)))))
       where
         shows : ShowsSets (shown P θ m) (asked P (shown P θ m) asksMost) (asked P (shown P θ m) asksLeast) m θ b b′ r
         shows =

@@ -15,7 +15,7 @@ use Rattle.meaning.specs.Founded.{Within}
 use Rattle.meaning.specs.Reduct.{system}
 use Rattle.meaning.specs.Stable.{assigned}
 use Rattle.meaning.specs.LeastCall.{AllInside}
-use Rattle.program.specs.Variables.{founded, inRange}
+use Rattle.program.specs.Variables.{isFounded, inRange}
 use Rattle.program.specs.Readings.{Valuation, valued}
 use Rattle.program.specs.declared.Variable.{Variable}
 use Rattle.program.specs.Evaluable.{Small}
@@ -23,9 +23,9 @@ use Rattle.program.proofs.Tests.{cases, is-true, is-test}
 use Rattle.program.proofs.Variables.{low-in, high-in}
 
 -- a founded variable is declared
-pub founded-declared : (vs : List Variable) (v : ℕ) → T (founded (variableIn vs v)) → v < length vs
+pub founded-declared : (vs : List Variable) (v : ℕ) → T (isFounded (variableIn vs v)) → v < length vs
 founded-declared vs v t = cases (ltb v (length vs)) (λ b. v < length vs) (ltb→lt v (length vs))
-    (λ n. let e : T (founded noVariable) = rw (List·getD-eq-default vs noVariable (nltb→le v (length vs) n)) at t in absurd e)
+    (λ n. let e : T (isFounded noVariable) = rw (List·getD-eq-default vs noVariable (nltb→le v (length vs) n)) at t in absurd e)
 
 pub assigned-past : (a : List ℕ) (v : ℕ) → length a ≤ 2 * v → assigned a v ≡ pos 0
 assigned-past a v h =

@@ -9,7 +9,7 @@ use Rattle.program.specs.declared.Given.{Given}
 use Rattle.program.specs.declared.Given.the-variants.{Nothing, Value}
 use Rattle.meaning.specs.Founded.{System, Below, Short, Within}
 use Rattle.program.specs.Readings.{Valuation}
-use Rattle.program.specs.Variables.{founded, start, far}
+use Rattle.program.specs.Variables.{isFounded, start, far}
 use Rattle.program.proofs.Variables.{past-refl, past-trans, past-antisym, past-total, start-first, far-last, between}
 
 module _ (𝒮 : System) where
@@ -23,7 +23,7 @@ module _ (𝒮 : System) where
 
   -- at a position of this direction, the first two valuations push the rule no further than the last two
   abbrev pub Less : ℕ → Direction → Valuation → Valuation → Valuation → Valuation → Type 0
-  Less x Rising m θ m′ θ′ = Below 𝒮 x (cond (founded (variable x)) (m x) (θ x)) (cond (founded (variable x)) (m′ x) (θ′ x))
+  Less x Rising m θ m′ θ′ = Below 𝒮 x (cond (isFounded (variable x)) (m x) (θ x)) (cond (isFounded (variable x)) (m′ x) (θ′ x))
   Less x Falling m θ m′ θ′ = Below 𝒮 x (θ′ x) (θ x)
   Less x Mixed m θ m′ θ′ = θ x ≡ θ′ x
 

@@ -6,7 +6,7 @@ use lib.Dec.{T}
 use lib.ListN.{length}
 use lib.Signed.{leZ-yes}
 use Rattle.program.specs.Program.{Rule, Program, variableIn, ruleIn}
-use Rattle.program.specs.Variables.{founded, notPast}
+use Rattle.program.specs.Variables.{isFounded, notPast}
 use Rattle.program.specs.Directions.{direction, isRising}
 use Rattle.program.specs.Readings.{Valuation, bodyVariable, kept, reading, gives}
 use Rattle.program.specs.declared.Direction.{Direction}
@@ -31,7 +31,7 @@ module _ (P : Program) where
 
   -- what the theory asks at a position, as the two readings of its variable
   moves-of : (m θ m′ θ′ : Valuation) (x : ℕ) (d : Direction) → Less (system P) x d m θ m′ θ′
-      → Moves d (cond (isRising d && founded (variableIn (P .variables) x)) (m x) (θ x)) (cond (isRising d && founded (variableIn (P .variables) x)) (m′ x) (θ′ x))
+      → Moves d (cond (isRising d && isFounded (variableIn (P .variables) x)) (m x) (θ x)) (cond (isRising d && isFounded (variableIn (P .variables) x)) (m′ x) (θ′ x))
   unfolding notPast
   moves-of m θ m′ θ′ x Rising h = leZ-yes (h .le)
   moves-of m θ m′ θ′ x Falling h = leZ-yes (h .le)
@@ -60,5 +60,5 @@ pub laws : {P : Program} → Promises P → Laws (system P)
 laws p = record { mono = gives-up p }
 
 -- a head is founded
-pub head-founded : {P : Program} → Promises P → (i : ℕ) → i < length (P .rules) → T (founded (system P .variable (system P .head i)))
+pub head-founded : {P : Program} → Promises P → (i : ℕ) → i < length (P .rules) → T (isFounded (system P .variable (system P .head i)))
 head-founded p i h = is-test (p .rules i h .head-founded)

@@ -16,12 +16,12 @@ use Rattle.meaning.proofs.Laws.{NoMore, Less, Laws, below-refl, below-t
 use Rattle.meaning.proofs.Lesser.{lesser, lesser-left, lesser-right, lesser-of, lesser-given}
 use Rattle.program.specs.Readings.{Valuation}
 use Rattle.program.proofs.Tests.{cases, is-true, and-both}
-use Rattle.program.specs.Variables.{founded, start, far, notPast, started}
+use Rattle.program.specs.Variables.{isFounded, start, far, notPast, started}
 use Rattle.program.proofs.Variables.{past-trans, started-in, short-founded, short-before}
 
 -- what holds of the valuation on the way from the starting ends to the least model
 pub record Progress (𝒮 : System) (θ m : Valuation) : Type 0 where
-  pub standard : (v : ℕ) → T (not (founded (𝒮 .variable v))) → m v ≡ θ v
+  pub standard : (v : ℕ) → T (not (isFounded (𝒮 .variable v))) → m v ≡ θ v
   pub within : Within 𝒮 m
   pub floor : Floor 𝒮 θ m
 
@@ -30,7 +30,7 @@ pub record Lower (𝒮 : System) (θ m m′ : Valuation) : Type 0 where
   pub assigned : Within 𝒮 θ
   pub lower : Within 𝒮 m
   pub upper : Within 𝒮 m′
-  pub under : (x : ℕ) → T (founded (𝒮 .variable x)) → Below 𝒮 x (m x) (m′ x)
+  pub under : (x : ℕ) → T (isFounded (𝒮 .variable x)) → Below 𝒮 x (m x) (m′ x)
 
 module _ {𝒮 : System} where
   open System 𝒮 using (variable, Rule, In, head, gives)
@@ -49,10 +49,10 @@ module _ {𝒮 : System} where
   -- standard variables as assigned, founded ones at their starting ends
   pub progress-start : {θ : Valuation} → Within 𝒮 θ → (m : Valuation) → ((v : ℕ) → m v ≡ started (variable v) (θ v)) → Progress 𝒮 θ m
   progress-start {θ} wθ m is = record {
-    standard = λ v n. is v ∙ cases (founded (variable v)) (λ b. T (not b) → cond b (start (variable v)) (θ v) ≡ θ v) (λ t f. absurd f) (λ t f. refl) n;
+    standard = λ v n. is v ∙ cases (isFounded (variable v)) (λ b. T (not b) → cond b (start (variable v)) (θ v) ≡ θ v) (λ t f. absurd f) (λ t f. refl) n;
     within = record { inside = λ v. rw (is v) (started-in (variable v) (θ v) (wθ .inside v)) };
     floor = record {
-      under = λ m′ k v. rw (is v) (cases (founded (variable v)) (λ b. Below 𝒮 v (cond b (start (variable v)) (θ v)) (m′ v)) (λ t. from-start (k .within) v)
+      under = λ m′ k v. rw (is v) (cases (isFounded (variable v)) (λ b. Below 𝒮 v (cond b (start (variable v)) (θ v)) (m′ v)) (λ t. from-start (k .within) v)
           (λ n. rw (k .standard v n) (below-refl v (θ v))));
     };
   }
@@ -71,7 +71,7 @@ module _ {𝒮 : System} (L : Laws 𝒮) where
   lift {θ} {m} {m′} w r i = L .mono r i m θ m′ θ (w .lower) (w .assigned) (w .upper) (w .assigned) (λ x d o. at x d)
     where
       at : (x : ℕ) (d : Direction) → Less 𝒮 x d m θ m′ θ
-      at x Rising = cases (founded (variable x)) (λ b. Below 𝒮 x (cond b (m x) (θ x)) (cond b (m′ x) (θ x))) (w .under x) (λ t. below-refl x (θ x))
+      at x Rising = cases (isFounded (variable x)) (λ b. Below 𝒮 x (cond b (m x) (θ x)) (cond b (m′ x) (θ x))) (w .under x) (λ t. below-refl x (θ x))
       at x Falling = below-refl x (θ x)
       at x Mixed = refl
 
@@ -87,7 +87,7 @@ module _ {𝒮 : System} (L : Laws 𝒮) where
     under-given m′ k = met-below (record { assigned = wθ; lower = p .within; upper = k .within; under = λ x t. p .floor .under m′ k x }) r i (m′ (head r)) (k .rules r i)
 
     -- a head is raised to what one of its rules gives, or to less
-    pub progress-raise : T (founded (variable (head r))) → (g a : ℤ) → gives r m θ ≡ Value g → Below 𝒮 (head r) a g
+    pub progress-raise : T (isFounded (variable (head r))) → (g a : ℤ) → gives r m θ ≡ Value g → Below 𝒮 (head r) a g
         → Below 𝒮 (head r) (m (head r)) a → Below 𝒮 (head r) a (far (variable (head r)))
         → (m⁺ : Valuation) → ((v : ℕ) → (m⁺ v ≡ m v) ⊎ ((head r ≡ v) × (m⁺ v ≡ a))) → Progress 𝒮 θ m⁺
     progress-raise f g a e le lo hi m⁺ is = record {
@@ -96,9 +96,9 @@ module _ {𝒮 : System} (L : Laws 𝒮) where
       floor = record { under = λ m′ k v. under m′ k v (is v) };
     }
       where
-        same : (v : ℕ) → T (not (founded (variable v))) → (m⁺ v ≡ m v) ⊎ ((head r ≡ v) × (m⁺ v ≡ a)) → m⁺ v ≡ θ v
+        same : (v : ℕ) → T (not (isFounded (variable v))) → (m⁺ v ≡ m v) ⊎ ((head r ≡ v) × (m⁺ v ≡ a)) → m⁺ v ≡ θ v
         same v n (inl q) = q ∙ p .standard v n
-        same v n (inr q) = absurd (T-not (founded (variable v)) n (subst (λ w. T (founded (variable w))) (q .0) f))
+        same v n (inr q) = absurd (T-not (isFounded (variable v)) n (subst (λ w. T (isFounded (variable w))) (q .0) f))
 
         low : (v : ℕ) → (m⁺ v ≡ m v) ⊎ ((head r ≡ v) × (m⁺ v ≡ a)) → Below 𝒮 v (start (variable v)) (m⁺ v)
         low v (inl q) = rw q (from-start (p .within) v)
@@ -133,7 +133,7 @@ module _ {𝒮 : System} (L : Laws 𝒮) where
 
       lowered : Model 𝒮 θ (over dom bound θ)
       lowered = record {
-        standard = λ v n. cases (dom v) (λ b. cond b (bound v) (θ v) ≡ θ v) (λ t. absurd (T-not (founded (variable v)) n (U .are v t))) (λ t. refl);
+        standard = λ v n. cases (dom v) (λ b. cond b (bound v) (θ v) ≡ θ v) (λ t. absurd (T-not (isFounded (variable v)) n (U .are v t))) (λ t. refl);
         within = lowered-within;
         rules = λ r i. cases (dom (head r)) (λ b. GivenNoMore 𝒮 (head r) (gives r (over dom bound θ) θ) (cond b (bound (head r)) (θ (head r)))) (U .rules r i)
             (λ t. met-below (record { assigned = self .within; lower = lowered-within; upper = self .within; under = λ x f. lowered-below x }) r i (θ (head r)) (self .rules r i));
@@ -142,7 +142,7 @@ module _ {𝒮 : System} (L : Laws 𝒮) where
     module _ {M : Valuation} (least : Least 𝒮 θ M) where
       -- every unfounded set lies in the set of the short variables, with no smaller bounds
       pub inside-short : {dom : ℕ → Bool} {bound : Valuation} → Unfounded 𝒮 θ dom bound → (v : ℕ) → T (dom v) → T (short 𝒮 θ M v) × Below 𝒮 v (M v) (bound v)
-      inside-short {dom} {bound} U v t = (and-both (founded (variable v)) (not (notPast (variable v) (θ v) (M v))) (U .are v t) fall, under)
+      inside-short {dom} {bound} U v t = (and-both (isFounded (variable v)) (not (notPast (variable v) (θ v) (M v))) (U .are v t) fall, under)
         where
           under : Below 𝒮 v (M v) (bound v)
           under = subst (λ b. Below 𝒮 v (M v) (cond b (bound v) (θ v))) (is-true (dom v) t) (least .floor .under (over dom bound θ) (lowered U) v)
@@ -154,8 +154,8 @@ module _ {𝒮 : System} (L : Laws 𝒮) where
       above v n = cases (notPast (variable v) (θ v) (M v)) (λ b. Below 𝒮 v (θ v) (M v)) (λ h. record { le = h })
           (λ h. subst (λ a. Below 𝒮 v (θ v) a) (sym (least .model .standard v (unfounded h))) (below-refl v (θ v)))
         where
-          unfounded : T (not (notPast (variable v) (θ v) (M v))) → T (not (founded (variable v)))
-          unfounded h = not-T (founded (variable v)) (λ f. T-not (short 𝒮 θ M v) n (and-both (founded (variable v)) (not (notPast (variable v) (θ v) (M v))) f h))
+          unfounded : T (not (notPast (variable v) (θ v) (M v))) → T (not (isFounded (variable v)))
+          unfounded h = not-T (isFounded (variable v)) (λ f. T-not (short 𝒮 θ M v) n (and-both (isFounded (variable v)) (not (notPast (variable v) (θ v) (M v))) f h))
 
       -- off the short variables θ and M agree
       mixed-below : (v : ℕ) → Below 𝒮 v (over (short 𝒮 θ M) M θ v) (M v)
@@ -206,17 +206,17 @@ module _ {𝒮 : System} (L : Laws 𝒮) where
             (λ v. below-trans (τ-below v) (to-far (stable .model .within) v))
 
         τ-less : (r : Rule) → In r → T (short 𝒮 θ M (head r)) → (x : ℕ) (d : Direction) → occurs r x d → Less 𝒮 x d τ θ′ M θ
-        τ-less r i s x Rising o = cases (founded (variable x)) (λ b. Below 𝒮 x (cond b (τ x) (θ′ x)) (cond b (M x) (θ x)))
+        τ-less r i s x Rising o = cases (isFounded (variable x)) (λ b. Below 𝒮 x (cond b (τ x) (θ′ x)) (cond b (M x) (θ x)))
             (λ f. cases (short 𝒮 θ M x) (λ b. Below 𝒮 x (cond b (lesser 𝒮 θ′ M x) (θ′ x)) (M x)) (λ t. lesser-right 𝒮 θ′ M x)
             (λ n. below-trans (meets r i s x Rising o n) (above x n)))
-            (λ n. meets r i s x Rising o (not-T (short 𝒮 θ M x) (λ t. T-not (founded (variable x)) n (short-founded (variable x) (θ x) (M x) t))))
+            (λ n. meets r i s x Rising o (not-T (short 𝒮 θ M x) (λ t. T-not (isFounded (variable x)) n (short-founded (variable x) (θ x) (M x) t))))
         τ-less r i s x Falling o = meets r i s x Falling o
         τ-less r i s x Mixed o = below-antisym (meets r i s x Mixed o .0) (meets r i s x Mixed o .1)
 
         τ-model : Model 𝒮 θ′ τ
         τ-model = record {
           standard = λ v n. cases (short 𝒮 θ M v) (λ b. cond b (lesser 𝒮 θ′ M v) (θ′ v) ≡ θ′ v)
-              (λ t. absurd (T-not (founded (variable v)) n (short-founded (variable v) (θ v) (M v) t))) (λ t. refl);
+              (λ t. absurd (T-not (isFounded (variable v)) n (short-founded (variable v) (θ v) (M v) t))) (λ t. refl);
           within = τ-within;
           rules = λ r i. cases (short 𝒮 θ M (head r)) (λ b. GivenNoMore 𝒮 (head r) (gives r τ θ′) (cond b (lesser 𝒮 θ′ M (head r)) (θ′ (head r))))
               (λ s. lesser-given 𝒮 θ′ M (head r) (gives r τ θ′) (left r i) (right r i s)) (λ n. left r i);

@@ -5,7 +5,7 @@ use mathlib.Core.Bool.{not}
 use Prim.Native.Nat.{ℕ}
 use lib.IntN.{ℤ}
 use lib.Dec.{T}
-use Rattle.program.specs.Variables.{founded, notPast, inRange, noMore}
+use Rattle.program.specs.Variables.{isFounded, notPast, inRange, noMore}
 use Rattle.program.specs.Readings.{Valuation}
 use Rattle.program.specs.declared.Direction.{Direction}
 use Rattle.program.specs.declared.Given.{Given}
@@ -44,7 +44,7 @@ module _ (𝒮 : System) where
   -- m is a model of the reduct of θ: "The reduct says that each head is at least what its rule gives, kept variables read from the model;
   -- founded values lie in low..high." Standard variables are as assigned
   pub record Model (θ m : Valuation) : Type 0 where
-    pub standard : (v : ℕ) → T (not (founded (variable v))) → m v ≡ θ v
+    pub standard : (v : ℕ) → T (not (isFounded (variable v))) → m v ≡ θ v
     pub within : Within m
     pub rules : (r : Rule) → In r → GivenNoMore (head r) (gives r m θ) (m (head r))
 

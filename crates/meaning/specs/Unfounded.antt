@@ -8,7 +8,7 @@ use Rattle.program.specs.declared.Direction.{Direction}
 use Rattle.program.specs.declared.Direction.the-variants.{Rising, Falling, Mixed}
 use Rattle.meaning.specs.Founded.{System, Below, Short, GivenNoMore}
 use Rattle.program.specs.Readings.{Valuation}
-use Rattle.program.specs.Variables.{founded, start}
+use Rattle.program.specs.Variables.{isFounded, start}
 use Rattle.program.specs.Variables as variables
 
 -- the bounds in the set, θ elsewhere
@@ -20,7 +20,7 @@ module _ (𝒮 : System) where
 
   pub record Unfounded (θ : Valuation) (dom : ℕ → Bool) (bound : Valuation) : Type 0 where
     pub some : (v : ℕ) × T (dom v)
-    pub are : (v : ℕ) → T (dom v) → T (founded (variable v))
+    pub are : (v : ℕ) → T (dom v) → T (isFounded (variable v))
     pub low : (v : ℕ) → T (dom v) → Below 𝒮 v (start (variable v)) (bound v)
     pub less : (v : ℕ) → T (dom v) → Short 𝒮 v (bound v) (θ v)
     pub rules : (r : Rule) → In r → T (dom (head r)) → GivenNoMore 𝒮 (head r) (gives r (over dom bound θ) θ) (bound (head r))

@@ -85,8 +85,8 @@ module _ {s : List ℕ} {P : Program} (a : Accepts s P) where
   judged-fits (check.outside o) = one 5 _ (omega arith) (omega (arith, program-limited a .few-variables, o .declared))
   judged-fits (check.rule-unmet w u) = one 4 _ (omega arith) (omega (arith, program-limited a .few-rules, u .among))
   judged-fits (check.constraint-unmet w r u) = one 3 _ (omega arith) (omega (arith, program-limited a .few-constraints, u .among))
-  judged-fits {θ} (check.not-founded {m} t l s) = two 2 _ _ (omega arith) (bounds-few θ m) (conditions-few θ m)
-  judged-fits (check.founded s) = alone 1 (omega arith)
+  judged-fits {θ} (check.some-shown {m} t l s) = two 2 _ _ (omega arith) (bounds-few θ m) (conditions-few θ m)
+  judged-fits (check.is-stable s) = alone 1 (omega arith)
 
 pub check-fits : {s a b b′ : List ℕ} {x : check.Answer} → Checks s a b x b′ → Fits (checkParts x)
 check-fits {a = a} {b} (check.turned-down r) = refuses-fits (lengths-small check.checkBytes a b) r

@@ -19,7 +19,7 @@ use Rattle.plans.specs.Starred.{Plan, StablePlan, UnfoundedPlan, UnmetPl
 use Rattle.plans.proofs.Starred as plans
 use Rattle.plans.proofs.Starred.{starred-plans, printed-read, example2-read, example1-read, example4-read, contrary-read}
 use Rattle.report.specs.Report.{bytesIn, ascending, askedAt, askedBy, asked, shown, bounds, conditions}
-use Rattle.verdict.specs.Checks.{unfounded, stable, rule, checkBytes, Checks, judged, founded, not-founded, rule-unmet}
+use Rattle.verdict.specs.Checks.{unfounded, stable, rule, checkBytes, Checks, judged, is-stable, some-shown, rule-unmet}
 use Rattle.plans.specs.StarredChecks.{Checked, StarredChecks}
 use Rattle.program.specs.Readings.{valued}
 
@@ -33,7 +33,7 @@ plan-called : (b : List ℕ) {s a : List ℕ} {P : Program} → Plan s a P → (
 plan-called b {a = a} p n e h = called checkBytes a b (p .accepts) (p .long) (omega (arith, p .long))
 
 stable-checked : {s a : List ℕ} → StablePlan s a → (n : ℕ) → length a ≡ 2 * n → Checked s a n stable []
-stable-checked u n e b h = judged (plan-called b (u .plan) n e h) (founded (u .stable))
+stable-checked u n e b h = judged (plan-called b (u .plan) n e h) (is-stable (u .stable))
 
 pub unmet-checked : {s a : List ℕ} {i : ℕ} → UnmetPlan s a i → (n : ℕ) → length a ≡ 2 * n → Checked s a n (rule i) []
 unmet-checked u n e b h = judged (plan-called b (u .plan) n e h) (rule-unmet (u .plan .ranges) (record { among = u .among; unmet = u .unmet; first = u .first }))
@@ -50,7 +50,7 @@ module _ {s a : List ℕ} {m : List ℤ} (u : UnfoundedPlan s a m) {Q : Program}
       subst (λ r. Checks s a b r (bytes ++ drop (length bytes) b)) (ap₂ unfounded p q)
       (subst (Checks s a b _) (ap₂ _++_ w (ap (λ (j : ℕ). drop j b) (ap (λ (j : ℕ). 4 * j) (ap₂ _+_ p q) ∙ size)))
       (judged (subst (Called (lengths checkBytes a b) s) same (plan-called b (u .plan) n e h))
-      (not-founded (subst (λ (R : Program). Meets R (assigned a)) same (u .meets)) (subst (λ (R : Program). Least (system R) (assigned a) (valued m)) same (u .least)) (v, t))))
+      (some-shown (subst (λ (R : Program). Meets R (assigned a)) same (u .meets)) (subst (λ (R : Program). Least (system R) (assigned a) (valued m)) same (u .least)) (v, t))))
 
 printed-shown : Checked printed (small 0 (small 1 (small 1 []))) 3 (unfounded 2 1)
     (0x01 ∷ 0x00 ∷ 0x00 ∷ 0x00 ∷ 0x02 ∷ 0x00 ∷ 0x00 ∷ 0x00 ∷ 0x00 ∷ 0x01 ∷ 0x00 ∷ 0x00 ∷ [])

@@ -4,7 +4,7 @@ use mathlib.Core.Path.{_≡_, ap, ap₂, _∙_}
 use mathlib.Core.List.{List}
 use mathlib.Core.Bool.{Bool, _&&_}
 use Rattle.program.specs.Program.{Rule, variableIn, termIn}
-use Rattle.program.specs.Variables.{founded}
+use Rattle.program.specs.Variables.{isFounded}
 use Rattle.program.specs.Directions.{direction, termDirection, isRising}
 use Rattle.program.specs.Readings.{bodyVariable, kept}
 use Rattle.program.specs.declared.Variable.{Variable}
@@ -18,12 +18,12 @@ pub declared-at : {n : ℕ} {t u : Term} → t ≡ u → u .variable < n → t .
 declared-at e h = rw e h
 
 module _ (vs : List Variable) (r : Rule) (i : ℕ) where
-  kept-as : {x : Variable} {d : Direction} → d ≡ direction vs r i → x ≡ variableIn vs (bodyVariable r i) → (isRising d && founded x) ≡ kept vs r i
+  kept-as : {x : Variable} {d : Direction} → d ≡ direction vs r i → x ≡ variableIn vs (bodyVariable r i) → (isRising d && isFounded x) ≡ kept vs r i
   unfolding kept
   kept-as p q = rw (p, q)
 
   pub position-read : {t : Term} {x : Variable} {d : Direction} {rising standing : Bool} → t ≡ termIn (r .terms) i → x ≡ variableIn vs (t .variable)
-      → d ≡ termDirection (r .form) x t → rising ≡ isRising d → standing ≡ founded x
+      → d ≡ termDirection (r .form) x t → rising ≡ isRising d → standing ≡ isFounded x
       → PositionIs vs r i (record { variable = t .variable; direction = d; kept = rising && standing })
   position-read {t} {x} {d} {rising} {standing} p q e a b =
       let w : d ≡ direction vs r i = e ∙ direction-is vs r i p q in

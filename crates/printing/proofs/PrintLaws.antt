@@ -11,7 +11,7 @@ use lib.Seq.{take-all, take-at}
 use borrow.Author.Tests.{ltb-false, lt-ltb, le-ltb}
 use Rattle.program.specs.Program.{Program}
 use Rattle.meaning.specs.Stable.{assigned}
-use Rattle.verdict.specs.Checks.{Answer, refusal, unfounded, outside, rule-unmet, constraint-unmet, not-founded, founded, Checks, turned-down, judged}
+use Rattle.verdict.specs.Checks.{Answer, refusal, unfounded, outside, rule-unmet, constraint-unmet, some-shown, is-stable, Checks, turned-down, judged}
 use Rattle.verdict.specs.Demands.{variableAt, markAt, numberAt, Shows, Demands}
 use Rattle.verdict.proofs.Demanded.{checks-demands}
 use Rattle.verdict.proofs.Determined.{checks-unique}
@@ -58,8 +58,8 @@ entries-fit (turned-down p) d = omega arith
 entries-fit (judged c (outside o)) d = omega arith
 entries-fit (judged c (rule-unmet w f)) d = omega arith
 entries-fit (judged c (constraint-unmet w h f)) d = omega arith
-entries-fit (judged c (not-founded t l s)) d = d .shows _ (c .accepts) _ _ refl .inside
-entries-fit (judged c (founded st)) d = omega arith
+entries-fit (judged c (some-shown t l s)) d = d .shows _ (c .accepts) _ _ refl .inside
+entries-fit (judged c (is-stable st)) d = omega arith
 
 -- ---- the lines of `unfounded n k`: `most` for the first n entries, `when` for the k after them
 

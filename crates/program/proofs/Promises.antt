@@ -18,7 +18,7 @@ use Rattle.program.specs.Refusals.{bodyForm, anyTerm, literalPosition, w
 use Rattle.program.specs.Reading.{Passed, Accepts}
 use Rattle.program.proofs.Conditions.{never, neither, both, none-first, none-below, below-none}
 use Rattle.program.proofs.Places.{variablesTo, rulesTo, constraintsTo, variable-stands, rule-at, constraint-at}
-use Rattle.program.specs.Variables.{founded}
+use Rattle.program.specs.Variables.{isFounded}
 use Rattle.program.specs.declared.Variable.{Variable}
 use Rattle.program.specs.declared.Term.{Term}
 
@@ -196,7 +196,7 @@ pub record RulePromise (vs : List Variable) (r : Rule) : Type 0 where
   pub form-least : 1 ≤ r .form
   pub form-most : r .form ≤ 7
   pub head-declared : r .head < length vs
-  pub head-founded : founded (variableIn vs (r .head)) ≡ true
+  pub head-founded : isFounded (variableIn vs (r .head)) ≡ true
   pub c-small : natAbs (r .c) ≤ maxNumber
   pub body : BodyPromise vs (r .form) (r .terms)
 
@@ -213,13 +213,13 @@ rule-promised vs r e =
     let a = neither (unknownForm (r .form)) (anyTerm (r .terms) (wrongTerm (r .form))) (f .formed) in
     let b = neither (beyond maxNumber (r .c)) (anyTerm (r .terms) (outsideTerm (r .form))) (f .ranged) in
     let d = neither (wrongHead vs (r .head)) (anyTerm (r .terms) (λ i t. undeclaredTerm vs t)) (f .declared) in
-    let g = neither (leb (length vs) (r .head)) (not (founded (variableIn vs (r .head)))) (d .0) in
+    let g = neither (leb (length vs) (r .head)) (not (isFounded (variableIn vs (r .head)))) (d .0) in
     let form = known-form (r .form) (a .0) in
     record {
       form-least = form .0;
       form-most = form .1;
       head-declared = leb-false (length vs) (r .head) (g .0);
-      head-founded = not-false (founded (variableIn vs (r .head))) (g .1);
+      head-founded = not-false (isFounded (variableIn vs (r .head))) (g .1);
       c-small = within-small maxNumber (r .c) (b .0);
       body = body-promised (form .0) (form .1) (record { formed = a .1; ranged = b .1; declared = d .1; counted = f .counted; once = f .once; product = f .product });
     }

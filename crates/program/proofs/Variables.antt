@@ -6,7 +6,7 @@ use lib.Dec.{T}
 use lib.IntN.{ℤ, pos, negℤ, _-ℤ_}
 use lib.Signed.{leZ, ltZ, leZ-yes, _≤ℤ_}
 use Rattle.format.proofs.Int.{int, up, sum-is, neg-is, not-negative}
-use Rattle.program.specs.Variables.{founded, start, far, notPast, inRange, noMore, started, short}
+use Rattle.program.specs.Variables.{isFounded, start, far, notPast, inRange, noMore, started, short}
 use Rattle.program.specs.declared.Given.{Given}
 use Rattle.program.specs.declared.Given.the-variants.{Nothing, Value}
 use Rattle.program.proofs.Tests.{cases, is-true, and-left, and-right, and-both}
@@ -72,16 +72,16 @@ module _ (x : Variable) where
     between h k = and-both (leZ (x .low) a) (leZ a (x .high)) h k
 
   pub started-in : (a : ℤ) → T (inRange x a) → T (inRange x (started x a))
-  started-in a h = cases (founded x) (λ b. T (inRange x (cond b (start x) a)))
+  started-in a h = cases (isFounded x) (λ b. T (inRange x (cond b (start x) a)))
       (λ t. between (start x) (past-refl (start x)) (past-trans (start x) a (far x) (start-first a h) (far-last a h))) (λ t. h)
 
   -- a variable that is short of a at m is founded, and m comes before a
   module _ (a m : ℤ) where
-    pub short-founded : T (short x a m) → T (founded x)
-    short-founded = and-left (founded x) (not (notPast x a m))
+    pub short-founded : T (short x a m) → T (isFounded x)
+    short-founded = and-left (isFounded x) (not (notPast x a m))
 
     pub short-before : T (short x a m) → T (not (notPast x a m))
-    short-before = and-right (founded x) (not (notPast x a m))
+    short-before = and-right (isFounded x) (not (notPast x a m))
 
   -- how far a value is from the far end, and that what comes later is nearer
   unfoldable pub toFar : ℤ → ℕ
@@ -104,8 +104,8 @@ module _ (x : Variable) where
 -- ---- where the least model begins
 
 module _ (x : Variable) {b : ℤ} (a : ℤ) where
-  pub started-founded : founded x ≡ true → b ≡ start x → b ≡ started x a
+  pub started-founded : isFounded x ≡ true → b ≡ start x → b ≡ started x a
   started-founded h e = rw h e
 
-  pub started-standard : founded x ≡ false → b ≡ a → b ≡ started x a
+  pub started-standard : isFounded x ≡ false → b ≡ a → b ≡ started x a
   started-standard h e = rw h e

@@ -6,7 +6,7 @@ use mathlib.Core.List.{List}
 use lib.IntN.{ℤ, pos}
 use lib.ListN.{getD}
 use Rattle.program.specs.Program.{Rule, variableIn, termIn}
-use Rattle.program.specs.Variables.{founded}
+use Rattle.program.specs.Variables.{isFounded}
 use Rattle.program.specs.Directions.{direction, isRising}
 use Rattle.program.specs.Evaluate.{evaluate}
 use Rattle.program.specs.declared.Given.{Given}
@@ -26,7 +26,7 @@ bodyVariable r i = termIn (r .terms) i .variable
 
 -- "A body variable is kept when it is founded and rising; every other is replaced by its assigned value."
 unfoldable pub kept : List Variable → Rule → ℕ → Bool
-kept vs r i = isRising (direction vs r i) && founded (variableIn vs (bodyVariable r i))
+kept vs r i = isRising (direction vs r i) && isFounded (variableIn vs (bodyVariable r i))
 
 -- kept positions are read in m, all others in θ
 abbrev pub reading : List Variable → Rule → Valuation → Valuation → ℕ → ℤ

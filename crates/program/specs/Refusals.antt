@@ -11,7 +11,7 @@ use Rattle.format.specs.Numbers.{beyond}
 use Rattle.program.specs.Tables.{_⇒_, select, Condition, _when_, firstOf, anyBelow}
 use Rattle.program.specs.Fields.{tagAt, valueAt, nextAt, place, tagBefore}
 use Rattle.program.specs.Program.{Program, Item, variable, rule, constraint, none, itemOf, program, variableIn, termIn}
-use Rattle.program.specs.Variables.{founded}
+use Rattle.program.specs.Variables.{isFounded}
 use Rattle.program.specs.declared.Variable.{Variable}
 use Rattle.program.specs.declared.Term.{Term}
 
@@ -99,7 +99,7 @@ unfoldable pub undeclaredTerm : List Variable → Term → Bool
 undeclaredTerm vs t = leb (length vs) (t .variable)
 
 unfoldable pub wrongHead : List Variable → ℕ → Bool
-wrongHead vs head = leb (length vs) head || not (founded (variableIn vs head))
+wrongHead vs head = leb (length vs) head || not (isFounded (variableIn vs head))
 
 unfoldable pub undeclared : List Variable → Item → Bool
 undeclared vs (variable x) = false

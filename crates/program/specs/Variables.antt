@@ -9,8 +9,8 @@ use Rattle.program.specs.declared.Variable.{Variable}
 use Rattle.program.specs.declared.Given.the-variants.{Nothing, Value}
 
 -- "0 standard, 1 founded"
-abbrev pub founded : Variable → Bool
-founded x = eqb (x .kind) 1
+abbrev pub isFounded : Variable → Bool
+isFounded x = eqb (x .kind) 1
 
 -- the starting end and the far end of its range
 unfoldable pub start : Variable → ℤ
@@ -34,8 +34,8 @@ noMore x (Value a) b = notPast x a b
 
 -- where the least model's values begin: founded variables at their starting ends, standard ones as assigned
 abbrev pub started : Variable → ℤ → ℤ
-started x a = cond (founded x) (start x) a
+started x a = cond (isFounded x) (start x) a
 
 -- a founded variable, assigned a, is short of it at m
 abbrev pub short : Variable → ℤ → ℤ → Bool
-short x a m = founded x && not (notPast x a m)
+short x a m = isFounded x && not (notPast x a m)

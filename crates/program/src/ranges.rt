@@ -1,12 +1,12 @@
 // What a variable's record says of its values.
 ghost use mathlib.Core.Path.{_≡_};
 ghost use mathlib.Core.Bool.{not};
-ghost use Rattle.program.specs.Variables.{founded, start, far, notPast, inRange, started, short};
+ghost use Rattle.program.specs.Variables.{isFounded, start, far, notPast, inRange, started, short};
 use crate::Variable;
 
 impl Variable {
     pub fn is_founded(self) -> bool
-        ensures { λ r. ⌜ r ≡ founded self ⌝ }
+        ensures { λ r. ⌜ r ≡ isFounded self ⌝ }
     {
         self.kind == 1
     }

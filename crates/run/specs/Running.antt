@@ -25,7 +25,7 @@ use Rattle.run.specs.declared.Demand.the-variants.{More, Enough}
 use Rattle.run.specs.declared.Step.{Step}
 use Rattle.run.specs.declared.Step.the-variants.{Raise, Done}
 use Rattle.run.specs.declared.Ending.{Ending}
-use Rattle.program.specs.Variables.{founded, far, notPast}
+use Rattle.program.specs.Variables.{isFounded, far, notPast}
 use Rattle.program.specs.Readings.{Valuation, gives, valued}
 use Rattle.run.specs.declared.Ending.the-variants as ending
 
@@ -130,7 +130,7 @@ pub record Running (s places masks readers : List ℕ) (θ m : List ℤ) (waitin
   pub accepts : Accepts s program
   pub tabled : Tabled s program (length (program .rules)) places masks readers
   pub assigned : Within (system program) (valued θ)
-  pub standard : (v : ℕ) → T (not (founded (variableIn (program .variables) v))) → valued m v ≡ valued θ v
+  pub standard : (v : ℕ) → T (not (isFounded (variableIn (program .variables) v))) → valued m v ≡ valued θ v
   pub within : Within (system program) (valued m)
   pub floor : Floor (system program) (valued θ) (valued m)
   pub outside : MetOutside program (valued θ) (valued m) (has waiting)

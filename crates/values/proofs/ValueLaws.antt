@@ -21,7 +21,7 @@ use Rattle.faults.specs.Faults.{FaultsBelow, faultsNumber}
 use Rattle.values.specs.Lengths.{lengthRefusal}
 use Rattle.faults.specs.declared.Faults.{Faults}
 use Rattle.faults.proofs.TermLaws.{negative-other}
-use Rattle.program.specs.Variables.{founded}
+use Rattle.program.specs.Variables.{isFounded}
 use Rattle.program.specs.declared.Variable.{Variable}
 use Rattle.program.specs.declared.Term.{Term}
 
@@ -172,7 +172,7 @@ module _ (s : List ℕ) (n head : ℕ) where
   unfolding wrongHead
   head-undeclared e = simp (variables-length, e)
 
-  pub head-kind : {x : Variable} → leb n head ≡ false → x ≡ variableIn (variablesAt s n) head → not (founded x) ≡ wrongHead (variablesAt s n) head
+  pub head-kind : {x : Variable} → leb n head ≡ false → x ≡ variableIn (variablesAt s n) head → not (isFounded x) ≡ wrongHead (variablesAt s n) head
   unfolding wrongHead
   head-kind e k = simp (variables-length, e, k)
 

@@ -19,7 +19,7 @@ use Rattle.meaning.proofs.Monotone.{laws}
 use Rattle.meaning.proofs.InRanges.{within-inside}
 use Rattle.meaning.proofs.Denials.{same-refusal, refused-or-called, lengths-fixed}
 use Rattle.report.specs.Report.{shown}
-use Rattle.verdict.specs.Checks.{Answer, refusal, range, rule, constraint, unfounded, stable, Judged, outside, rule-unmet, constraint-unmet, not-founded, founded}
+use Rattle.verdict.specs.Checks.{Answer, refusal, range, rule, constraint, unfounded, stable, Judged, outside, rule-unmet, constraint-unmet, some-shown, is-stable}
 use Rattle.verdict.specs.Checks.{checkBytes, Checks, turned-down, judged}
 use Rattle.verdict.specs.Demands.{HasUnfounded, Shows, NotRefused, Demands}
 use Rattle.verdict.proofs.Shown.{report-shows}
@@ -77,44 +77,44 @@ module _ {P : Program} (promised : Promises P) {θ : Valuation} where
   not-refusal (outside o) n at e = apart e (λ q. omega arith)
   not-refusal (rule-unmet w f) n at e = apart e (λ q. omega arith)
   not-refusal (constraint-unmet w h f) n at e = apart e (λ q. omega arith)
-  not-refusal (not-founded t l s) n at e = apart e (λ q. omega arith)
-  not-refusal (founded st) n at e = apart e (λ q. omega arith)
+  not-refusal (some-shown t l s) n at e = apart e (λ q. omega arith)
+  not-refusal (is-stable st) n at e = apart e (λ q. omega arith)
 
   judged-stable : {b : List ℕ} {r : Answer} {b′ : List ℕ} → Judged P θ b r b′ → r ≡ stable → Stable P θ
   judged-stable (outside o) e = absurd (apart e (λ q. omega arith))
   judged-stable (rule-unmet w f) e = absurd (apart e (λ q. omega arith))
   judged-stable (constraint-unmet w h f) e = absurd (apart e (λ q. omega arith))
-  judged-stable (not-founded t l s) e = absurd (apart e (λ q. omega arith))
-  judged-stable (founded st) e = st
+  judged-stable (some-shown t l s) e = absurd (apart e (λ q. omega arith))
+  judged-stable (is-stable st) e = st
 
   stable-judged : {b : List ℕ} {r : Answer} {b′ : List ℕ} → Judged P θ b r b′ → Stable P θ → r ≡ stable
   stable-judged (outside o) st = absurd (never-outside (st .meets .ranges) o)
   stable-judged (rule-unmet w f) st = absurd (f .unmet (st .meets .rules _ (f .among)))
   stable-judged (constraint-unmet w h f) st = absurd (f .unmet (st .meets .constraints _ (f .among)))
-  stable-judged (not-founded t l s) st = absurd (none-short st l (s .0) (s .1))
-  stable-judged (founded st′) st = refl
+  stable-judged (some-shown t l s) st = absurd (none-short st l (s .0) (s .1))
+  stable-judged (is-stable st′) st = refl
 
   judged-unfounded : {b : List ℕ} {r : Answer} {b′ : List ℕ} → Judged P θ b r b′ → (n : ℕ) × (k : ℕ) × (r ≡ unfounded n k) → Meets P θ × HasUnfounded P θ
   judged-unfounded (outside o) e = absurd (apart (e .2) (λ q. omega arith))
   judged-unfounded (rule-unmet w f) e = absurd (apart (e .2) (λ q. omega arith))
   judged-unfounded (constraint-unmet w h f) e = absurd (apart (e .2) (λ q. omega arith))
-  judged-unfounded (not-founded t l s) e = (t, unfounded-iff-short (laws promised) (self-model (t .ranges) (t .rules)) l .1 s)
-  judged-unfounded (founded st) e = absurd (apart (e .2) (λ q. omega arith))
+  judged-unfounded (some-shown t l s) e = (t, unfounded-iff-short (laws promised) (self-model (t .ranges) (t .rules)) l .1 s)
+  judged-unfounded (is-stable st) e = absurd (apart (e .2) (λ q. omega arith))
 
   unfounded-judged : {b : List ℕ} {r : Answer} {b′ : List ℕ} → Judged P θ b r b′ → Meets P θ × HasUnfounded P θ → (n : ℕ) × (k : ℕ) × (r ≡ unfounded n k)
   unfounded-judged (outside o) u = absurd (never-outside (u .0 .ranges) o)
   unfounded-judged (rule-unmet w f) u = absurd (f .unmet (u .0 .rules _ (f .among)))
   unfounded-judged (constraint-unmet w h f) u = absurd (f .unmet (u .0 .constraints _ (f .among)))
-  unfounded-judged (not-founded t l s) u = (_, _, refl)
-  unfounded-judged (founded st) u = absurd (none-unfounded st (u .1))
+  unfounded-judged (some-shown t l s) u = (_, _, refl)
+  unfounded-judged (is-stable st) u = absurd (none-unfounded st (u .1))
 
   judged-shows : {b : List ℕ} {r : Answer} {b′ : List ℕ} → Judged P θ b r b′ → (n k : ℕ) → r ≡ unfounded n k → Shows P θ b′ n k
   judged-shows (outside o) n k e = absurd (apart e (λ q. omega arith))
   judged-shows (rule-unmet w f) n k e = absurd (apart e (λ q. omega arith))
   judged-shows (constraint-unmet w h f) n k e = absurd (apart e (λ q. omega arith))
-  judged-shows {b′ = b′} (not-founded t l s) n k e =
+  judged-shows {b′ = b′} (some-shown t l s) n k e =
       subst (λ x. Shows P θ b′ (first x) (second x)) e (report-shows promised t l _ s)
-  judged-shows (founded st) n k e = absurd (apart e (λ q. omega arith))
+  judged-shows (is-stable st) n k e = absurd (apart e (λ q. omega arith))
 
 -- ---- a call
 

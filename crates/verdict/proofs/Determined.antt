@@ -14,7 +14,7 @@ use Rattle.meaning.proofs.Theory.{least-unique}
 use Rattle.meaning.proofs.Denials.{same-refusal, refused-or-called, lengths-fixed}
 use Rattle.meaning.proofs.Determined.{same-outside}
 use Rattle.report.specs.Report.{bounds, conditions, reported}
-use Rattle.verdict.specs.Checks.{Answer, range, rule, constraint, unfounded, FirstUnmet, Judged, outside, rule-unmet, constraint-unmet, not-founded, founded}
+use Rattle.verdict.specs.Checks.{Answer, range, rule, constraint, unfounded, FirstUnmet, Judged, outside, rule-unmet, constraint-unmet, some-shown, is-stable}
 use Rattle.verdict.specs.Checks.{checkBytes, Checks, turned-down, judged}
 use Rattle.verdict.proofs.Demanded.{never-outside, none-short}
 use Rattle.program.specs.Readings.{Valuation}
@@ -38,30 +38,30 @@ module _ {P : Program} (promised : Promises P) {θ : Valuation} where
   judged-unique (outside o) (outside q) = (ap range (same-outside o q), refl)
   judged-unique (outside o) (rule-unmet w f) = absurd (never-outside w o)
   judged-unique (outside o) (constraint-unmet w h f) = absurd (never-outside w o)
-  judged-unique (outside o) (not-founded t l s) = absurd (never-outside (t .ranges) o)
-  judged-unique (outside o) (founded st) = absurd (never-outside (st .meets .ranges) o)
+  judged-unique (outside o) (some-shown t l s) = absurd (never-outside (t .ranges) o)
+  judged-unique (outside o) (is-stable st) = absurd (never-outside (st .meets .ranges) o)
   judged-unique (rule-unmet w f) (outside q) = absurd (never-outside w q)
   judged-unique (rule-unmet w f) (rule-unmet w′ g) = (ap rule (same-unmet f g), refl)
   judged-unique (rule-unmet w f) (constraint-unmet w′ h g) = absurd (f .unmet (h _ (f .among)))
-  judged-unique (rule-unmet w f) (not-founded t l s) = absurd (f .unmet (t .rules _ (f .among)))
-  judged-unique (rule-unmet w f) (founded st) = absurd (f .unmet (st .meets .rules _ (f .among)))
+  judged-unique (rule-unmet w f) (some-shown t l s) = absurd (f .unmet (t .rules _ (f .among)))
+  judged-unique (rule-unmet w f) (is-stable st) = absurd (f .unmet (st .meets .rules _ (f .among)))
   judged-unique (constraint-unmet w h f) (outside q) = absurd (never-outside w q)
   judged-unique (constraint-unmet w h f) (rule-unmet w′ g) = absurd (g .unmet (h _ (g .among)))
   judged-unique (constraint-unmet w h f) (constraint-unmet w′ k g) = (ap constraint (same-unmet f g), refl)
-  judged-unique (constraint-unmet w h f) (not-founded t l s) = absurd (f .unmet (t .constraints _ (f .among)))
-  judged-unique (constraint-unmet w h f) (founded st) = absurd (f .unmet (st .meets .constraints _ (f .among)))
-  judged-unique (not-founded t l s) (outside q) = absurd (never-outside (t .ranges) q)
-  judged-unique (not-founded t l s) (rule-unmet w g) = absurd (g .unmet (t .rules _ (g .among)))
-  judged-unique (not-founded t l s) (constraint-unmet w h g) = absurd (g .unmet (t .constraints _ (g .among)))
-  judged-unique {b} (not-founded t l s) (not-founded t′ l′ s′) =
+  judged-unique (constraint-unmet w h f) (some-shown t l s) = absurd (f .unmet (t .constraints _ (f .among)))
+  judged-unique (constraint-unmet w h f) (is-stable st) = absurd (f .unmet (st .meets .constraints _ (f .among)))
+  judged-unique (some-shown t l s) (outside q) = absurd (never-outside (t .ranges) q)
+  judged-unique (some-shown t l s) (rule-unmet w g) = absurd (g .unmet (t .rules _ (g .among)))
+  judged-unique (some-shown t l s) (constraint-unmet w h g) = absurd (g .unmet (t .constraints _ (g .among)))
+  judged-unique {b} (some-shown t l s) (some-shown t′ l′ s′) =
       let e = one-model l l′ in
       (ap (λ (m : Valuation). unfounded (length (bounds P θ m)) (length (conditions P θ m))) e, ap (λ (m : Valuation). reported P θ m b) e)
-  judged-unique (not-founded t l s) (founded st) = absurd (none-short promised st l (s .0) (s .1))
-  judged-unique (founded st) (outside q) = absurd (never-outside (st .meets .ranges) q)
-  judged-unique (founded st) (rule-unmet w g) = absurd (g .unmet (st .meets .rules _ (g .among)))
-  judged-unique (founded st) (constraint-unmet w h g) = absurd (g .unmet (st .meets .constraints _ (g .among)))
-  judged-unique (founded st) (not-founded t l s) = absurd (none-short promised st l (s .0) (s .1))
-  judged-unique (founded st) (founded st′) = (refl, refl)
+  judged-unique (some-shown t l s) (is-stable st) = absurd (none-short promised st l (s .0) (s .1))
+  judged-unique (is-stable st) (outside q) = absurd (never-outside (st .meets .ranges) q)
+  judged-unique (is-stable st) (rule-unmet w g) = absurd (g .unmet (st .meets .rules _ (g .among)))
+  judged-unique (is-stable st) (constraint-unmet w h g) = absurd (g .unmet (st .meets .constraints _ (g .among)))
+  judged-unique (is-stable st) (some-shown t l s) = absurd (none-short promised st l (s .0) (s .1))
+  judged-unique (is-stable st) (is-stable st′) = (refl, refl)
 
 pub checks-unique : {s a b : List ℕ} {r r′ : Answer} {b₁ b₂ : List ℕ} → Checks s a b r b₁ → Checks s a b r′ b₂ → (r ≡ r′) × (b₁ ≡ b₂)
 checks-unique {a = a} {b} (turned-down p) (turned-down q) = let e = same-refusal (lengths-fixed checkBytes a b) p q in (cc, refl)

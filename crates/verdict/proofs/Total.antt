@@ -21,7 +21,7 @@ use Rattle.meaning.proofs.Monotone.{laws}
 use Rattle.meaning.proofs.Search.{Solvable, solvable}
 use Rattle.meaning.proofs.Total.{ranged}
 use Rattle.report.specs.Report.{shown}
-use Rattle.verdict.specs.Checks.{Answer, FirstUnmet, Judged, outside, rule-unmet, constraint-unmet, not-founded, founded, Checks, turned-down, judged, checkBytes}
+use Rattle.verdict.specs.Checks.{Answer, FirstUnmet, Judged, outside, rule-unmet, constraint-unmet, some-shown, is-stable, Checks, turned-down, judged, checkBytes}
 use Rattle.program.specs.Readings.{Valuation, gives}
 use Rattle.program.proofs.Tests.{cases, First, first-or-all, is-it}
 use Rattle.meaning.proofs.Denials.{Begun, begun, lengths-told, long}
@@ -68,8 +68,8 @@ module _ {P : Program} (promised : Promises P) (θ : Valuation) (b : List ℕ) w
           never c t e = T-not c (rw e tt) t
 
   founded-or : Meets P θ → (m : Valuation) → Least (system P) θ m → ((v : ℕ) × T (shown P θ m v)) ⊎ ((v : ℕ) → T (not (shown P θ m v))) → Verdict
-  founded-or t m l (inl s) = (_, _, not-founded t l s)
-  founded-or t m l (inr n) = (_, _, founded (record { meets = t; least = self-least-iff (laws promised) (self-model (t .ranges) (t .rules)) l .1 n }))
+  founded-or t m l (inl s) = (_, _, some-shown t l s)
+  founded-or t m l (inr n) = (_, _, is-stable (record { meets = t; least = self-least-iff (laws promised) (self-model (t .ranges) (t .rules)) l .1 n }))
 
   modelled : Meets P θ → Solvable P θ → Verdict
   modelled t (inl l) = founded-or t (l .0) (l .1) (shorts (l .0))

@@ -45,9 +45,9 @@ pub data Judged (P : Program) (θ : Valuation) (b : List ℕ) : Answer → List 
   rule-unmet : {i : ℕ} → Within (system P) θ → FirstUnmet (RuleMet P θ) (length (P .rules)) i → Judged P θ b (rule i) b
   constraint-unmet : {i : ℕ} → Within (system P) θ → ((j : ℕ) → j < length (P .rules) → RuleMet P θ j)
       → FirstUnmet (ConstraintMet P θ) (length (P .constraints)) i → Judged P θ b (constraint i) b
-  not-founded : {m : Valuation} → Meets P θ → Least (system P) θ m → (v : ℕ) × T (shown P θ m v)
+  some-shown : {m : Valuation} → Meets P θ → Least (system P) θ m → (v : ℕ) × T (shown P θ m v)
       → Judged P θ b (unfounded (length (bounds P θ m)) (length (conditions P θ m))) (reported P θ m b)
-  founded : Stable P θ → Judged P θ b stable b
+  is-stable : Stable P θ → Judged P θ b stable b
 
 -- "lent buffer under 12 × variables (check)"
 abbrev pub checkBytes : ℕ
