@@ -1,8 +1,8 @@
 -- Readings by their size, and one more position of a body.
 use Prim.Native.Nat.{ℕ, zero, suc, _+_, _-_, _*_, _^_, _<_, _≤_}
-use mathlib.Core.Path.{_≡_, refl, ap, _∙_}
+use mathlib.Core.Path.{_≡_, refl, sym, ap, _∙_}
 use mathlib.Core.List.{List}
-use mathlib.Core.Bool.{Bool, true, false, cond, _&&_}
+use mathlib.Core.Bool.{Bool, true, false, not, cond, _&&_, _||_, or-false}
 use native.Mathlib.Nat.{mul-le-mul, lt-of-le-of-lt}
 use native.Mathlib.Numerals.{add-one}
 use native.Mathlib.Omega.{arith}
@@ -13,9 +13,9 @@ use lib.ListN.{length, getD}
 use Rattle.format.specs.Limits.{maxNumber, maxCoefficient}
 use Rattle.format.proofs.Ints.{abs-add, abs-mul-le}
 use Rattle.program.specs.Program.{termIn}
-use Rattle.program.specs.Evaluate.{sumBelow, larger, smaller, largestTo, smallestTo, holds, allHold}
+use Rattle.program.specs.Evaluate.{sumBelow, larger, smaller, pickTo, largestTo, smallestTo, holds, allHold}
 use Rattle.words.specs.Bit.{bit}
-use Rattle.bodies.specs.Readings.{readAt, readingOf, weighted}
+use Rattle.bodies.specs.Readings.{readAt, readingOf, extreme, weighted}
 use Rattle.program.specs.declared.Term.{Term}
 use Rattle.program.specs.Evaluable.{Small, Coefficients}
 
@@ -93,36 +93,36 @@ picked-small : (t : Bool) (a b : ℤ) {m : ℕ} → natAbs a ≤ m → natAbs b 
 picked-small true a b h k = k
 picked-small false a b h k = h
 
+-- the second of two is taken where the machine's test holds
+pub extreme-is : (most : Bool) (a b : ℤ) {t : Bool} → ((most && ltZ a b) || (not most && ltZ b a)) ≡ t → cond t b a ≡ extreme most a b
+extreme-is true a b e = ap (λ (s : Bool). cond s b a) (sym e ∙ or-false (ltZ a b))
+extreme-is false a b e = ap (λ (s : Bool). cond s b a) (sym e)
+
 -- the position before i, and i
 one-before : (i : ℕ) → 1 ≤ i → (i ≡ suc (i - 1)) × (suc (i - 1) ≡ i + 1 - 1)
 one-before i h = (omega arith, omega arith)
 
-module _ (f : ℕ → ℤ) where
-  pub largest-one : f 0 ≡ largestTo f 0
-  unfolding largestTo
-  largest-one = refl
+module _ (pick : ℤ → ℤ → ℤ) (f : ℕ → ℤ) where
+  pub pick-one : f 0 ≡ pickTo pick f 0
+  unfolding pickTo
+  pick-one = refl
 
-  pub smallest-one : f 0 ≡ smallestTo f 0
-  unfolding smallestTo
-  smallest-one = refl
+  pub pick-more : (i : ℕ) → 1 ≤ i → pick (pickTo pick f (i - 1)) (f i) ≡ pickTo pick f (i + 1 - 1)
+  unfolding pickTo
+  pick-more i h = ap (λ (n : ℕ). pick (pickTo pick f (i - 1)) (f n)) (one-before i h .0) ∙ ap (pickTo pick f) (one-before i h .1)
 
-  pub largest-more : (i : ℕ) → 1 ≤ i → larger (largestTo f (i - 1)) (f i) ≡ largestTo f (i + 1 - 1)
-  unfolding largestTo
-  largest-more i h = ap (λ (n : ℕ). larger (largestTo f (i - 1)) (f n)) (one-before i h .0) ∙ ap (largestTo f) (one-before i h .1)
+  pick-small : (m : ℕ) → ((a b : ℤ) → natAbs a ≤ m → natAbs b ≤ m → natAbs (pick a b) ≤ m) → ((i : ℕ) → natAbs (f i) ≤ m)
+      → (n : ℕ) → natAbs (pickTo pick f n) ≤ m
+  unfolding pickTo
+  pick-small m p h zero = h 0
+  pick-small m p h (suc n) = p (pickTo pick f n) (f (suc n)) (pick-small m p h n) (h (suc n))
 
-  pub smallest-more : (i : ℕ) → 1 ≤ i → smaller (smallestTo f (i - 1)) (f i) ≡ smallestTo f (i + 1 - 1)
-  unfolding smallestTo
-  smallest-more i h = ap (λ (n : ℕ). smaller (smallestTo f (i - 1)) (f n)) (one-before i h .0) ∙ ap (smallestTo f) (one-before i h .1)
+module _ (f : ℕ → ℤ) (m : ℕ) (h : (i : ℕ) → natAbs (f i) ≤ m) where
+  pub largest-small : (n : ℕ) → natAbs (largestTo f n) ≤ m
+  largest-small = pick-small larger f m (λ a b. picked-small (ltZ a b) a b) h
 
-  pub largest-small : (m : ℕ) → ((i : ℕ) → natAbs (f i) ≤ m) → (n : ℕ) → natAbs (largestTo f n) ≤ m
-  unfolding largestTo
-  largest-small m h zero = h 0
-  largest-small m h (suc n) = picked-small (ltZ (largestTo f n) (f (suc n))) (largestTo f n) (f (suc n)) (largest-small m h n) (h (suc n))
-
-  pub smallest-small : (m : ℕ) → ((i : ℕ) → natAbs (f i) ≤ m) → (n : ℕ) → natAbs (smallestTo f n) ≤ m
-  unfolding smallestTo
-  smallest-small m h zero = h 0
-  smallest-small m h (suc n) = picked-small (ltZ (f (suc n)) (smallestTo f n)) (smallestTo f n) (f (suc n)) (smallest-small m h n) (h (suc n))
+  pub smallest-small : (n : ℕ) → natAbs (smallestTo f n) ≤ m
+  smallest-small = pick-small smaller f m (λ a b. picked-small (ltZ b a) a b) h
 
 -- ---- literals
 

@@ -6,8 +6,8 @@ ghost use lib.IntN.{natAbs, _+ℤ_, _*ℤ_};
 ghost use Rattle.format.specs.Limits.{maxTerms, maxNumber, maxCoefficient};
 ghost use Rattle.program.specs.Tables.{anyBelow};
 ghost use Rattle.program.specs.Program.{termsOf, termIn};
-ghost use Rattle.program.specs.Evaluate.{sumBelow, largestTo, smallestTo, holds, allHold};
-ghost use Rattle.bodies.specs.Readings.{readAt, readingOf, weighted};
+ghost use Rattle.program.specs.Evaluate.{sumBelow, pickTo, largestTo, smallestTo, holds, allHold};
+ghost use Rattle.bodies.specs.Readings.{readAt, readingOf, extreme, weighted};
 ghost use Rattle.program.specs.Evaluable.{Small, Coefficients};
 use format::Format;
 
@@ -100,6 +100,25 @@ pub fn sum(
     numbers::plus(c, total)
 }
 
+// The largest value of a body that has a term where `most` says so, else the smallest.
+fn extreme(
+    most: bool,
+    body: &[u8],
+    kept: u32,
+    first: &[i64; Format::MAX_VARIABLES],
+    second: &[i64; Format::MAX_VARIABLES],
+) -> i64
+    requires { ⌜ (4 ≤ length (now body)) × (length (now body) / 4 ≤ maxTerms) ⌝ }
+    ensures { λ r. ⌜ r ≡ pickTo (extreme most) (readingOf kept (now (first .entry)) (now (second .entry)) (termsOf (now (body .entry)))) (length (termsOf (now (body .entry))) - 1) ⌝ }
+{
+    let n = body.len() / 4;
+    let mut found = read_position(body, 0, kept, first, second);
+    for i in 1..n {
+        found = numbers::extreme(most, found, read_position(body, i, kept, first, second));
+    }
+    found
+}
+
 // The largest value of a body that has a term.
 pub fn largest(
     body: &[u8],
@@ -110,12 +129,7 @@ pub fn largest(
     requires { ⌜ (4 ≤ length (now body)) × (length (now body) / 4 ≤ maxTerms) ⌝ }
     ensures { λ r. ⌜ r ≡ largestTo (readingOf kept (now (first .entry)) (now (second .entry)) (termsOf (now (body .entry)))) (length (termsOf (now (body .entry))) - 1) ⌝ }
 {
-    let n = body.len() / 4;
-    let mut found = read_position(body, 0, kept, first, second);
-    for i in 1..n {
-        found = numbers::larger(found, read_position(body, i, kept, first, second));
-    }
-    found
+    extreme(true, body, kept, first, second)
 }
 
 // The smallest value of a body that has a term.
@@ -128,12 +142,7 @@ pub fn smallest(
     requires { ⌜ (4 ≤ length (now body)) × (length (now body) / 4 ≤ maxTerms) ⌝ }
     ensures { λ r. ⌜ r ≡ smallestTo (readingOf kept (now (first .entry)) (now (second .entry)) (termsOf (now (body .entry)))) (length (termsOf (now (body .entry))) - 1) ⌝ }
 {
-    let n = body.len() / 4;
-    let mut found = read_position(body, 0, kept, first, second);
-    for i in 1..n {
-        found = numbers::smaller(found, read_position(body, i, kept, first, second));
-    }
-    found
+    extreme(false, body, kept, first, second)
 }
 
 // The first value times the second.

@@ -2,7 +2,8 @@
 ghost use mathlib.Core.Path.{_≡_};
 ghost use Prim.Native.Nat.{_+_, _*_, _^_, _<_};
 ghost use lib.IntN.{pos, natAbs, _+ℤ_, _*ℤ_};
-ghost use Rattle.program.specs.Evaluate.{larger, smaller, holds};
+ghost use Rattle.program.specs.Evaluate.{holds};
+ghost use Rattle.bodies.specs.Readings.{extreme};
 use program::Term;
 
 pub fn plus(a: i64, b: i64) -> i64
@@ -19,16 +20,13 @@ pub fn times(a: i64, b: i64) -> i64
     a * b
 }
 
-pub fn larger(a: i64, b: i64) -> i64
-    ensures { λ r. ⌜ r ≡ larger a b ⌝ }
+// The larger of two where `most` says so, else the smaller.
+pub fn extreme(most: bool, a: i64, b: i64) -> i64
+    ensures { λ r. ⌜ r ≡ extreme most a b ⌝ }
 {
-    if a < b { b } else { a }
-}
-
-pub fn smaller(a: i64, b: i64) -> i64
-    ensures { λ r. ⌜ r ≡ smaller a b ⌝ }
-{
-    if b < a { b } else { a }
+    let above = most & (a < b);
+    let below = !most & (b < a);
+    if above | below { b } else { a }
 }
 
 // The absolute value.

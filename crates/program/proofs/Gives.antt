@@ -8,7 +8,7 @@ use lib.IntN.{ℤ, pos, natAbs, _+ℤ_, _*ℤ_}
 use lib.ListN.{length}
 use Rattle.program.specs.Program.{Rule, Constraint, termIn}
 use Rattle.program.specs.Refusals.{bodyForm}
-use Rattle.program.specs.Evaluate.{sumBelow, larger, smaller, largestTo, smallestTo, holds, allHold, onlyIf, amount, evaluate}
+use Rattle.program.specs.Evaluate.{sumBelow, larger, smaller, pickTo, largestTo, smallestTo, holds, allHold, onlyIf, amount, evaluate}
 use Rattle.program.specs.Evaluable.{fewest, hasLiterals, Evaluable, Satisfiable}
 use Rattle.program.proofs.Conditions.{never}
 use Rattle.program.proofs.Promises.{RulePromise, CountPromise, ConstraintPromise, plain-position}
@@ -77,15 +77,10 @@ module _ (f g : ℕ → ℤ) where
   sum-same zero h = refl
   sum-same (suc n) h = ap₂ _+ℤ_ (sum-same n (λ i l. h i (omega arith))) (h n (omega arith))
 
-  largest-same : (n : ℕ) → ((i : ℕ) → i ≤ n → f i ≡ g i) → largestTo f n ≡ largestTo g n
-  unfolding largestTo
-  largest-same zero h = h 0 (omega arith)
-  largest-same (suc n) h = ap₂ larger (largest-same n (λ i l. h i (omega arith))) (h (suc n) (omega arith))
-
-  smallest-same : (n : ℕ) → ((i : ℕ) → i ≤ n → f i ≡ g i) → smallestTo f n ≡ smallestTo g n
-  unfolding smallestTo
-  smallest-same zero h = h 0 (omega arith)
-  smallest-same (suc n) h = ap₂ smaller (smallest-same n (λ i l. h i (omega arith))) (h (suc n) (omega arith))
+  pick-same : (pick : ℤ → ℤ → ℤ) (n : ℕ) → ((i : ℕ) → i ≤ n → f i ≡ g i) → pickTo pick f n ≡ pickTo pick g n
+  unfolding pickTo
+  pick-same pick zero h = h 0 (omega arith)
+  pick-same pick (suc n) h = ap₂ pick (pick-same pick n (λ i l. h i (omega arith))) (h (suc n) (omega arith))
 
   hold-same : (ts : List Term) (n : ℕ) → ((i : ℕ) → i < n → f i ≡ g i) → allHold ts f n ≡ allHold ts g n
   unfolding allHold
@@ -100,8 +95,8 @@ amount-same : (r : Rule) (f g : ℕ → ℤ) → ((i : ℕ) → i < length (r .t
 amount-same r f g h e =
     seven (λ k. r .form ≡ k → amount r f ≡ amount r g)
     (λ q. amount-sum r f q ∙ ap total (sum-same (weighted f) (weighted g) n (λ i l. ap (λ (z : ℤ). termIn ts i .number *ℤ z) (h i l))) ∙ sym (amount-sum r g q))
-    (λ q. amount-largest r f q ∙ ap total (largest-same f g (n - 1) (first (enough-of e 2 q))) ∙ sym (amount-largest r g q))
-    (λ q. amount-smallest r f q ∙ ap total (smallest-same f g (n - 1) (first (enough-of e 3 q))) ∙ sym (amount-smallest r g q))
+    (λ q. amount-largest r f q ∙ ap total (pick-same f g larger (n - 1) (first (enough-of e 2 q))) ∙ sym (amount-largest r g q))
+    (λ q. amount-smallest r f q ∙ ap total (pick-same f g smaller (n - 1) (first (enough-of e 3 q))) ∙ sym (amount-smallest r g q))
     (λ q. amount-product r f q ∙ ap total (ap₂ _*ℤ_ (h 0 (omega (arith, enough-of e 4 q))) (h 1 (omega (arith, enough-of e 4 q)))) ∙ sym (amount-product r g q))
     (λ q. amount-size r f q ∙ ap (λ (z : ℤ). total (pos (natAbs z))) (h 0 (omega (arith, enough-of e 5 q))) ∙ sym (amount-size r g q))
     (λ q. amount-literals r f q ∙ sym (amount-literals r g q))

@@ -14,7 +14,7 @@ use Rattle.format.proofs.Int.{int, sum-is, times-pos, times-neg, times, not-neg
 use Rattle.program.specs.Tables.{_⇒_, select}
 use Rattle.program.specs.Program.{Rule, variableIn, termIn}
 use Rattle.program.specs.Directions.{bySign, byRange, plainDirection, direction}
-use Rattle.program.specs.Evaluate.{sumBelow, larger, smaller, largestTo, smallestTo, holds, allHold, onlyIf, amount, evaluate}
+use Rattle.program.specs.Evaluate.{sumBelow, larger, smaller, pickTo, holds, allHold, onlyIf, amount, evaluate}
 use Rattle.program.specs.Readings.{bodyVariable}
 use Rattle.program.specs.declared.Direction.{Direction}
 use Rattle.program.specs.declared.Direction.the-variants.{Rising, Falling, Mixed}
@@ -55,15 +55,22 @@ times-natural (negsuc n) x y t h = absurd t
 weight-up : (k x y : ℤ) → Moves (bySign k) x y → (k *ℤ x) ≤ℤ (k *ℤ y)
 weight-up k x y = cases (ltZ k (pos 0)) (λ b. Moves (cond b Falling Rising) x y → (k *ℤ x) ≤ℤ (k *ℤ y)) (times-negative k x y) (times-natural k x y)
 
-larger-up : {a b x y : ℤ} → a ≤ℤ b → x ≤ℤ y → larger a x ≤ℤ larger b y
-larger-up {a} {b} {x} {y} h k = cases (ltZ a x) (λ t. cond t x a ≤ℤ larger b y)
-    (λ t. cases (ltZ b y) (λ s. x ≤ℤ cond s y b) (λ s. k) (λ s. omega int))
-    (λ t. cases (ltZ b y) (λ s. a ≤ℤ cond s y b) (λ s. omega int) (λ s. h))
+-- one of two, before and after both have risen: left are the ways in which the choice changed
+picked-up : (t s : Bool) {a b x y : ℤ} → a ≤ℤ b → x ≤ℤ y → (T t → T (not s) → x ≤ℤ b) → (T (not t) → T s → a ≤ℤ y) → cond t x a ≤ℤ cond s y b
+picked-up true true h k p q = k
+picked-up true false h k p q = p tt tt
+picked-up false true h k p q = q tt tt
+picked-up false false h k p q = h
 
-smaller-up : {a b x y : ℤ} → a ≤ℤ b → x ≤ℤ y → smaller a x ≤ℤ smaller b y
-smaller-up {a} {b} {x} {y} h k = cases (ltZ x a) (λ t. cond t x a ≤ℤ smaller b y)
-    (λ t. cases (ltZ y b) (λ s. x ≤ℤ cond s y b) (λ s. k) (λ s. omega int))
-    (λ t. cases (ltZ y b) (λ s. a ≤ℤ cond s y b) (λ s. omega int) (λ s. h))
+-- the pick of two values that have risen has risen
+abbrev Rises : (ℤ → ℤ → ℤ) → Type 0
+Rises pick = (a b x y : ℤ) → a ≤ℤ b → x ≤ℤ y → pick a x ≤ℤ pick b y
+
+larger-up : Rises larger
+larger-up a b x y h k = picked-up (ltZ a x) (ltZ b y) h k (λ t s. omega int) (λ t s. omega int)
+
+smaller-up : Rises smaller
+smaller-up a b x y h k = picked-up (ltZ x a) (ltZ y b) h k (λ t s. omega int) (λ t s. omega int)
 
 -- a value lies between a variable's ends
 pub record Between (v : Variable) (x : ℤ) : Type 0 where
@@ -85,15 +92,10 @@ module _ (f g : ℕ → ℤ) where
   sum-up zero h = ≤ℤ-refl (pos 0)
   sum-up (suc n) h = omega (int, sum-is (sumBelow f n) (f n), sum-is (sumBelow g n) (g n), sum-up n (λ i l. h i (omega arith)), h n (omega arith))
 
-  largest-up : (n : ℕ) → ((i : ℕ) → i ≤ n → f i ≤ℤ g i) → largestTo f n ≤ℤ largestTo g n
-  unfolding largestTo
-  largest-up zero h = h 0 (omega arith)
-  largest-up (suc n) h = larger-up (largest-up n (λ i l. h i (omega arith))) (h (suc n) (omega arith))
-
-  smallest-up : (n : ℕ) → ((i : ℕ) → i ≤ n → f i ≤ℤ g i) → smallestTo f n ≤ℤ smallestTo g n
-  unfolding smallestTo
-  smallest-up zero h = h 0 (omega arith)
-  smallest-up (suc n) h = smaller-up (smallest-up n (λ i l. h i (omega arith))) (h (suc n) (omega arith))
+  pick-up : {pick : ℤ → ℤ → ℤ} → Rises pick → (n : ℕ) → ((i : ℕ) → i ≤ n → f i ≤ℤ g i) → pickTo pick f n ≤ℤ pickTo pick g n
+  unfolding pickTo
+  pick-up p zero h = h 0 (omega arith)
+  pick-up {pick} p (suc n) h = p (pickTo pick f n) (pickTo pick g n) (f (suc n)) (g (suc n)) (pick-up p n (λ i l. h i (omega arith))) (h (suc n) (omega arith))
 
 -- a literal that holds still holds: its value has moved the way that its op allows
 pub record Eases (t : Term) (x y : ℤ) : Type 0 where
@@ -134,8 +136,8 @@ module _ {vs : List Variable} {r : Rule} (p : RulePromise vs r) (at to : ℕ →
   amount-up w m =
       seven (λ k. r .form ≡ k → amount r at ≤ℤ amount r to)
       (λ q. rw (amount-sum r at q, amount-sum r to q) (total (sum-up (λ i. termIn ts i .number *ℤ at i) (λ i. termIn ts i .number *ℤ to i) n (weighed q))))
-      (λ q. rw (amount-largest r at q, amount-largest r to q) (total (largest-up at to (n - 1) (first (omega arith) (omega arith) (p .body .count .max-least q)))))
-      (λ q. rw (amount-smallest r at q, amount-smallest r to q) (total (smallest-up at to (n - 1) (first (omega arith) (omega arith) (p .body .count .min-least q)))))
+      (λ q. rw (amount-largest r at q, amount-largest r to q) (total (pick-up at to larger-up (n - 1) (first (omega arith) (omega arith) (p .body .count .max-least q)))))
+      (λ q. rw (amount-smallest r at q, amount-smallest r to q) (total (pick-up at to smaller-up (n - 1) (first (omega arith) (omega arith) (p .body .count .min-least q)))))
       (λ q. rw (amount-product r at q, amount-product r to q) (total (product q (omega (arith, p .body .count .product-two q)))))
       (λ q. rw (amount-size r at q, amount-size r to q) (total (sized q)))
       (λ q. rw (amount-literals r at q, amount-literals r to q) (≤ℤ-refl (r .c)))

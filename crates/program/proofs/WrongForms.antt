@@ -5,7 +5,7 @@ use mathlib.Core.List.{List, [], _∷_}
 use lib.IntN.{ℤ, pos, negℤ}
 use Rattle.format.proofs.Int.{int}
 use Rattle.program.specs.Program.{Rule}
-use Rattle.program.specs.Evaluate.{largestTo, smallestTo, allHold, amount, evaluate}
+use Rattle.program.specs.Evaluate.{pickTo, allHold, amount, evaluate}
 use Rattle.program.specs.declared.Given.{Given}
 use Rattle.program.specs.declared.Term.{Term}
 use Rattle.program.specs.declared.Given.the-variants.{Nothing, Value}
@@ -37,12 +37,12 @@ module _ (given : Rule → (ℕ → ℤ) → Given) (right : (r : Rule) (f : ℕ
 
   -- 1 + max(3, 5) is 6: one that takes the smallest gives 4
   pub not-min-for-max : given (of-form 2 (plain 0 ∷ plain 1 ∷ [])) (at (pos 3) (pos 5)) ≡ Value (pos 4) → ⊥
-  unfolding largestTo allHold amount evaluate
+  unfolding pickTo allHold amount evaluate
   not-min-for-max e = let q : pos 6 ≡ pos 4 = values (of-form 2 (plain 0 ∷ plain 1 ∷ [])) (at (pos 3) (pos 5)) e in omega int
 
   -- 1 + min(3, 5) is 4: one that takes the largest gives 6
   pub not-max-for-min : given (of-form 3 (plain 0 ∷ plain 1 ∷ [])) (at (pos 3) (pos 5)) ≡ Value (pos 6) → ⊥
-  unfolding smallestTo allHold amount evaluate
+  unfolding pickTo allHold amount evaluate
   not-max-for-min e = let q : pos 4 ≡ pos 6 = values (of-form 3 (plain 0 ∷ plain 1 ∷ [])) (at (pos 3) (pos 5)) e in omega int
 
   -- 1 + |-3| is 4: one that keeps the sign gives -2

@@ -23,14 +23,17 @@ larger a b = cond (ltZ a b) b a
 abbrev pub smaller : ℤ → ℤ → ℤ
 smaller a b = cond (ltZ b a) b a
 
--- the largest and the smallest of f 0 .. f n
-unfoldable pub largestTo : (ℕ → ℤ) → ℕ → ℤ
-largestTo f zero = f zero
-largestTo f (suc n) = larger (largestTo f n) (f (suc n))
+-- f 0, then for each of f 1 .. f n the one that `pick` takes of it and the one before
+unfoldable pub pickTo : (ℤ → ℤ → ℤ) → (ℕ → ℤ) → ℕ → ℤ
+pickTo pick f zero = f zero
+pickTo pick f (suc n) = pick (pickTo pick f n) (f (suc n))
 
-unfoldable pub smallestTo : (ℕ → ℤ) → ℕ → ℤ
-smallestTo f zero = f zero
-smallestTo f (suc n) = smaller (smallestTo f n) (f (suc n))
+-- the largest and the smallest of f 0 .. f n
+abbrev pub largestTo : (ℕ → ℤ) → ℕ → ℤ
+largestTo = pickTo larger
+
+abbrev pub smallestTo : (ℕ → ℤ) → ℕ → ℤ
+smallestTo = pickTo smaller
 
 -- "op 1 means variable ≥ number; op 2 means variable < number"; a plain term asks nothing
 abbrev pub holds : Term → ℤ → Bool

@@ -1,24 +1,24 @@
--- Invariant: the largest of the first i values; a turn takes the larger of it and the next.
+-- Invariant: the largest, or the smallest, of the first i values; a turn takes the larger, or the smaller, of it and the next.
 use mathlib.Core.Path.{_≡_, refl, ap, ap₂, _∙_}
 use Prim.Native.Nat.{ℕ, _≤_, _-_, _/_}
 use native.Mathlib.Omega.{arith}
 use lib.ListN.{length}
 use Rattle.program.specs.Program.{termsOf}
-use Rattle.program.specs.Evaluate.{largestTo, larger}
+use Rattle.program.specs.Evaluate.{pickTo}
 use Rattle.program.proofs.Bodies.{terms-length}
-use Rattle.bodies.specs.Readings.{readingOf}
+use Rattle.bodies.specs.Readings.{readingOf, extreme}
 use mir.Syntax.{w64}
 use mir.Val.{toZ, ofZ}
-use Rattle.bodies.proofs.Loops.{largest-one, largest-more}
+use Rattle.bodies.proofs.Loops.{pick-one, pick-more}
 use borrow.Author.Needs.{needs}
-use Rattle.bodies.proofs.largest.Statement.{statement}
-use Rattle.bodies.proofs.largest.Tie as tie
+use Rattle.bodies.proofs.extreme.Statement.{statement}
+use Rattle.bodies.proofs.extreme.Tie as tie
 
 abbrev Inv-loop : tie.InvT-loop
-Inv-loop body kept first second n found₀ i₀ found i = (1 ≤ i) × (i ≤ n) × (n ≡ length body / 4) × (toZ w64 found ≡ largestTo (readingOf kept first second (termsOf body)) (i - 1))
+Inv-loop most body kept first second n found₀ i₀ found i = (1 ≤ i) × (i ≤ n) × (n ≡ length body / 4) × (toZ w64 found ≡ pickTo (extreme most) (readingOf kept first second (termsOf body)) (i - 1))
 
 abbrev μ-loop : tie.MeasureT-loop
-μ-loop body kept first second n found₀ i₀ found i = n - i
+μ-loop most body kept first second n found₀ i₀ found i = n - i
 
 read-position-requires : tie.Need-read-position-requires Inv-loop μ-loop
 read-position-requires c κs = (omega arith, omega arith)
@@ -26,13 +26,13 @@ read-position-requires c κs = (omega arith, omega arith)
 loop-holds : tie.Need-loop-holds Inv-loop μ-loop
 loop-holds c =
     let r : toZ w64 (ofZ w64 (c .read-position .result)) ≡ c .read-position .result = search needs in
-    (omega arith, omega arith, refl, r ∙ c .read-position .ensures ∙ largest-one _)
+    (omega arith, omega arith, refl, r ∙ c .read-position .ensures ∙ pick-one _ _)
 
 read-position-requires-2 : tie.Need-read-position-requires-2 Inv-loop μ-loop
 read-position-requires-2 c κs = (omega arith, omega arith)
 
-larger-requires : tie.Need-larger-requires Inv-loop μ-loop
-larger-requires c κs = search needs
+extreme-requires : tie.Need-extreme-requires Inv-loop μ-loop
+extreme-requires c κs = search needs
 
 add-i : tie.Need-add-i Inv-loop μ-loop
 add-i c = search needs
@@ -42,19 +42,20 @@ loop-less c = search needs
 
 loop-again : tie.Need-loop-again Inv-loop μ-loop
 loop-again c =
-    let r : toZ w64 (ofZ w64 (c .larger .result)) ≡ c .larger .result = search needs in
+    let r : toZ w64 (ofZ w64 (c .extreme .result)) ≡ c .extreme .result = search needs in
     let v : toZ w64 (ofZ w64 (c .before .read-position2 .result)) ≡ c .before .read-position2 .result = search needs in
     let l = c .before .before .before .loop in
-    (omega arith, omega arith, refl, r ∙ c .larger .ensures ∙ ap₂ larger (l .inv .3) (v ∙ c .before .read-position2 .ensures) ∙ largest-more _ (l .i) (l .inv .0))
+    let most = c .before .before .before .before .before .before .args .most in
+    (omega arith, omega arith, refl, r ∙ c .extreme .ensures ∙ ap₂ (extreme most) (l .inv .3) (v ∙ c .before .read-position2 .ensures) ∙ pick-more _ _ (l .i) (l .inv .0))
 
 returns : tie.Need-returns Inv-loop μ-loop
 returns c =
     let a = c .before .before .before .before .args in
     let e : c .before .loop .i ≡ length (termsOf (a .body .now)) = omega (arith, terms-length (a .body .now)) in
-    c .before .loop .inv .3 ∙ ap (λ (n : ℕ). largestTo (readingOf (a .kept) (a .first .now) (a .second .now) (termsOf (a .body .now))) (n - 1)) e
+    c .before .loop .inv .3 ∙ ap (λ (n : ℕ). pickTo (extreme (a .most)) (readingOf (a .kept) (a .first .now) (a .second .now) (termsOf (a .body .now))) (n - 1)) e
 
-pub largest-spec : {M : Type 1} → statement M
-largest-spec =
+pub extreme-spec : {M : Type 1} → statement M
+extreme-spec =
     tie.close
     (tie.spec
     Inv-loop
@@ -62,7 +63,7 @@ largest-spec =
     read-position-requires
     loop-holds
     read-position-requires-2
-    larger-requires
+    extreme-requires
     add-i
     loop-less
     loop-again
