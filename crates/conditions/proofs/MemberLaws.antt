@@ -6,13 +6,7 @@ use native.Mathlib.Decide.{ℕ-discrete, decLt}
 use native.Mathlib.Omega.{arith}
 use lib.Dec.{eqb, ltb}
 use borrow.Author.Tests.{eq-eqb, ne-eqb, lt-ltb, le-ltb}
-
-eqb-swap : (a b : ℕ) → eqb a b ≡ eqb b a
-eqb-swap a b = go (ℕ-discrete a b)
-  where
-    go : Dec (a ≡ b) → eqb a b ≡ eqb b a
-    go (yes e) = eq-eqb a b e ∙ sym (eq-eqb b a (sym e))
-    go (no f) = ne-eqb a b f ∙ sym (ne-eqb b a (λ e. f (sym e)))
+use Rattle.program.proofs.Tests.{eqb-swap}
 
 module _ {b : Bool} (x : ℕ) (old : ℕ → Bool) where
   pub with-one : {new : ℕ → Bool} → b ≡ true → ((v : ℕ) → new v ≡ (eqb v x || old v)) → (v : ℕ) → new v ≡ (old v || (b && eqb x v))

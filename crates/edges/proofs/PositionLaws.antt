@@ -3,7 +3,6 @@ use Prim.Native.Nat.{ℕ, _+_}
 use mathlib.Core.Path.{_≡_, refl, sym, ap, _∙_, subst}
 use mathlib.Core.List.{List}
 use mathlib.Core.Bool.{Bool, true, false, _||_, _&&_, or-false, or-comm, or-assoc}
-use native.Mathlib.Decide.{ℕ-discrete}
 use lib.ListN.{length}
 use lib.Dec.{eqb}
 use borrow.Author.Tests.{eq-eqb, ne-eqb}
@@ -14,17 +13,11 @@ use Rattle.program.specs.Directions.{direction, isFalling, isMixed}
 use Rattle.program.specs.declared.Direction.{Direction}
 use Rattle.program.specs.declared.Direction.the-variants.{Rising, Falling, Mixed}
 use Rattle.program.proofs.Conditions.{any-next, never}
+use Rattle.program.proofs.Tests.{eqb-swap}
 use Rattle.edges.specs.Edges.{Grown, anyMixed, drawsEdge, drawsAt, drawsIn, shareIn, offendsAt, offendsIn}
 use Rattle.program.specs.declared.Variable.{Variable}
 
 -- ---- rows that take in edges
-
-eqb-swap : (a b : ℕ) → eqb a b ≡ eqb b a
-eqb-swap a b = go (ℕ-discrete a b)
-  where
-    go : Dec (a ≡ b) → eqb a b ≡ eqb b a
-    go (yes e) = eq-eqb a b e ∙ sym (eq-eqb b a (sym e))
-    go (no f) = ne-eqb a b f ∙ sym (ne-eqb b a (λ e. f (sym e)))
 
 pub grown-as : {r r′ e e′ : ℕ → ℕ → Bool} → e ≡ e′ → Grown r r′ e → Grown r r′ e′
 grown-as {r} {r′} q g = subst (Grown r r′) q g

@@ -1,10 +1,12 @@
 -- Tests as facts.
-use mathlib.Core.Path.{_≡_, refl, sym}
+use mathlib.Core.Path.{_≡_, refl, sym, _∙_}
 use mathlib.Core.Bool.{Bool, true, false, not, _&&_, true≢false}
 use Prim.Native.Nat.{ℕ, zero, suc, _<_}
 use mathlib.Core.Logic.{_⊎_, inl, inr}
+use native.Mathlib.Decide.{ℕ-discrete}
 use native.Mathlib.Omega.{arith}
-use lib.Dec.{T}
+use lib.Dec.{T, eqb}
+use borrow.Author.Tests.{eq-eqb, ne-eqb}
 use Rattle.program.proofs.Conditions.{last-or}
 
 -- a test's two ways, with what each leaves
@@ -30,6 +32,14 @@ and-right false b t = absurd t
 pub and-both : (a b : Bool) → T a → T b → T (a && b)
 and-both true b s t = t
 and-both false b s t = s
+
+-- whether two numbers are the same, either way round
+pub eqb-swap : (a b : ℕ) → eqb a b ≡ eqb b a
+eqb-swap a b = go (ℕ-discrete a b)
+  where
+    go : Dec (a ≡ b) → eqb a b ≡ eqb b a
+    go (yes e) = eq-eqb a b e ∙ sym (eq-eqb b a (sym e))
+    go (no f) = ne-eqb a b f ∙ sym (ne-eqb b a (λ e. f (sym e)))
 
 -- ---- the first that fails
 
