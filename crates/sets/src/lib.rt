@@ -1,7 +1,7 @@
 // A set of variables: one bit for each number.
-use format::Format;
 use words::Found;
 use words::Words;
+use words::next_bit;
 ghost use mathlib.Core.Path.{_≡_};
 ghost use mathlib.Core.Bool.{_||_, false};
 ghost use Prim.Native.Nat.{ℕ};
@@ -80,16 +80,6 @@ impl Set {
     pub fn next(self, from: usize) -> Found
         ensures { λ r. ⌜ NextIs (has (self .words)) from maxVariables r ⌝ }
     {
-        let mut at = from;
-        while at < Format::MAX_VARIABLES {
-            let w = self.words[at / Words::BITS] >> (at % Words::BITS);
-            if w != 0 {
-                let zeros = u64::trailing_zeros(w) as usize;
-                let found = at + zeros;
-                return Found::At(found);
-            }
-            at = (at / Words::BITS + 1) * Words::BITS;
-        }
-        Found::Nothing
+        next_bit(&self.words, from)
     }
 }
