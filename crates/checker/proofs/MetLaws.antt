@@ -33,11 +33,11 @@ exceeds-unmet : (P : Program) (θ : Valuation) (i : ℕ) {a : ℤ} → Exceeds P
 exceeds-unmet P θ i {a} e r =
     T-not (notPast (variableIn (P .variables) (headOf P i)) a (θ (headOf P i))) (e .more .lt) (subst (λ g. GivenNoMore (system P) (headOf P i) g (θ (headOf P i))) (e .gives-it) r)
 
-module _ {s : List ℕ} {k : Counts} {places masks : List ℕ} (l : Laid s k places masks) where
-  pub laid-rules : {P : Program} → Placed s P places masks → length (P .rules) ≡ k .rules
+module _ {s : List ℕ} {k : Counts} {offsets masks : List ℕ} (l : Laid s k offsets masks) where
+  pub laid-rules : {P : Program} → Placed s P offsets masks → length (P .rules) ≡ k .rules
   laid-rules p = counts-of (l .accepted) (p .accepts) .rules-are
 
-  pub laid-stands : (i : ℕ) → i < k .rules → (i < maxRules) × Stands s (getD places i 0) (getD masks i 0)
+  pub laid-stands : (i : ℕ) → i < k .rules → (i < maxRules) × Stands s (getD offsets i 0) (getD masks i 0)
   laid-stands i h =
       let a = reads-accepts (l .accepted) in (
         omega (arith, limited (l .accepted) .few-rules),
@@ -45,14 +45,14 @@ module _ {s : List ℕ} {k : Counts} {places masks : List ℕ} (l : Laid s k pla
       )
 
   module _ (θ : Valuation) (i : ℕ) where
-    pub rule-unmet-at : i < k .rules → (P : Program) → Placed s P places masks → ((j : ℕ) → j < i → RuleMet P θ j) → {a : ℤ} → Exceeds P θ θ i a
+    pub rule-unmet-at : i < k .rules → (P : Program) → Placed s P offsets masks → ((j : ℕ) → j < i → RuleMet P θ j) → {a : ℤ} → Exceeds P θ θ i a
         → FirstUnmet (RuleMet P θ) (length (P .rules)) i
     rule-unmet-at h P p before e = record { among = omega (arith, laid-rules p); unmet = exceeds-unmet P θ i e; first = before }
 
     pub rule-met-at : (P : Program) → ((j : ℕ) → j < i → RuleMet P θ j) → RuleMet P θ i → (j : ℕ) → j < i + 1 → RuleMet P θ j
     rule-met-at P before now j h = last-or (RuleMet P θ) i j (omega arith) (before j) now
 
-    pub rules-met : k .rules ≤ i → (P : Program) → Placed s P places masks → ((j : ℕ) → j < i → RuleMet P θ j) → (j : ℕ) → j < length (P .rules) → RuleMet P θ j
+    pub rules-met : k .rules ≤ i → (P : Program) → Placed s P offsets masks → ((j : ℕ) → j < i → RuleMet P θ j) → (j : ℕ) → j < length (P .rules) → RuleMet P θ j
     rules-met h P p before j l′ = before j (omega (arith, laid-rules p))
 
 -- ---- constraints

@@ -44,7 +44,7 @@ fn check_constraints(
     file: &[u8],
     counts: Counts,
     start: usize,
-    places: &[usize; Format::MAX_RULES],
+    offsets: &[usize; Format::MAX_RULES],
     masks: &[u32; Format::MAX_RULES],
     readers: &[u64; Tables::READERS],
     values: &[i64; Format::MAX_VARIABLES],
@@ -52,7 +52,7 @@ fn check_constraints(
 ) -> Verdict
     requires { ⌜ AcceptedAs (now file) counts ⌝ }
     requires { ⌜ ((P : Program) → Accepts (now file) P → start ≡ constraintPlace (now file) P 0) ⌝ }
-    requires { ⌜ TablesOf (now file) (now places) (now masks) (now readers) ⌝ }
+    requires { ⌜ TablesOf (now file) (now offsets) (now masks) (now readers) ⌝ }
     requires { ⌜ ((P : Program) → Accepts (now file) P → Within (system P) (valued (now values))) ⌝ }
     requires { ⌜ ((P : Program) → Accepts (now file) P → (i : ℕ) → i < length (P .rules) → RuleMet P (valued (now values)) i) ⌝ }
     requires { ⌜ checkBytes * counts .variables ≤ length (now report) ⌝ }
@@ -61,7 +61,7 @@ fn check_constraints(
     let unmet = first_unmet_constraint(file, start, counts, values);
     match unmet {
         Found::At(i) => Verdict::Constraint(i),
-        Found::Nothing => compare(file, counts, places, masks, readers, values, report),
+        Found::Nothing => compare(file, counts, offsets, masks, readers, values, report),
     }
 }
 
@@ -77,11 +77,11 @@ fn check_rules(
     requires { ⌜ checkBytes * counts .variables ≤ length (now report) ⌝ }
     ensures { λ r. ⌜ ((P : Program) → Accepts (now (file .entry)) P → Judged P (valued (now (values .entry))) (now (report .entry)) (answerOf r) (now (report .exit))) ⌝ }
 {
-    let mut places = [0usize; Format::MAX_RULES];
+    let mut offsets = [0usize; Format::MAX_RULES];
     let mut masks = [0u32; Format::MAX_RULES];
     let mut readers = [0u64; Tables::READERS];
-    let start = fill_tables(file, counts, &mut places, &mut masks, &mut readers);
-    let unmet = first_unmet_rule(file, counts, &places, &masks, values);
+    let start = fill_tables(file, counts, &mut offsets, &mut masks, &mut readers);
+    let unmet = first_unmet_rule(file, counts, &offsets, &masks, values);
     match unmet {
         Found::At(i) => Verdict::Rule(i),
         Found::Nothing => {
@@ -89,7 +89,7 @@ fn check_rules(
                 file,
                 counts,
                 start,
-                &places,
+                &offsets,
                 &masks,
                 &readers,
                 values,

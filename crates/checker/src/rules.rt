@@ -16,18 +16,18 @@ use words::Found;
 pub fn first_unmet_rule(
     file: &[u8],
     counts: Counts,
-    places: &[usize; Format::MAX_RULES],
+    offsets: &[usize; Format::MAX_RULES],
     masks: &[u32; Format::MAX_RULES],
     assigned: &[i64; Format::MAX_VARIABLES],
 ) -> Found
-    requires { ⌜ Laid (now file) counts (now places) (now masks) ⌝ }
+    requires { ⌜ Laid (now file) counts (now offsets) (now masks) ⌝ }
     requires { ⌜ Small (now assigned) ⌝ }
-    ensures { λ r. ⌜ ((P : Program) → Placed (now (file .entry)) P (now (places .entry)) (now (masks .entry)) → UnmetIs (RuleMet P (valued (now (assigned .entry)))) (length (P .rules)) r) ⌝ }
+    ensures { λ r. ⌜ ((P : Program) → Placed (now (file .entry)) P (now (offsets .entry)) (now (masks .entry)) → UnmetIs (RuleMet P (valued (now (assigned .entry)))) (length (P .rules)) r) ⌝ }
 {
     let rules = counts.rules;
     let mut i = 0;
     while i < rules {
-        let found = demands::look(file, places, masks, i, assigned, assigned);
+        let found = demands::look(file, offsets, masks, i, assigned, assigned);
         if let Demand::More(a) = found {
             return Found::At(i);
         }

@@ -44,25 +44,25 @@ fn show(
 pub fn compare(
     file: &[u8],
     counts: Counts,
-    places: &[usize; Format::MAX_RULES],
+    offsets: &[usize; Format::MAX_RULES],
     masks: &[u32; Format::MAX_RULES],
     readers: &[u64; Tables::READERS],
     assigned: &[i64; Format::MAX_VARIABLES],
     report: &mut [u8],
 ) -> Verdict
     requires { ⌜ AcceptedAs (now file) counts ⌝ }
-    requires { ⌜ TablesOf (now file) (now places) (now masks) (now readers) ⌝ }
+    requires { ⌜ TablesOf (now file) (now offsets) (now masks) (now readers) ⌝ }
     requires { ⌜ ((P : Program) → Accepts (now file) P → Meets P (valued (now assigned))) ⌝ }
     requires { ⌜ checkBytes * counts .variables ≤ length (now report) ⌝ }
     ensures { λ r. ⌜ ((P : Program) → Accepts (now (file .entry)) P → Judged P (valued (now (assigned .entry))) (now (report .entry)) (answerOf r) (now (report .exit))) ⌝ }
 {
     let n = counts.variables;
     let mut model = [0i64; Format::MAX_VARIABLES];
-    run(file, counts, places, masks, readers, assigned, &mut model);
+    run(file, counts, offsets, masks, readers, assigned, &mut model);
     let set = short_set(file, n, assigned, &model);
     if set.count() == 0 {
         return Verdict::Stable;
     }
-    let conditions = asked(file, counts, places, set);
+    let conditions = asked(file, counts, offsets, set);
     show(report, set, conditions, &model, assigned)
 }

@@ -16,22 +16,22 @@ use Rattle.program.specs.declared.Direction.{Direction}
 use Rattle.program.proofs.Conditions.{any-same}
 use Rattle.reader.proofs.Published.{reads-accepts, counts-of, variables-are, limited, rule-lies}
 use Rattle.tables.specs.Entries.{RuleHere}
-use Rattle.tables.specs.Laid.{PlacesOf}
+use Rattle.tables.specs.Laid.{OffsetsOf}
 use Rattle.tables.proofs.TableLaws.{here}
 use Rattle.report.specs.Report.{askedBy, asked}
 use Rattle.conditions.specs.Asking.{askedInto}
 
-module _ (s places : List ℕ) (k : Counts) (r : AcceptedAs s k) (l : PlacesOf s places) where
+module _ (s offsets : List ℕ) (k : Counts) (r : AcceptedAs s k) (l : OffsetsOf s offsets) where
   pub rules-few : k .rules ≤ maxRules
   rules-few = limited r .few-rules
 
-  pub rule-here : (i : ℕ) → i < k .rules → RuleHere s (k .variables) (getD places i 0)
-  rule-here i h = let a = reads-accepts r in here r (a .accepts) i (getD places i 0) h (l (a .meant) (a .accepts) i (omega (arith, a .rules-are)))
+  pub rule-here : (i : ℕ) → i < k .rules → RuleHere s (k .variables) (getD offsets i 0)
+  rule-here i h = let a = reads-accepts r in here r (a .accepts) i (getD offsets i 0) h (l (a .meant) (a .accepts) i (omega (arith, a .rules-are)))
 
   module _ (set : ℕ → Bool) (asks : Direction → Bool → Bool) where
     -- what the rule in field i asks
     abbrev fieldAsks : ℕ → ℕ → Bool
-    fieldAsks v i = askedInto (variablesAt s (k .variables)) set (ruleOf (valueAt s (getD places i 0))) asks v
+    fieldAsks v i = askedInto (variablesAt s (k .variables)) set (ruleOf (valueAt s (getD offsets i 0))) asks v
 
     module _ (P : Program) (x : Accepts s P) (v : ℕ) where
       -- what the program's rule asks

@@ -6,7 +6,7 @@ ghost use Rattle.program.specs.Fields.{valueAt};
 ghost use Rattle.program.specs.Program.{Program, ruleOf, variablesAt};
 ghost use Rattle.program.specs.Reading.{AcceptedAs, Accepts};
 ghost use Rattle.tables.specs.Entries.{RuleHere};
-ghost use Rattle.tables.specs.Laid.{PlacesOf};
+ghost use Rattle.tables.specs.Laid.{OffsetsOf};
 ghost use Rattle.report.specs.Report.{asked, asksMost, asksLeast};
 ghost use Rattle.conditions.specs.Asking.{AsksMore, askedInto};
 use crate::asking::Asked;
@@ -31,9 +31,9 @@ fn ask_field(before: Asked, file: &[u8], variables: usize, at: usize, set: Set) 
 }
 
 // The variables with a condition 'at most' and those with one 'at least', from the rules with a head in the set.
-pub fn asked(file: &[u8], counts: Counts, places: &[usize; Format::MAX_RULES], set: Set) -> Asked
+pub fn asked(file: &[u8], counts: Counts, offsets: &[usize; Format::MAX_RULES], set: Set) -> Asked
     requires { ⌜ AcceptedAs (now file) counts ⌝ }
-    requires { ⌜ PlacesOf (now file) (now places) ⌝ }
+    requires { ⌜ OffsetsOf (now file) (now offsets) ⌝ }
     ensures { λ r. ⌜ ((P : Program) → Accepts (now (file .entry)) P → (v : ℕ) → has (r .most .words) v ≡ asked P (has (set .words)) asksMost v) ⌝ }
     ensures { λ r. ⌜ ((P : Program) → Accepts (now (file .entry)) P → (v : ℕ) → has (r .least .words) v ≡ asked P (has (set .words)) asksLeast v) ⌝ }
 {
@@ -46,7 +46,7 @@ pub fn asked(file: &[u8], counts: Counts, places: &[usize; Format::MAX_RULES], s
     };
     let mut i = 0;
     while i < rules {
-        let at = places[i];
+        let at = offsets[i];
         let next = ask_field(all, file, n, at, set);
         all = next;
         i += 1;

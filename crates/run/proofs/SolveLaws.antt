@@ -51,13 +51,13 @@ use Rattle.program.proofs.Variables.{past-refl, no-more-past}
 row-bit : (readers : List ℕ) (x i : ℕ) → i < maxRules → has (take rowWords (drop (rowWords * x) readers)) i ≡ has readers (maxRules * x + i)
 unfolding has
 row-bit readers x i l =
-    ap₂ bit (getD-take rowWords (drop (rowWords * x) readers) (i / wordBits) 0 (omega arith) ∙ getD-drop (rowWords * x) readers (i / wordBits) 0 ∙ ap (λ (k : ℕ). getD readers k 0) word) place
+    ap₂ bit (getD-take rowWords (drop (rowWords * x) readers) (i / wordBits) 0 (omega arith) ∙ getD-drop (rowWords * x) readers (i / wordBits) 0 ∙ ap (λ (k : ℕ). getD readers k 0) word) in-word
   where
     word : rowWords * x + i / wordBits ≡ (maxRules * x + i) / wordBits
     word = omega arith
 
-    place : i % wordBits ≡ (maxRules * x + i) % wordBits
-    place = omega arith
+    in-word : i % wordBits ≡ (maxRules * x + i) % wordBits
+    in-word = omega arith
 
 pub joined-row : (readers : List ℕ) (x start : ℕ) (new old : ℕ → Bool) → start ≡ rowWords * x
     → ((i : ℕ) → new i ≡ (old i || has (take (start + rowWords - start) (drop start readers)) i))
@@ -97,9 +97,9 @@ module _ (y : Variable) (readers : List ℕ) (h : ℕ) (a : ℤ) (m m⁺ : List 
 -- ---- the start
 
 -- standard values as assigned, founded ones at their starting ends, and every rule waits
-pub run-start : {s places masks readers : List ℕ} {P : Program} → Accepts s P → Tabled s P (length (P .rules)) places masks readers → (θ m : List ℤ) → Within (system P) (valued θ)
+pub run-start : {s offsets masks readers : List ℕ} {P : Program} → Accepts s P → Tabled s P (length (P .rules)) offsets masks readers → (θ m : List ℤ) → Within (system P) (valued θ)
     → ((v : ℕ) → valued m v ≡ started (variableIn (P .variables) v) (valued θ v))
-    → (waiting : List ℕ) → ((i : ℕ) → i < maxRules → has waiting i ≡ ltb i (length (P .rules))) → Running s places masks readers θ m waiting
+    → (waiting : List ℕ) → ((i : ℕ) → i < maxRules → has waiting i ≡ ltb i (length (P .rules))) → Running s offsets masks readers θ m waiting
 run-start {P = P} a t θ m w is waiting all =
     let p = progress-start {𝒮 = system P} w (valued m) is in
     record {
@@ -116,14 +116,14 @@ run-start {P = P} a t θ m w is waiting all =
 
 -- ---- a run
 
-module _ {s places masks readers : List ℕ} {θ m : List ℤ} {waiting : List ℕ} (k : Running s places masks readers θ m waiting) where
+module _ {s offsets masks readers : List ℕ} {θ m : List ℤ} {waiting : List ℕ} (k : Running s offsets masks readers θ m waiting) where
   promises : Promises (k .program)
   promises = accepts-promises (k .accepts)
 
-  pub run-placed : Placed s (k .program) places masks
+  pub run-placed : Placed s (k .program) offsets masks
   run-placed = placed (k .accepts) (k .tabled)
 
-  pub run-ready : Ready s places masks waiting
+  pub run-ready : Ready s offsets masks waiting
   run-ready = record { program = k .program; placed = run-placed; rules = k .rules }
 
   pub run-small : Small m × Small θ
@@ -137,7 +137,7 @@ module _ {s places masks readers : List ℕ} {θ m : List ℤ} {waiting : List �
 
   -- what a step answers, for the program of the run
   module _ (w : List ℕ) {r : Step}
-      (f : (P : Program) → Placed s P places masks → MetOutside P (valued θ) (valued m) (has waiting) → Stepped P (valued θ) (valued m) (has w) r) where
+      (f : (P : Program) → Placed s P offsets masks → MetOutside P (valued θ) (valued m) (has waiting) → Stepped P (valued θ) (valued m) (has w) r) where
     pub run-stepped : {i : ℕ} {a : ℤ} → r ≡ Raise i a → Raising (k .program) (valued θ) (valued m) (has w) i a
     run-stepped e = rw e at (f (k .program) run-placed (k .outside))
 
@@ -146,13 +146,13 @@ module _ {s places masks readers : List ℕ} {θ m : List ℤ} {waiting : List �
 
   -- a rule exceeds its head
   module _ (w : List ℕ) {i : ℕ} {a : ℤ} (x : Raising (k .program) (valued θ) (valued m) (has w) i a) where
-    here : RuleAt s (k .program) i (getD places i 0) (getD masks i 0)
+    here : RuleAt s (k .program) i (getD offsets i 0) (getD masks i 0)
     here = run-placed .stands i (x .among)
 
     pub run-among : i < maxRules
     run-among = omega (arith, program-limited (k .accepts) .few-rules, x .among)
 
-    pub run-head : (nextAt s (getD places i 0) ≤ length s) × (ruleHeader ≤ length (valueAt s (getD places i 0)))
+    pub run-head : (nextAt s (getD offsets i 0) ≤ length s) × (ruleHeader ≤ length (valueAt s (getD offsets i 0)))
     run-head = head-lies here
 
     declared : headOf (k .program) i < length (k .program .variables)
@@ -232,7 +232,7 @@ module _ {s places masks readers : List ℕ} {θ m : List ℤ} {waiting : List �
               ltb-true j (length (k .program .rules))
               (first (ltb j (length (k .program .rules))) (readsKept (k .program) (ruleIn (k .program .rules) j) (headOf (k .program) i)) (sym (k .tabled .reader-is (headOf (k .program) i) j few l) ∙ h))
 
-      pub run-on : Running s places masks readers θ m⁺ w⁺
+      pub run-on : Running s offsets masks readers θ m⁺ w⁺
       run-on = record {
         program = k .program;
         accepts = k .accepts;
@@ -252,7 +252,7 @@ module _ {s places masks readers : List ℕ} {θ m : List ℤ} {waiting : List �
           (rw stands-in (x .exceeds .more .lt)) (rw stands-in t))
 
     -- the same, of the code's head h with its variable y, and value b
-    module _ {h : ℕ} (e : h ≡ ruleOf (valueAt s (getD places i 0)) .head) where
+    module _ {h : ℕ} (e : h ≡ ruleOf (valueAt s (getD offsets i 0)) .head) where
       pub run-field : 8 * h + 8 ≤ length s
       run-field = head-field here e
 
@@ -265,7 +265,7 @@ module _ {s places masks readers : List ℕ} {θ m : List ℤ} {waiting : List �
         no-lift f = run-over (not-lifted head-in readers (headOf (k .program) i) a m m⁺ w w⁺ as-head f)
 
         module _ (f : t ≡ true) (sub : Inside (has w) (has waiting)) (full : length m ≡ maxVariables) where
-          pub lift-on : Running s places masks readers θ m⁺ w⁺
+          pub lift-on : Running s offsets masks readers θ m⁺ w⁺
           lift-on = let r = lifted head-in readers (headOf (k .program) i) a m m⁺ w w⁺ as-head f in run-on sub full (r .0) (r .1)
 
           pub lift-nearer : gap (variablesAt s maxVariables) m⁺ < gap (variablesAt s maxVariables) m

@@ -22,16 +22,16 @@ use Rattle.program.specs.Readings.{valued}
 use Rattle.program.specs.declared.Variable.{Variable}
 
 module _ (s : List ℕ) (k : Counts) (r : AcceptedAs s k) where
-  pub begun : (θ m₀ m : List ℤ) (ps ms rs ws₀ ws : List ℕ)
+  pub begun : (θ m₀ m : List ℤ) (os ms rs ws₀ ws : List ℕ)
       → ((Q : Program) → Accepts s Q → Within (system Q) (valued θ))
-      → TablesOf s ps ms rs
+      → TablesOf s os ms rs
       → ((v : ℕ) → k .variables ≤ v → valued m₀ v ≡ valued θ v)
       → Filled (starting (variablesAt s (k .variables)) (valued θ)) (k .variables) m₀ m
       → ((n : ℕ) → has ws₀ n ≡ false)
       → ((n : ℕ) → has ws n ≡ (ltb n (k .rules) || has ws₀ n))
-      → Running s ps ms rs θ m ws
+      → Running s os ms rs θ m ws
   unfolding starting
-  begun θ m₀ m ps ms rs ws₀ ws w t z f e g =
+  begun θ m₀ m os ms rs ws₀ ws w t z f e g =
       run-start x (t P x) θ m (w P x)
       (λ v. started-whole s (k .variables) (valued θ) f z v
       ∙ ap (λ (vs : List Variable). started (variableIn vs v) (valued θ v)) (sym (variables-are r x)))

@@ -43,7 +43,7 @@ module _ (P : Program) (θ m : Valuation) (i : ℕ) {d : Demand} (h : Demanded P
 -- ---- the set
 
 -- a file has one program
-pub among-any : {s places masks waiting : List ℕ} {P : Program} → Ready s places masks waiting → Placed s P places masks → Among P (has waiting)
+pub among-any : {s offsets masks waiting : List ℕ} {P : Program} → Ready s offsets masks waiting → Placed s P offsets masks → Among P (has waiting)
 among-any {waiting = waiting} r p = subst (λ (Q : Program). Among Q (has waiting)) (accepts-unique (r .placed .accepts) (p .accepts)) (r .rules)
 
 -- the search of the words is that of the rules
@@ -85,9 +85,9 @@ module _ {old new : ℕ → Bool} {i : ℕ} (k : Taken old new i) where
     taken-raise l x = record { among = l; exceeds = x; below = λ j h. o j (omega arith) (k .lowest .first j (omega arith) h); outside = other }
 
   -- a rule of the set stands in the tables
-  module _ {s places masks waiting : List ℕ} (r : Ready s places masks waiting) (n : Inside old (has waiting)) where
-    pub taken-stands : Stands s (getD places i 0) (getD masks i 0)
+  module _ {s offsets masks waiting : List ℕ} (r : Ready s offsets masks waiting) (n : Inside old (has waiting)) where
+    pub taken-stands : Stands s (getD offsets i 0) (getD masks i 0)
     taken-stands = record { program = r .program; rule = i; here = r .placed .stands i (r .rules i (k .lowest .below) (n i (k .lowest .member))) }
 
-    pub taken-rule : {P : Program} → Placed s P places masks → i < length (P .rules)
+    pub taken-rule : {P : Program} → Placed s P offsets masks → i < length (P .rules)
     taken-rule p = among-any r p i (k .lowest .below) (n i (k .lowest .member))

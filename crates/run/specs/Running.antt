@@ -88,9 +88,9 @@ Takes old new (At i) = Taken old new i
 Takes old new found.Nothing = Empty old new
 
 -- what a step needs of the tables and of the set
-pub record Ready (s places masks waiting : List ℕ) : Type 0 where
+pub record Ready (s offsets masks waiting : List ℕ) : Type 0 where
   pub program : Program
-  pub placed : Placed s program places masks
+  pub placed : Placed s program offsets masks
   pub rules : Among program (has waiting)
 
 -- rule i is the lowest that exceeds its head, and every other rule outside the set is met
@@ -125,10 +125,10 @@ Lifted x readers h a model model⁺ waiting waiting⁺ false = T (not (notPast x
 -- ---- the run
 
 -- the values lie in their ranges, standard ones as assigned, at or below every model; and every rule outside the set is met
-pub record Running (s places masks readers : List ℕ) (θ m : List ℤ) (waiting : List ℕ) : Type 0 where
+pub record Running (s offsets masks readers : List ℕ) (θ m : List ℤ) (waiting : List ℕ) : Type 0 where
   pub program : Program
   pub accepts : Accepts s program
-  pub tabled : Tabled s program (length (program .rules)) places masks readers
+  pub tabled : Tabled s program (length (program .rules)) offsets masks readers
   pub assigned : Within (system program) (valued θ)
   pub standard : (v : ℕ) → T (not (isFounded (variableIn (program .variables) v))) → valued m v ≡ valued θ v
   pub within : Within (system program) (valued m)

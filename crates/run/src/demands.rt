@@ -65,18 +65,18 @@ fn exceeds(x: Variable, given: Given, value: i64) -> Demand
 // Whether rule i demands more than its head has.
 pub fn look(
     file: &[u8],
-    places: &[usize; Format::MAX_RULES],
+    offsets: &[usize; Format::MAX_RULES],
     masks: &[u32; Format::MAX_RULES],
     i: usize,
     model: &[i64; Format::MAX_VARIABLES],
     assigned: &[i64; Format::MAX_VARIABLES],
 ) -> Demand
     requires { ⌜ i < maxRules ⌝ }
-    requires { ⌜ Stands (now file) (getD (now places) i 0) (getD (now masks) i 0) ⌝ }
+    requires { ⌜ Stands (now file) (getD (now offsets) i 0) (getD (now masks) i 0) ⌝ }
     requires { ⌜ Small (now model) × Small (now assigned) ⌝ }
-    ensures { λ r. ⌜ ((P : Program) → RuleAt (now (file .entry)) P i (getD (now (places .entry)) i 0) (getD (now (masks .entry)) i 0) → Demanded P (valued (now (assigned .entry))) (valued (now (model .entry))) i r) ⌝ }
+    ensures { λ r. ⌜ ((P : Program) → RuleAt (now (file .entry)) P i (getD (now (offsets .entry)) i 0) (getD (now (masks .entry)) i 0) → Demanded P (valued (now (assigned .entry))) (valued (now (model .entry))) i r) ⌝ }
 {
-    let at = places[i];
+    let at = offsets[i];
     let mask = masks[i];
     let given = demand(file, at, mask, model, assigned);
     let head = head_at(file, at);
@@ -101,24 +101,24 @@ fn take_lowest(waiting: &mut [u64; Tables::ROW]) -> Found
 // The lowest rule of the waiting set that demands more than its head has; it and those below it leave the set.
 pub fn step(
     file: &[u8],
-    places: &[usize; Format::MAX_RULES],
+    offsets: &[usize; Format::MAX_RULES],
     masks: &[u32; Format::MAX_RULES],
     model: &[i64; Format::MAX_VARIABLES],
     assigned: &[i64; Format::MAX_VARIABLES],
     waiting: &mut [u64; Tables::ROW],
 ) -> Step
-    requires { ⌜ Ready (now file) (now places) (now masks) (now waiting) ⌝ }
+    requires { ⌜ Ready (now file) (now offsets) (now masks) (now waiting) ⌝ }
     requires { ⌜ Small (now model) × Small (now assigned) ⌝ }
     requires { ⌜ length (now waiting) ≡ rowWords ⌝ }
     ensures { λ _. ⌜ length (now (waiting .exit)) ≡ rowWords ⌝ }
     ensures { λ _. ⌜ Inside (has (now (waiting .exit))) (has (now (waiting .entry))) ⌝ }
-    ensures { λ r. ⌜ ((P : Program) → Placed (now (file .entry)) P (now (places .entry)) (now (masks .entry)) → MetOutside P (valued (now (assigned .entry))) (valued (now (model .entry))) (has (now (waiting .entry))) → Stepped P (valued (now (assigned .entry))) (valued (now (model .entry))) (has (now (waiting .exit))) r) ⌝ }
+    ensures { λ r. ⌜ ((P : Program) → Placed (now (file .entry)) P (now (offsets .entry)) (now (masks .entry)) → MetOutside P (valued (now (assigned .entry))) (valued (now (model .entry))) (has (now (waiting .entry))) → Stepped P (valued (now (assigned .entry))) (valued (now (model .entry))) (has (now (waiting .exit))) r) ⌝ }
 {
     loop {
         let Found::At(i) = take_lowest(waiting) else {
             return Step::Done;
         };
-        let found = look(file, places, masks, i, model, assigned);
+        let found = look(file, offsets, masks, i, model, assigned);
         if let Demand::More(a) = found {
             return Step::Raise(i, a);
         }

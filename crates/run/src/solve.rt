@@ -62,14 +62,14 @@ pub fn raise(
 // The values reach the least model, or some rule asks for more than its head's range has.
 pub fn solve(
     file: &[u8],
-    places: &[usize; Format::MAX_RULES],
+    offsets: &[usize; Format::MAX_RULES],
     masks: &[u32; Format::MAX_RULES],
     readers: &[u64; Tables::READERS],
     model: &mut [i64; Format::MAX_VARIABLES],
     assigned: &[i64; Format::MAX_VARIABLES],
     waiting: &mut [u64; Tables::ROW],
 ) -> Ending
-    requires { ⌜ Running (now file) (now places) (now masks) (now readers) (now assigned) (now model) (now waiting) ⌝ }
+    requires { ⌜ Running (now file) (now offsets) (now masks) (now readers) (now assigned) (now model) (now waiting) ⌝ }
     requires { ⌜ length (now model) ≡ maxVariables ⌝ }
     requires { ⌜ length (now waiting) ≡ rowWords ⌝ }
     ensures { λ _. ⌜ length (now (model .exit)) ≡ maxVariables ⌝ }
@@ -77,11 +77,11 @@ pub fn solve(
     ensures { λ r. ⌜ ((P : Program) → Accepts (now (file .entry)) P → EndsWith P (valued (now (assigned .entry))) (valued (now (model .exit))) r) ⌝ }
 {
     loop {
-        let next = demands::step(file, places, masks, model, assigned, waiting);
+        let next = demands::step(file, offsets, masks, model, assigned, waiting);
         let Step::Raise(i, a) = next else {
             return Ending::Model;
         };
-        let head = demands::head_at(file, places[i]);
+        let head = demands::head_at(file, offsets[i]);
         let x = variables::variable(file, head);
         if !raise(x, readers, head, a, model, waiting) {
             return Ending::NoModel;
@@ -93,14 +93,14 @@ pub fn solve(
 pub fn run(
     file: &[u8],
     counts: Counts,
-    places: &[usize; Format::MAX_RULES],
+    offsets: &[usize; Format::MAX_RULES],
     masks: &[u32; Format::MAX_RULES],
     readers: &[u64; Tables::READERS],
     assigned: &[i64; Format::MAX_VARIABLES],
     model: &mut [i64; Format::MAX_VARIABLES],
 ) -> Ending
     requires { ⌜ AcceptedAs (now file) counts ⌝ }
-    requires { ⌜ TablesOf (now file) (now places) (now masks) (now readers) ⌝ }
+    requires { ⌜ TablesOf (now file) (now offsets) (now masks) (now readers) ⌝ }
     requires { ⌜ ((P : Program) → Accepts (now file) P → Within (system P) (valued (now assigned))) ⌝ }
     requires { ⌜ ((v : ℕ) → counts .variables ≤ v → valued (now model) v ≡ valued (now assigned) v) ⌝ }
     requires { ⌜ length (now model) ≡ maxVariables ⌝ }
@@ -112,5 +112,5 @@ pub fn run(
     let mut waiting = [0u64; Tables::ROW];
     loading::start_values(file, n, assigned, model);
     words::fill_bits(&mut waiting, rules);
-    solve(file, places, masks, readers, model, assigned, &mut waiting)
+    solve(file, offsets, masks, readers, model, assigned, &mut waiting)
 }

@@ -8,8 +8,8 @@ use Rattle.program.specs.declared.Counts.{Counts}
 use Rattle.tables.specs.Tabled.{Tabled, TablesOf}
 use Rattle.tables.specs.Laid.{Placed, Laid}
 
-pub placed : {s : List ℕ} {P : Program} {ps ms rs : List ℕ} → Accepts s P → Tabled s P (length (P .rules)) ps ms rs → Placed s P ps ms
+pub placed : {s : List ℕ} {P : Program} {os ms rs : List ℕ} → Accepts s P → Tabled s P (length (P .rules)) os ms rs → Placed s P os ms
 placed x t = record { accepts = x; stands = λ i h. record { accepts = x; among = h; placed = t .place-is i h; masked = t .mask-is i h } }
 
-pub laid : {s : List ℕ} {k : Counts} {ps ms rs : List ℕ} → AcceptedAs s k → TablesOf s ps ms rs → Laid s k ps ms
+pub laid : {s : List ℕ} {k : Counts} {os ms rs : List ℕ} → AcceptedAs s k → TablesOf s os ms rs → Laid s k os ms
 laid r t = record { accepted = r; placed = λ P x. placed x (t P x) }

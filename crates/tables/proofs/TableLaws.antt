@@ -34,15 +34,15 @@ module _ {s : List ℕ} {v m c : ℕ} (r : Reads s (accepted v m c)) {P : Progra
       rw e (record { inside = l .inside; standing = subst (λ (n : ℕ). Standing s n (valueAt s (rulePlace s P i))) (z .variables-are) (l .standing); few = l .evaluable .few })
 
   -- nothing is entered yet
-  pub tabled-none : (ps ms rs : List ℕ) → ((n : ℕ) → has rs n ≡ false) → Tabled s P 0 ps ms rs
-  tabled-none ps ms rs e = record {
+  pub tabled-none : (os ms rs : List ℕ) → ((n : ℕ) → has rs n ≡ false) → Tabled s P 0 os ms rs
+  tabled-none os ms rs e = record {
     place-is = λ i h. absurd (omega arith);
     mask-is = λ i h. absurd (omega arith);
     reader-is = λ x i l m. e (maxRules * x + i) ∙ ap (λ (t : Bool). t && readsKept P (ruleIn (P .rules) i) x) (sym (le-ltb i 0 (omega arith)));
   }
 
-  module _ (i at next : ℕ) (ps ps′ ms ms′ rs rs′ : List ℕ) (h : i < m) (e : at ≡ rulePlace s P i)
-      (lp : length ps ≡ maxRules) (lm : length ms ≡ maxRules) (n : EntryMade s v at i next ps ps′ ms ms′ rs rs′) (t : Tabled s P i ps ms rs) where
+  module _ (i at next : ℕ) (os os′ ms ms′ rs rs′ : List ℕ) (h : i < m) (e : at ≡ rulePlace s P i)
+      (lo : length os ≡ maxRules) (lm : length ms ≡ maxRules) (n : EntryMade s v at i next os os′ ms ms′ rs rs′) (t : Tabled s P i os ms rs) where
     rule-here : ruleOf (valueAt s at) ≡ ruleIn (P .rules) i
     rule-here = ap (λ (n : ℕ). ruleOf (valueAt s n)) e ∙ sym (rule-lies a i (omega (arith, counts-of r a .rules-are)) .is)
 
@@ -79,7 +79,7 @@ module _ {s : List ℕ} {v m c : ℕ} (r : Reads s (accepted v m c)) {P : Progra
         other (yes p) = lt-ltb j i p ∙ sym (lt-ltb j (i + 1) (omega arith))
         other (no f) = le-ltb j i (omega arith) ∙ sym (le-ltb j (i + 1) (omega arith))
 
-    pub tabled-more : Tabled s P (i + 1) ps′ ms′ rs′
+    pub tabled-more : Tabled s P (i + 1) os′ ms′ rs′
     tabled-more = record {
       place-is = λ j l. rw (n .placed) (place-here j l (ℕ-discrete j i));
       mask-is = λ j l. rw (n .masked) (mask-at j l (ℕ-discrete j i));
@@ -89,9 +89,9 @@ module _ {s : List ℕ} {v m c : ℕ} (r : Reads s (accepted v m c)) {P : Progra
         few : i < maxRules
         few = omega (arith, limited r .few-rules)
 
-        place-here : (j : ℕ) → j < i + 1 → Dec (j ≡ i) → getD (set ps i at) j 0 ≡ rulePlace s P j
-        place-here j l (yes q) = rw q (getD-set-same ps i at 0 (omega (arith, few)) ∙ e)
-        place-here j l (no g) = getD-set-other ps i j at 0 g ∙ t .place-is j (omega arith)
+        place-here : (j : ℕ) → j < i + 1 → Dec (j ≡ i) → getD (set os i at) j 0 ≡ rulePlace s P j
+        place-here j l (yes q) = rw q (getD-set-same os i at 0 (omega (arith, few)) ∙ e)
+        place-here j l (no g) = getD-set-other os i j at 0 g ∙ t .place-is j (omega arith)
 
         mask-at : (j : ℕ) → j < i + 1 → Dec (j ≡ i) → MaskOf P (ruleIn (P .rules) j) (getD (set ms i (n .mask)) j 0)
         mask-at j l (yes q) = rw (q, getD-set-same ms i (n .mask) 0 (omega (arith, few))) mask-here
@@ -106,7 +106,7 @@ module _ {s : List ℕ} {v m c : ℕ} (r : Reads s (accepted v m c)) {P : Progra
     every : i ≡ length (P .rules)
     every = omega (arith, counts-of r a .rules-are)
 
-    pub tabled-all : {ps ms rs : List ℕ} → Tabled s P i ps ms rs → Tabled s P (length (P .rules)) ps ms rs
+    pub tabled-all : {os ms rs : List ℕ} → Tabled s P i os ms rs → Tabled s P (length (P .rules)) os ms rs
     tabled-all t = rw every at t
 
     pub place-after : {at : ℕ} → at ≡ rulePlace s P i → at ≡ constraintPlace s P 0
@@ -121,6 +121,6 @@ module _ {s : List ℕ} {n at : ℕ} (h : RuleHere s n at) {v : List ℕ} (q : v
   pub few-here : length (ruleOf v .terms) ≤ maxTerms
   few-here = rw q (h .few)
 
-  pub entry-made : (i next mask : ℕ) (ps ms rs rs′ : List ℕ) → next ≡ nextAt s at → Mask (kept (variablesAt s n) (ruleOf v)) (length (ruleOf v .terms)) mask
-      → Entered rs rs′ i (readAt (ruleOf v) mask) → EntryMade s n at i next ps (set ps i at) ms (set ms i mask) rs rs′
-  entry-made i next mask ps ms rs rs′ e m d = record { next-is = e; placed = refl; mask = mask; masked = refl; mask-is = rw q at m; entered = rw q at d }
+  pub entry-made : (i next mask : ℕ) (os ms rs rs′ : List ℕ) → next ≡ nextAt s at → Mask (kept (variablesAt s n) (ruleOf v)) (length (ruleOf v .terms)) mask
+      → Entered rs rs′ i (readAt (ruleOf v) mask) → EntryMade s n at i next os (set os i at) ms (set ms i mask) rs rs′
+  entry-made i next mask os ms rs rs′ e m d = record { next-is = e; placed = refl; mask = mask; masked = refl; mask-is = rw q at m; entered = rw q at d }

@@ -18,9 +18,9 @@ pub record RuleHere (s : List ℕ) (n at : ℕ) : Type 0 where
   pub few : length (ruleOf (valueAt s at) .terms) ≤ maxTerms
 
 -- the rule at this place is entered as rule i, and the next field stands at r
-pub record EntryMade (s : List ℕ) (n at i r : ℕ) (ps ps′ ms ms′ rs rs′ : List ℕ) : Type 0 where
+pub record EntryMade (s : List ℕ) (n at i r : ℕ) (os os′ ms ms′ rs rs′ : List ℕ) : Type 0 where
   pub next-is : r ≡ nextAt s at
-  pub placed : ps′ ≡ set ps i at
+  pub placed : os′ ≡ set os i at
   pub mask : ℕ
   pub masked : ms′ ≡ set ms i mask
   pub mask-is : Mask (kept (variablesAt s n) (ruleOf (valueAt s at))) (length (ruleOf (valueAt s at) .terms)) mask

@@ -23,15 +23,15 @@ pub record Stands (s : List ℕ) (at mask : ℕ) : Type 0 where
   pub here : RuleAt s program rule at mask
 
 -- the tables have the place and the mask of each rule
-pub record Placed (s : List ℕ) (P : Program) (places masks : List ℕ) : Type 0 where
+pub record Placed (s : List ℕ) (P : Program) (offsets masks : List ℕ) : Type 0 where
   pub accepts : Accepts s P
-  pub stands : (i : ℕ) → i < length (P .rules) → RuleAt s P i (getD places i 0) (getD masks i 0)
+  pub stands : (i : ℕ) → i < length (P .rules) → RuleAt s P i (getD offsets i 0) (getD masks i 0)
 
 -- the tables are those of a file that is accepted with these counts
-pub record Laid (s : List ℕ) (k : Counts) (places masks : List ℕ) : Type 0 where
+pub record Laid (s : List ℕ) (k : Counts) (offsets masks : List ℕ) : Type 0 where
   pub accepted : AcceptedAs s k
-  pub placed : (P : Program) → Accepts s P → Placed s P places masks
+  pub placed : (P : Program) → Accepts s P → Placed s P offsets masks
 
 -- the table has the place of each rule of the program that a file means
-abbrev pub PlacesOf : List ℕ → List ℕ → Type 0
-PlacesOf s places = (P : Program) → Accepts s P → (i : ℕ) → i < length (P .rules) → getD places i 0 ≡ rulePlace s P i
+abbrev pub OffsetsOf : List ℕ → List ℕ → Type 0
+OffsetsOf s offsets = (P : Program) → Accepts s P → (i : ℕ) → i < length (P .rules) → getD offsets i 0 ≡ rulePlace s P i

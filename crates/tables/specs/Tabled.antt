@@ -35,11 +35,11 @@ abbrev pub MaskOf : Program → Rule → ℕ → Type 0
 MaskOf P r w = (j : ℕ) → j < length (r .terms) → bit w j ≡ kept (P .variables) r j
 
 -- the first n rules are in the tables; the rules that read x stand in one row of bits, from number maxRules * x on
-pub record Tabled (s : List ℕ) (P : Program) (n : ℕ) (places masks readers : List ℕ) : Type 0 where
-  pub place-is : (i : ℕ) → i < n → getD places i 0 ≡ rulePlace s P i
+pub record Tabled (s : List ℕ) (P : Program) (n : ℕ) (offsets masks readers : List ℕ) : Type 0 where
+  pub place-is : (i : ℕ) → i < n → getD offsets i 0 ≡ rulePlace s P i
   pub mask-is : (i : ℕ) → i < n → MaskOf P (ruleIn (P .rules) i) (getD masks i 0)
   pub reader-is : (x i : ℕ) → x < maxVariables → i < maxRules → has readers (maxRules * x + i) ≡ (ltb i n && readsKept P (ruleIn (P .rules) i) x)
 
 -- the tables have every rule of the program that a file means
 abbrev pub TablesOf : List ℕ → List ℕ → List ℕ → List ℕ → Type 0
-TablesOf s places masks readers = (P : Program) → Accepts s P → Tabled s P (length (P .rules)) places masks readers
+TablesOf s offsets masks readers = (P : Program) → Accepts s P → Tabled s P (length (P .rules)) offsets masks readers

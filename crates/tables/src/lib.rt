@@ -71,18 +71,18 @@ fn enter(
     variables: usize,
     at: usize,
     i: usize,
-    places: &mut [usize; Format::MAX_RULES],
+    offsets: &mut [usize; Format::MAX_RULES],
     masks: &mut [u32; Format::MAX_RULES],
     readers: &mut [u64; Tables::READERS],
 ) -> usize
     requires { ⌜ RuleHere (now file) variables at ⌝ }
-    requires { ⌜ (i < maxRules) × (length (now places) ≡ maxRules) × (length (now masks) ≡ maxRules) × (length (now readers) ≡ readersWords) ⌝ }
-    ensures { λ _. ⌜ (length (now (places .exit)) ≡ maxRules) × (length (now (masks .exit)) ≡ maxRules) × (length (now (readers .exit)) ≡ readersWords) ⌝ }
-    ensures { λ r. ⌜ EntryMade (now (file .entry)) variables at i r (now (places .entry)) (now (places .exit)) (now (masks .entry)) (now (masks .exit)) (now (readers .entry)) (now (readers .exit)) ⌝ }
+    requires { ⌜ (i < maxRules) × (length (now offsets) ≡ maxRules) × (length (now masks) ≡ maxRules) × (length (now readers) ≡ readersWords) ⌝ }
+    ensures { λ _. ⌜ (length (now (offsets .exit)) ≡ maxRules) × (length (now (masks .exit)) ≡ maxRules) × (length (now (readers .exit)) ≡ readersWords) ⌝ }
+    ensures { λ r. ⌜ EntryMade (now (file .entry)) variables at i r (now (offsets .entry)) (now (offsets .exit)) (now (masks .entry)) (now (masks .exit)) (now (readers .entry)) (now (readers .exit)) ⌝ }
 {
     let value = value_at(file, at);
     let mask = kept_positions(file, variables, value);
-    places[i] = at;
+    offsets[i] = at;
     masks[i] = mask;
     enter_rule(readers, value, mask, i);
     next_at(file, at)
@@ -92,15 +92,15 @@ fn enter(
 pub fn fill_tables(
     file: &[u8],
     counts: Counts,
-    places: &mut [usize; Format::MAX_RULES],
+    offsets: &mut [usize; Format::MAX_RULES],
     masks: &mut [u32; Format::MAX_RULES],
     readers: &mut [u64; Tables::READERS],
 ) -> usize
     requires { ⌜ AcceptedAs (now file) counts ⌝ }
-    requires { ⌜ (length (now places) ≡ maxRules) × (length (now masks) ≡ maxRules) × (length (now readers) ≡ readersWords) ⌝ }
+    requires { ⌜ (length (now offsets) ≡ maxRules) × (length (now masks) ≡ maxRules) × (length (now readers) ≡ readersWords) ⌝ }
     requires { ⌜ ((n : ℕ) → has (now readers) n ≡ false) ⌝ }
-    ensures { λ _. ⌜ (length (now (places .exit)) ≡ maxRules) × (length (now (masks .exit)) ≡ maxRules) × (length (now (readers .exit)) ≡ readersWords) ⌝ }
-    ensures { λ _. ⌜ TablesOf (now (file .entry)) (now (places .exit)) (now (masks .exit)) (now (readers .exit)) ⌝ }
+    ensures { λ _. ⌜ (length (now (offsets .exit)) ≡ maxRules) × (length (now (masks .exit)) ≡ maxRules) × (length (now (readers .exit)) ≡ readersWords) ⌝ }
+    ensures { λ _. ⌜ TablesOf (now (file .entry)) (now (offsets .exit)) (now (masks .exit)) (now (readers .exit)) ⌝ }
     ensures { λ r. ⌜ ((P : Program) → Accepts (now (file .entry)) P → r ≡ constraintPlace (now (file .entry)) P 0) ⌝ }
 {
     let n = counts.variables;
@@ -108,7 +108,7 @@ pub fn fill_tables(
     let mut at = 8 * n;
     let mut i = 0;
     while i < rules {
-        let next = enter(file, n, at, i, places, masks, readers);
+        let next = enter(file, n, at, i, offsets, masks, readers);
         at = next;
         i += 1;
     }

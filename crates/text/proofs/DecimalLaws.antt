@@ -12,7 +12,7 @@ use lib.ListN.{length, length-append}
 use borrow.Author.Tests.{ltb-true, ltb-false, lt-ltb, le-ltb}
 use Rattle.text.specs.Decimal.{digit, digits, decimal, minus, number}
 
--- more than enough places make no difference
+-- more than enough digits make no difference
 enough : (k j n : ℕ) → n < k → n < j → digits k n ≡ digits j n
 unfolding digits
 enough zero j n h l = absurd (omega arith)

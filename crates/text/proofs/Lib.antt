@@ -1,3 +1,3 @@
 pub mod OutputLaws
 pub mod DecimalLaws
-pub mod Places
+pub mod Digits

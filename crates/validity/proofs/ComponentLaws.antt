@@ -46,9 +46,9 @@ and-any false n p = sym (any-never n)
 
 -- ---- edges
 
-pub draws-places : (P : Program) (r : Rule) (x y : ℕ) → draws P r x y ≡ drawsIn (P .variables) r x y
+pub draws-positions : (P : Program) (r : Rule) (x y : ℕ) → draws P r x y ≡ drawsIn (P .variables) r x y
 unfolding draws drawsIn drawsAt
-draws-places P r x y = and-any (eqb (r .head) x) (length (r .terms)) _
+draws-positions P r x y = and-any (eqb (r .head) x) (length (r .terms)) _
 
 -- edges land on declared variables
 pub edges-below : {P : Program} → Promises P → (x y : ℕ) → edge P x y ≡ true → y < length (P .variables)
@@ -96,10 +96,10 @@ module _ {s : List ℕ} {k : Counts} (c : Counted s k) where
   unfolding edge edgeIn
   edge-is x y =
       ap (λ (n : ℕ). anyBelow n (λ i. draws P (ruleIn (P .rules) i) x y)) (c .describes .rules-are)
-      ∙ any-same (k .rules) _ _ (λ i l. draws-places P (ruleIn (P .rules) i) x y
+      ∙ any-same (k .rules) _ _ (λ i l. draws-positions P (ruleIn (P .rules) i) x y
       ∙ ap₂ (λ (vs : List Variable) (r : Rule). drawsIn vs r x y) (c .describes .variables-are) (rule-is c i l))
 
-  -- no mixed place: the file is valid
+  -- no mixed position: the file is valid
   pub none-mixed : mixedRule s k ≡ false → components.Valid P
   unfolding mixedRule anyMixed
   none-mixed e i o =

@@ -77,7 +77,7 @@ same-bit i v e (no f) = ne-eqb (i % wordBits) (v % wordBits) (λ q. f (omega ari
 abbrev pub inserted : List ℕ → ℕ → List ℕ
 inserted ws v = set ws (v / wordBits) (bitOr (getD ws (v / wordBits) 0) (2 ^ (v % wordBits)))
 
--- a word stored at v's place: v is told of by its bit, and every other number keeps what it had
+-- a word stored where v's stood: v is told of by its bit, and every other number keeps what it had
 pub has-store : (f : Bool → Bool → Bool) → ((b : Bool) → f false b ≡ b) → (ws : List ℕ) (v x : ℕ) → v / wordBits < length ws
     → ((j : ℕ) → bit x j ≡ f (eqb j (v % wordBits)) (bit (getD ws (v / wordBits) 0) j))
     → (i : ℕ) → has (set ws (v / wordBits) x) i ≡ f (eqb i v) (has ws i)

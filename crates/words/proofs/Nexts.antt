@@ -33,7 +33,7 @@ bit-below : (w k j : ℕ) → w < 2 ^ k → bit w j ≡ true → Dec (j < k) →
 bit-below w k j h p (yes l) = l
 bit-below w k j h p (no f) = absurd (true≢false (sym p ∙ high-bit w k j h (omega arith)))
 
--- the place of the lowest set bit of w, a number of k digits
+-- the lowest set bit of w, a number of k digits
 record Lowest (k w : ℕ) : Type 0 where
   inside : trailingZeros k w < k
   set-bit : bit w (trailingZeros k w) ≡ true
@@ -68,7 +68,7 @@ lowest-odd k w e =
       below-it = λ j l. absurd (not-suc-le-zero (subst (λ (x : ℕ). j < x) t l));
     }
 
--- the count of zeros is the place of the lowest set bit
+-- the count of zeros is the number of the lowest set bit
 lowest : (k w : ℕ) → w < 2 ^ k → w ≢ 0 → Lowest k w
 lowest zero w h f = absurd (f (lt-one h))
 lowest (suc k) w h f =

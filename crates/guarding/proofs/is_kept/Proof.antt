@@ -1,4 +1,4 @@
--- A store keeps the room's length, so each index below it is a place of the room.
+-- A store keeps the room's length, so each index below it is in the room.
 use mathlib.Core.Path.{_≡_}
 use Prim.Native.Nat.{_-_}
 use lib.ListN.{length}

@@ -1,4 +1,4 @@
--- Below half of the length both bytes of a pair are places of the slice.
+-- Below half of the length both bytes of a pair are in the slice.
 use mathlib.Core.Path.{_≡_}
 use Prim.Native.Nat.{_-_, _/_}
 use lib.ListN.{length}

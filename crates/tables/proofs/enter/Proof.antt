@@ -11,11 +11,11 @@ value-at-requires c κs = search needs
 kept-positions-requires : tie.Need-kept-positions-requires
 kept-positions-requires c κs = let h = c .before .before .pre .0 in (standing-here h (c .value-at .ensures), few-here h (c .value-at .ensures))
 
-mul-places : tie.Need-mul-places
-mul-places c = search needs
+mul-offsets : tie.Need-mul-offsets
+mul-offsets c = search needs
 
-element-write-places : tie.Need-element-write-places
-element-write-places c = search needs
+element-write-offsets : tie.Need-element-write-offsets
+element-write-offsets c = search needs
 
 mul-masks : tie.Need-mul-masks
 mul-masks c = search needs
@@ -46,8 +46,8 @@ enter-spec =
     (tie.spec
     value-at-requires
     kept-positions-requires
-    mul-places
-    element-write-places
+    mul-offsets
+    element-write-offsets
     mul-masks
     element-write-masks
     enter-rule-requires

@@ -18,12 +18,12 @@ last : {i n : ℕ} → i ≤ n → n ≤ i → i ≡ n
 last h k = omega arith
 
 abbrev Inv-loop : tie.InvT-loop
-Inv-loop file places₀ masks₀ readers₀ n rules at₀ i₀ places masks readers at i =
-    (i ≤ rules) × ((length places ≡ maxRules) × (length masks ≡ maxRules) × (length readers ≡ readersWords))
-    × ((P : Program) → Accepts file P → (at ≡ rulePlace file P i) × Tabled file P i places masks readers)
+Inv-loop file offsets₀ masks₀ readers₀ n rules at₀ i₀ offsets masks readers at i =
+    (i ≤ rules) × ((length offsets ≡ maxRules) × (length masks ≡ maxRules) × (length readers ≡ readersWords))
+    × ((P : Program) → Accepts file P → (at ≡ rulePlace file P i) × Tabled file P i offsets masks readers)
 
 abbrev μ-loop : tie.MeasureT-loop
-μ-loop file places₀ masks₀ readers₀ n rules at₀ i₀ places masks readers at i = rules - i
+μ-loop file offsets₀ masks₀ readers₀ n rules at₀ i₀ offsets masks readers at i = rules - i
 
 mul-at : tie.Need-mul-at Inv-loop μ-loop
 mul-at c = let v = limited (c .before .pre .0) in omega arith

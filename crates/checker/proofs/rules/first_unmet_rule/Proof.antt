@@ -12,10 +12,10 @@ use Rattle.program.specs.Readings.{valued}
 use Rattle.checker.proofs.rules.first_unmet_rule.Tie as tie
 
 abbrev Inv-loop : tie.InvT-loop
-Inv-loop file places masks assigned rules i₀ i = (i ≤ rules) × ((P : Program) → Placed file P places masks → (j : ℕ) → j < i → RuleMet P (valued assigned) j)
+Inv-loop file offsets masks assigned rules i₀ i = (i ≤ rules) × ((P : Program) → Placed file P offsets masks → (j : ℕ) → j < i → RuleMet P (valued assigned) j)
 
 abbrev μ-loop : tie.MeasureT-loop
-μ-loop file places masks assigned rules i₀ i = rules - i
+μ-loop file offsets masks assigned rules i₀ i = rules - i
 
 loop-holds : tie.Need-loop-holds Inv-loop μ-loop
 loop-holds c = (omega arith, λ P p j h. let f : ⊥ = omega arith in absurd f)

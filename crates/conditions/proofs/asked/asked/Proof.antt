@@ -16,18 +16,18 @@ use Rattle.conditions.proofs.asked.asked.Statement.{statement}
 use Rattle.conditions.proofs.asked.asked.Tie as tie
 
 abbrev Inv-loop : tie.InvT-loop
-Inv-loop file places set n rules all₀ i₀ all i =
+Inv-loop file offsets set n rules all₀ i₀ all i =
     (i ≤ rules) × (rules ≤ maxRules)
-    × AsksMore all₀ all (λ asks v. anyBelow i (λ j. askedInto (variablesAt file n) (has (set .words)) (ruleOf (valueAt file (getD places j 0))) asks v))
+    × AsksMore all₀ all (λ asks v. anyBelow i (λ j. askedInto (variablesAt file n) (has (set .words)) (ruleOf (valueAt file (getD offsets j 0))) asks v))
 
 abbrev μ-loop : tie.MeasureT-loop
-μ-loop file places set n rules all₀ i₀ all i = rules - i
+μ-loop file offsets set n rules all₀ i₀ all i = rules - i
 
 empty-requires : tie.Need-empty-requires Inv-loop μ-loop
 empty-requires c κs = search needs
 
 loop-holds : tie.Need-loop-holds Inv-loop μ-loop
-loop-holds c = let s = c .before .before in (omega arith, rules-few (s .args .file .now) (s .args .places .now) (s .args .counts) (s .pre .0) (s .pre .1), grown-none _ _)
+loop-holds c = let s = c .before .before in (omega arith, rules-few (s .args .file .now) (s .args .offsets .now) (s .args .counts) (s .pre .0) (s .pre .1), grown-none _ _)
 
 mul-at : tie.Need-mul-at Inv-loop μ-loop
 mul-at c = search needs
@@ -36,7 +36,7 @@ element-copy-out-at : tie.Need-element-copy-out-at Inv-loop μ-loop
 element-copy-out-at c = search needs
 
 ask-field-requires : tie.Need-ask-field-requires Inv-loop μ-loop
-ask-field-requires c κs = let s = c .before .before .before .before .before in rule-here (s .args .file .now) (s .args .places .now) (s .args .counts) (s .pre .0) (s .pre .1) _ (c .before .loop-test .taken)
+ask-field-requires c κs = let s = c .before .before .before .before .before in rule-here (s .args .file .now) (s .args .offsets .now) (s .args .counts) (s .pre .0) (s .pre .1) _ (c .before .loop-test .taken)
 
 add-i : tie.Need-add-i Inv-loop μ-loop
 add-i c = search needs
@@ -52,8 +52,8 @@ returns c =
     let s = c .before .before .before .before in
     let g = c .before .loop .inv .2 in
     let z = c .before .before .empty .ensures in (
-      λ P x v. asked-all (s .args .file .now) (s .args .places .now) (s .args .counts) (s .pre .0) (s .pre .1) (has (s .args .set .words)) asksMost P x v (omega arith) z (g .most),
-      λ P x v. asked-all (s .args .file .now) (s .args .places .now) (s .args .counts) (s .pre .0) (s .pre .1) (has (s .args .set .words)) asksLeast P x v (omega arith) z (g .least),
+      λ P x v. asked-all (s .args .file .now) (s .args .offsets .now) (s .args .counts) (s .pre .0) (s .pre .1) (has (s .args .set .words)) asksMost P x v (omega arith) z (g .most),
+      λ P x v. asked-all (s .args .file .now) (s .args .offsets .now) (s .args .counts) (s .pre .0) (s .pre .1) (has (s .args .set .words)) asksLeast P x v (omega arith) z (g .least),
     )
 
 pub asked-spec : {M : Type 1} → statement M

@@ -16,12 +16,12 @@ use Rattle.program.specs.Readings.{valued}
 use Rattle.run.proofs.demands.step.Tie as tie
 
 abbrev Inv-loop : tie.InvT-loop
-Inv-loop file places masks model assigned waiting₀ waiting =
+Inv-loop file offsets masks model assigned waiting₀ waiting =
     (length waiting ≡ rowWords) × Inside (has waiting) (has waiting₀)
-    × ((P : Program) → Placed file P places masks → MetOutside P (valued assigned) (valued model) (has waiting₀) → MetOutside P (valued assigned) (valued model) (has waiting))
+    × ((P : Program) → Placed file P offsets masks → MetOutside P (valued assigned) (valued model) (has waiting₀) → MetOutside P (valued assigned) (valued model) (has waiting))
 
 abbrev μ-loop : tie.MeasureT-loop
-μ-loop file places masks model assigned waiting₀ waiting = sizeBelow (has waiting) maxRules
+μ-loop file offsets masks model assigned waiting₀ waiting = sizeBelow (has waiting) maxRules
 
 loop-holds : tie.Need-loop-holds Inv-loop μ-loop
 loop-holds c = (c .before .pre .1 .1, λ j e. e, λ P p o. o)

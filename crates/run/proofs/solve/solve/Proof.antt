@@ -16,11 +16,11 @@ use Rattle.run.proofs.solve.solve.Statement.{statement}
 use Rattle.run.proofs.solve.solve.Tie as tie
 
 abbrev Inv-loop : tie.InvT-loop
-Inv-loop file places masks readers model₀ assigned waiting₀ model waiting =
-    Running file places masks readers assigned model waiting × (length model ≡ maxVariables) × (length waiting ≡ rowWords)
+Inv-loop file offsets masks readers model₀ assigned waiting₀ model waiting =
+    Running file offsets masks readers assigned model waiting × (length model ≡ maxVariables) × (length waiting ≡ rowWords)
 
 abbrev μ-loop : tie.MeasureT-loop
-μ-loop file places masks readers model₀ assigned waiting₀ model waiting = gap (variablesAt file maxVariables) model
+μ-loop file offsets masks readers model₀ assigned waiting₀ model waiting = gap (variablesAt file maxVariables) model
 
 loop-holds : tie.Need-loop-holds Inv-loop μ-loop
 loop-holds c = let p = c .before .pre in (p .0, p .1 .0, p .1 .1)
