@@ -22,7 +22,8 @@ pub fn first_unmet_rule(
 ) -> Found
     requires { ⌜ Laid (now file) counts (now offsets) (now masks) ⌝ }
     requires { ⌜ Small (now assigned) ⌝ }
-    ensures { λ r. ⌜ ((P : Program) → Placed (now (file .entry)) P (now (offsets .entry)) (now (masks .entry)) → UnmetIs (RuleMet P (valued (now (assigned .entry)))) (length (P .rules)) r) ⌝ }
+    ensures { λ r. ⌜ ((P : Program) → Placed (now (file .entry)) P (now (offsets .entry)) (now (masks .entry))
+        → UnmetIs (RuleMet P (valued (now (assigned .entry)))) (length (P .rules)) r) ⌝ }
 {
     let rules = counts.rules;
     let mut i = 0;

@@ -100,7 +100,8 @@ module _ {P : Program} (promised : Promises P) where
           let i = some-below (length (P .rules)) (λ i. set (ruleIn (P .rules) i .head) && askedBy (P .variables) set asks (ruleIn (P .rules) i) v) e in
           let r = ruleIn (P .rules) (i .0) in
           let q = both (set (r .head)) (askedBy (P .variables) set asks r v) (i .2) in
-          let j = some-below (length (r .terms)) (λ j. asks (direction (P .variables) r j) (kept (P .variables) r j && set (bodyVariable r j)) && eqb (bodyVariable r j) v) (q .1) in
+          let j = some-below (length (r .terms))
+          (λ j. asks (direction (P .variables) r j) (kept (P .variables) r j && set (bodyVariable r j)) && eqb (bodyVariable r j) v) (q .1) in
           let w = both (asks (direction (P .variables) r (j .0)) (kept (P .variables) r (j .0) && set (bodyVariable r (j .0)))) (eqb (bodyVariable r (j .0)) v) (j .2) in
           let l = promised .rules (i .0) (i .1) .body .terms (j .0) (j .1) .declared in
           let f : ⊥ = omega (arith, eqb-true (bodyVariable r (j .0)) v (w .1)) in absurd f

@@ -31,7 +31,8 @@ fn show(
 ) -> Verdict
     requires { ⌜ 4 * entryCount (has (set .words)) (has (asked .most .words)) (has (asked .least .words)) ≤ length (now report) ⌝ }
     requires { ⌜ Small (now model) × Small (now assigned) ⌝ }
-    ensures { λ r. ⌜ ShowsSets (has (set .words)) (has (asked .most .words)) (has (asked .least .words)) (valued (now (model .entry))) (valued (now (assigned .entry))) (now (report .entry)) (now (report .exit)) r ⌝ }
+    ensures { λ r. ⌜ ShowsSets (has (set .words)) (has (asked .most .words)) (has (asked .least .words)) (valued (now (model .entry)))
+        (valued (now (assigned .entry))) (now (report .entry)) (now (report .exit)) r ⌝ }
 {
     write_report(report, set, asked, model, assigned);
     let bounds = set.count() as usize;

@@ -21,7 +21,9 @@ pub fn write_report(
 )
     requires { ⌜ 4 * entryCount (has (set .words)) (has (asked .most .words)) (has (asked .least .words)) ≤ length (now report) ⌝ }
     requires { ⌜ Small (now model) × Small (now assigned) ⌝ }
-    ensures { λ _. ⌜ now (report .exit) ≡ withSets (has (set .words)) (has (asked .most .words)) (has (asked .least .words)) (valued (now (model .entry))) (valued (now (assigned .entry))) (now (report .entry)) ⌝ }
+    ensures { λ _. ⌜ now (report .exit)
+        ≡ withSets (has (set .words)) (has (asked .most .words)) (has (asked .least .words)) (valued (now (model .entry))) (valued (now (assigned .entry)))
+        (now (report .entry)) ⌝ }
 {
     let n = set.count() as usize;
     writing::write_bounds(report, set, model);

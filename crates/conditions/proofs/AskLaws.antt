@@ -88,7 +88,8 @@ module _ (p : ℕ → Asking) where
 
   pub grown-more : (n : ℕ) {old all new : Asked} → AsksMore old all (λ asks v. anyBelow n (λ i. p i asks v)) → AsksMore all new (p n)
       → AsksMore old new (λ asks v. anyBelow (n + 1) (λ i. p i asks v))
-  grown-more n {old} g h = record { most = λ v. more (has (old .most .words)) asksMost v (g .most v) (h .most v); least = λ v. more (has (old .least .words)) asksLeast v (g .least v) (h .least v) }
+  grown-more n {old} g h =
+      record { most = λ v. more (has (old .most .words)) asksMost v (g .most v) (h .most v); least = λ v. more (has (old .least .words)) asksLeast v (g .least v) (h .least v) }
     where
       more : (o : ℕ → Bool) (asks : Direction → Bool → Bool) (v : ℕ) {a b : Bool} → a ≡ (o v || anyBelow n (λ i. p i asks v)) → b ≡ (a || p n asks v)
           → b ≡ (o v || anyBelow (n + 1) (λ i. p i asks v))

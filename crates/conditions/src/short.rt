@@ -20,7 +20,8 @@ pub fn short_set(
     model: &[i64; Format::MAX_VARIABLES],
 ) -> Set
     requires { ⌜ (8 * variables ≤ length (now file)) × (variables ≤ maxVariables) ⌝ }
-    ensures { λ r. ⌜ ((v : ℕ) → has (r .words) v ≡ short (variableIn (variablesAt (now (file .entry)) variables) v) (valued (now (assigned .entry)) v) (valued (now (model .entry)) v)) ⌝ }
+    ensures { λ r. ⌜ ((v : ℕ)
+        → has (r .words) v ≡ short (variableIn (variablesAt (now (file .entry)) variables) v) (valued (now (assigned .entry)) v) (valued (now (model .entry)) v)) ⌝ }
 {
     let mut set = Set::empty();
     let mut v = 0;

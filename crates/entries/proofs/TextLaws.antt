@@ -58,7 +58,9 @@ pub entry-short : (v mark : ℕ) (z : ℤ) → v < 256 → natAbs z ≤ 32768 �
 unfolding entryLine
 entry-short v mark z h k = go (eqb mark 0) (eqb mark 1) (eqb mark 2)
   where
-    go : (p q r : Bool) → length (cond p (entryWith (word "most ") v (word " ") z) (cond q (entryWith (word "when ") v (word " <= ") z) (cond r (entryWith (word "when ") v (word " >= ") z) []))) ≤ entryMost
+    go : (p q r : Bool) → length
+        (cond p (entryWith (word "most ") v (word " ") z)
+        (cond q (entryWith (word "when ") v (word " <= ") z) (cond r (entryWith (word "when ") v (word " >= ") z) []))) ≤ entryMost
     go true q r = omega (arith, with-length (word "most ") v (word " ") z h k)
     go false true r = omega (arith, with-length (word "when ") v (word " <= ") z h k)
     go false false true = omega (arith, with-length (word "when ") v (word " >= ") z h k)

@@ -28,7 +28,8 @@ fn put_line(output: &mut [u8], at: usize, first: &[u8], v: u8, second: &[u8], z:
 // The line of entry i.
 fn put_entry(output: &mut [u8], at: usize, report: &[u8], i: usize) -> usize
     requires { ⌜ (at ≤ 100000) × (4 * (i + 1) ≤ length (now report)) ⌝ }
-    ensures { λ r. ⌜ Appends (entryLine (variableAt (now (report .entry)) i) (markAt (now (report .entry)) i) (numberAt (now (report .entry)) i)) at r (now (output .entry)) (now (output .exit)) ⌝ }
+    ensures { λ r. ⌜ Appends (entryLine (variableAt (now (report .entry)) i) (markAt (now (report .entry)) i) (numberAt (now (report .entry)) i)) at r
+        (now (output .entry)) (now (output .exit)) ⌝ }
     ensures { λ r. ⌜ r ≤ at + entryMost ⌝ }
 {
     let v = report[4 * i];

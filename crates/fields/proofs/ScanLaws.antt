@@ -18,7 +18,8 @@ use Rattle.program.specs.Refusals.{cutShort, valueRefusal, fieldRefusal}
 use Rattle.program.specs.Reading.{Passed, Whole, Reads, refused, bad-field, too-long, numberOf, counted}
 use Rattle.program.specs.declared.Counts.{Counts}
 use Rattle.program.specs.declared.Refusal.{Refusal}
-use Rattle.program.specs.declared.Refusal.the-variants.{FileTooLong, CutShort, UnknownTag, TagBelow, OneTooMany, WrongLength, WrongForm, OutsideRange, Undeclared, WrongCount, VariableTwice, NegativeProduct, NotValid}
+use Rattle.program.specs.declared.Refusal.the-variants.{FileTooLong, CutShort, UnknownTag, TagBelow, OneTooMany, WrongLength, WrongForm, OutsideRange}
+use Rattle.program.specs.declared.Refusal.the-variants.{Undeclared, WrongCount, VariableTwice, NegativeProduct, NotValid}
 use Rattle.program.proofs.Places.{passed-none, passed-more, passed-inside, passed-fine, place-next, before-next, not-cut, variables-stand, counts, variables-length}
 use Rattle.program.proofs.Counting.{countsTo, counts-more}
 use Rattle.fields.specs.Standing.{fieldAt}
@@ -129,7 +130,8 @@ module _ (s : List ℕ) (n at before : ℕ) (k : Counts) where
       }
 
 -- the counts are those of the fields read
-pub counts-are : {s : List ℕ} {k : Counts} {P : Program} → Describes s k P → k ≡ record { variables = length (P .variables); rules = length (P .rules); constraints = length (P .constraints) }
+pub counts-are : {s : List ℕ} {k : Counts} {P : Program} → Describes s k P
+    → k ≡ record { variables = length (P .variables); rules = length (P .rules); constraints = length (P .constraints) }
 counts-are {s} {k} {P} d =
     let v : length (P .variables) ≡ k .variables = ap length (d .variables-are) ∙ variables-length s (k .variables) in
     λ i. record { variables = sym v i; rules = sym (d .rules-are) i; constraints = sym (d .constraints-are) i }

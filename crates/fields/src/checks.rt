@@ -23,7 +23,8 @@ pub fn is_unknown_tag(tag: u8) -> bool
 }
 
 pub fn is_one_too_many(tag: u8, counts: Counts) -> bool
-    ensures { λ r. ⌜ ((P : Program) → length (P .variables) ≡ counts .variables → length (P .rules) ≡ counts .rules → length (P .constraints) ≡ counts .constraints → r ≡ oneTooMany P tag) ⌝ }
+    ensures { λ r. ⌜ ((P : Program) → length (P .variables) ≡ counts .variables → length (P .rules) ≡ counts .rules
+        → length (P .constraints) ≡ counts .constraints → r ≡ oneTooMany P tag) ⌝ }
 {
     match tag {
         Format::VARIABLE => Format::MAX_VARIABLES <= counts.variables,

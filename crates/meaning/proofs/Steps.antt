@@ -31,7 +31,8 @@ module _ (P : Program) (r : Rule) (θ m m⁺ : Valuation) (h : ℕ) (a : ℤ) (i
     where
       apart : kept (P .variables) r i ≡ true → h ≡ bodyVariable r i → ⊥
       apart k q =
-          never {b = kept (P .variables) r i && eqb (bodyVariable r i) h} (rw (k, eq-eqb (bodyVariable r i) h (sym q))) (none-below _ (λ j. kept (P .variables) r j && eqb (bodyVariable r j) h) e i l)
+          never {b = kept (P .variables) r i && eqb (bodyVariable r i) h} (rw (k, eq-eqb (bodyVariable r i) h (sym q)))
+          (none-below _ (λ j. kept (P .variables) r j && eqb (bodyVariable r j) h) e i l)
 
       go : (b : Bool) → kept (P .variables) r i ≡ b → (m⁺ (bodyVariable r i) ≡ m (bodyVariable r i)) ⊎ ((h ≡ bodyVariable r i) × (m⁺ (bodyVariable r i) ≡ a))
           → cond b (m⁺ (bodyVariable r i)) (θ (bodyVariable r i)) ≡ cond b (m (bodyVariable r i)) (θ (bodyVariable r i))

@@ -13,7 +13,10 @@ use Rattle.format.specs.Numbers.{beyond}
 use Rattle.program.specs.Tables.{anyBelow}
 use Rattle.program.specs.Fields.{place, tagBefore}
 use Rattle.program.specs.Program.{Program, program, termsOf, variableIn, ruleIn}
-use Rattle.program.specs.Refusals.{cutShort, unknownTag, tagBelow, oneTooMany, notTerms, wrongLength, literalPosition, wrongOp, mustBeZero, wrongTerm, unknownForm, wrongConstraint, wrongForm, outsideTerm, outsideRange, undeclaredTerm, wrongHead, undeclared, wrongCountOf, wrongCount, repeatedTerm, variableTwice, negativeTerm, negativeProduct, itemRefusal, valueRefusal, fieldRefusal}
+use Rattle.program.specs.Refusals.{cutShort, unknownTag, tagBelow, oneTooMany, notTerms, wrongLength, literalPosition, wrongOp, mustBeZero, wrongTerm}
+use Rattle.program.specs.Refusals.{unknownForm, wrongConstraint, wrongForm, outsideTerm, outsideRange, undeclaredTerm, wrongHead, undeclared}
+use Rattle.program.specs.Refusals.{wrongCountOf, wrongCount, repeatedTerm, variableTwice, negativeTerm, negativeProduct, itemRefusal, valueRefusal}
+use Rattle.program.specs.Refusals.{fieldRefusal}
 use Rattle.program.specs.Directions.{direction, isMixed}
 use Rattle.program.specs.Components.{Valid}
 use Rattle.program.specs.Reading.{Accepts}

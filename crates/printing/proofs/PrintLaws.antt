@@ -122,7 +122,8 @@ printed-told s end e q t =
     record {
       text = _;
       prints = checked (subst (λ (x : Bool). T (not x)) (sym e) tt)
-          (subst (λ (y : List ℕ). Checks (fileIn s) y blank (t .answer) (t .report)) a (subst (λ (x : List ℕ). Checks x (take (length s - end) (drop end s)) blank (t .answer) (t .report)) f (t .checks)));
+          (subst (λ (y : List ℕ). Checks (fileIn s) y blank (t .answer) (t .report)) a
+          (subst (λ (x : List ℕ). Checks x (take (length s - end) (drop end s)) blank (t .answer) (t .report)) f (t .checks)));
       holds = t .holds;
       short = t .short;
     }

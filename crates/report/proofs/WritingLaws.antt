@@ -59,7 +59,8 @@ wrote-both {es} {fs} {i} {j} {k} {b} {c} {d} h u w =
       next = omega (arith, u .next, w .next, length-append es fs);
       bytes = w .bytes
           ∙ ap₂ (λ (x y : List ℕ). x ++ bytesIn fs ++ y) kept rest
-          ∙ ap (λ (r : List ℕ). r ++ drop (4 * k) b) (append-assoc (take (4 * i) b) (bytesIn es) (bytesIn fs) ∙ ap (λ (r : List ℕ). take (4 * i) b ++ r) (sym (bytes-append es fs)));
+          ∙ ap (λ (r : List ℕ). r ++ drop (4 * k) b)
+          (append-assoc (take (4 * i) b) (bytesIn es) (bytesIn fs) ∙ ap (λ (r : List ℕ). take (4 * i) b ++ r) (sym (bytes-append es fs)));
     }
 
 -- ---- an entry where a test holds

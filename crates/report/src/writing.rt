@@ -108,7 +108,8 @@ fn write_marked(
 pub fn write_bounds(report: &mut [u8], set: Set, values: &[i64; Format::MAX_VARIABLES])
     requires { ⌜ 4 * countFrom (has (set .words)) 0 maxVariables ≤ length (now report) ⌝ }
     requires { ⌜ Small (now values) ⌝ }
-    ensures { λ _. ⌜ now (report .exit) ≡ bytesIn (ascending (boundsOf (has (set .words)) (valued (now (values .entry)))) maxVariables) ++ drop (4 * countFrom (has (set .words)) 0 maxVariables) (now (report .entry)) ⌝ }
+    ensures { λ _. ⌜ now (report .exit) ≡ bytesIn (ascending (boundsOf (has (set .words)) (valued (now (values .entry)))) maxVariables)
+        ++ drop (4 * countFrom (has (set .words)) 0 maxVariables) (now (report .entry)) ⌝ }
 {
     let none = Set::empty();
     write_marked(report, set, Mark::BOUND, none, Mark::BOUND, values);
@@ -123,7 +124,9 @@ pub fn write_conditions(
 )
     requires { ⌜ 4 * (countFrom (has (most .words)) 0 maxVariables + countFrom (has (least .words)) 0 maxVariables) ≤ length (now report) ⌝ }
     requires { ⌜ Small (now values) ⌝ }
-    ensures { λ _. ⌜ now (report .exit) ≡ bytesIn (ascending (conditionsOf (has (most .words)) (has (least .words)) (valued (now (values .entry)))) maxVariables) ++ drop (4 * (countFrom (has (most .words)) 0 maxVariables + countFrom (has (least .words)) 0 maxVariables)) (now (report .entry)) ⌝ }
+    ensures { λ _. ⌜ now (report .exit)
+        ≡ bytesIn (ascending (conditionsOf (has (most .words)) (has (least .words)) (valued (now (values .entry)))) maxVariables)
+        ++ drop (4 * (countFrom (has (most .words)) 0 maxVariables + countFrom (has (least .words)) 0 maxVariables)) (now (report .entry)) ⌝ }
 {
     write_marked(report, most, Mark::AT_MOST, least, Mark::AT_LEAST, values);
 }

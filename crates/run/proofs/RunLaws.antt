@@ -35,14 +35,12 @@ given-as : (P : Program) (r : Rule) (mask : ℕ) (m θ : List ℤ) → Evaluable
     → evaluate r (readingOf mask m θ (r .terms)) ≡ gives (P .variables) r (valued m) (valued θ)
 unfolding gives readingOf
 given-as P r mask m θ e k =
-    evaluate-same r (readingOf mask m θ (r .terms)) (reading (P .variables) r (valued m) (valued θ)) (λ j l. ap (λ (b : Bool). cond b (valued m (bodyVariable r j)) (valued θ (bodyVariable r j))) (k j l)) e
+    evaluate-same r (readingOf mask m θ (r .terms)) (reading (P .variables) r (valued m) (valued θ))
+    (λ j l. ap (λ (b : Bool). cond b (valued m (bodyVariable r j)) (valued θ (bodyVariable r j))) (k j l)) e
 
 module _ {s : List ℕ} {P : Program} {i at mask : ℕ} (h : RuleAt s P i at mask) where
   lies : RuleLies s P i at
   lies = rw (h .placed) (rule-lies (h .accepts) i (h .among))
-
-  pub here-inside : nextAt s at ≤ length s
-  here-inside = lies .inside
 
   -- the requirements of evaluation, for the value of its field
   module _ {v : List ℕ} (q : v ≡ valueAt s at) where

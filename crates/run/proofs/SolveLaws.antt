@@ -51,7 +51,8 @@ use Rattle.program.proofs.Variables.{past-refl, no-more-past}
 row-bit : (readers : List ℕ) (x i : ℕ) → i < maxRules → has (take rowWords (drop (rowWords * x) readers)) i ≡ has readers (maxRules * x + i)
 unfolding has
 row-bit readers x i l =
-    ap₂ bit (getD-take rowWords (drop (rowWords * x) readers) (i / wordBits) 0 (omega arith) ∙ getD-drop (rowWords * x) readers (i / wordBits) 0 ∙ ap (λ (k : ℕ). getD readers k 0) word) in-word
+    ap₂ bit (getD-take rowWords (drop (rowWords * x) readers) (i / wordBits) 0 (omega arith) ∙ getD-drop (rowWords * x) readers (i / wordBits) 0
+    ∙ ap (λ (k : ℕ). getD readers k 0) word) in-word
   where
     word : rowWords * x + i / wordBits ≡ (maxRules * x + i) / wordBits
     word = omega arith
@@ -97,7 +98,8 @@ module _ (y : Variable) (readers : List ℕ) (h : ℕ) (a : ℤ) (m m⁺ : List 
 -- ---- the start
 
 -- standard values as assigned, founded ones at their starting ends, and every rule waits
-pub run-start : {s offsets masks readers : List ℕ} {P : Program} → Accepts s P → Tabled s P (length (P .rules)) offsets masks readers → (θ m : List ℤ) → Within (system P) (valued θ)
+pub run-start : {s offsets masks readers : List ℕ} {P : Program} → Accepts s P → Tabled s P (length (P .rules)) offsets masks readers → (θ m : List ℤ)
+    → Within (system P) (valued θ)
     → ((v : ℕ) → valued m v ≡ started (variableIn (P .variables) v) (valued θ v))
     → (waiting : List ℕ) → ((i : ℕ) → i < maxRules → has waiting i ≡ ltb i (length (P .rules))) → Running s offsets masks readers θ m waiting
 run-start {P = P} a t θ m w is waiting all =
@@ -208,13 +210,17 @@ module _ {s offsets masks readers : List ℕ} {θ m : List ℤ} {waiting : List 
           unread = rw (lt-ltb j (length (k .program .rules)) l) at (sym (k .tabled .reader-is (headOf (k .program) i) j few rule-few) ∙ none .1)
 
           same : givenBy (k .program) (valued θ) (valued m⁺) j ≡ givenBy (k .program) (valued θ) (valued m) j
-          same = same-given (k .program) (ruleIn (k .program .rules) j) (valued θ) (valued m) (valued m⁺) (headOf (k .program) i) a is unread (promised-evaluable (promises .rules j l))
+          same =
+              same-given (k .program) (ruleIn (k .program .rules) j) (valued θ) (valued m) (valued m⁺) (headOf (k .program) i) a is unread
+              (promised-evaluable (promises .rules j l))
 
           go : Dec (j ≡ i) → RuleMetIn (k .program) (valued θ) (valued m⁺) j
           go (yes q) =
-              let g : givenBy (k .program) (valued θ) (valued m⁺) i ≡ Value a = subst (λ (n : ℕ). givenBy (k .program) (valued θ) (valued m⁺) n ≡ givenBy (k .program) (valued θ) (valued m) n) q same ∙ x .exceeds .gives-it in
+              let g : givenBy (k .program) (valued θ) (valued m⁺) i ≡ Value a =
+              subst (λ (n : ℕ). givenBy (k .program) (valued θ) (valued m⁺) n ≡ givenBy (k .program) (valued θ) (valued m) n) q same ∙ x .exceeds .gives-it in
               subst (λ (n : ℕ). RuleMetIn (k .program) (valued θ) (valued m⁺) n) (sym q)
-              (subst (λ b. GivenNoMore (system (k .program)) (headOf (k .program) i) b (valued m⁺ (headOf (k .program) i))) (sym g) (rw stored (past-refl (variableIn (k .program .variables) (headOf (k .program) i)) a)))
+              (subst (λ b. GivenNoMore (system (k .program)) (headOf (k .program) i) b (valued m⁺ (headOf (k .program) i))) (sym g)
+              (rw stored (past-refl (variableIn (k .program .variables) (headOf (k .program) i)) a)))
             where
               stored : valued m⁺ (headOf (k .program) i) ≡ a
               stored = rw (r .model-is) (getD-set-same m (headOf (k .program) i) a (pos 0) (omega (arith, few, full)))
@@ -230,7 +236,8 @@ module _ {s offsets masks readers : List ℕ} {θ m : List ℤ} {waiting : List 
           go true q h = k .rules j l (sub j q)
           go false q h =
               ltb-true j (length (k .program .rules))
-              (first (ltb j (length (k .program .rules))) (readsKept (k .program) (ruleIn (k .program .rules) j) (headOf (k .program) i)) (sym (k .tabled .reader-is (headOf (k .program) i) j few l) ∙ h))
+              (first (ltb j (length (k .program .rules))) (readsKept (k .program) (ruleIn (k .program .rules) j) (headOf (k .program) i))
+              (sym (k .tabled .reader-is (headOf (k .program) i) j few l) ∙ h))
 
       pub run-on : Running s offsets masks readers θ m⁺ w⁺
       run-on = record {
@@ -248,7 +255,8 @@ module _ {s offsets masks readers : List ℕ} {θ m : List ℤ} {waiting : List 
       pub run-nearer : gap (variablesAt s maxVariables) m⁺ < gap (variablesAt s maxVariables) m
       run-nearer =
           rw (r .model-is)
-          (gap-raised (variablesAt s maxVariables) m (headOf (k .program) i) a (omega (arith, few, variables-length s maxVariables)) (omega (arith, full, variables-length s maxVariables))
+          (gap-raised (variablesAt s maxVariables) m (headOf (k .program) i) a (omega (arith, few, variables-length s maxVariables))
+          (omega (arith, full, variables-length s maxVariables))
           (rw stands-in (x .exceeds .more .lt)) (rw stands-in t))
 
     -- the same, of the code's head h with its variable y, and value b

@@ -62,7 +62,8 @@ Demanded P θ m i Enough = RuleMetIn P θ m i
 -- every rule outside the set is met
 abbrev pub MetOutside : Program → Valuation → Valuation → (ℕ → Bool) → Type 0
 MetOutside P θ m waiting =
-    (i : ℕ) → i < length (P .rules) → waiting i ≡ false → GivenNoMore (system P) (ruleIn (P .rules) i .head) (gives (P .variables) (ruleIn (P .rules) i) m θ) (m (ruleIn (P .rules) i .head))
+    (i : ℕ) → i < length (P .rules) → waiting i ≡ false
+    → GivenNoMore (system P) (ruleIn (P .rules) i .head) (gives (P .variables) (ruleIn (P .rules) i) m θ) (m (ruleIn (P .rules) i .head))
 
 -- the set has rules alone
 abbrev pub Among : Program → (ℕ → Bool) → Type 0

@@ -74,7 +74,8 @@ pub fn look(
     requires { ⌜ i < maxRules ⌝ }
     requires { ⌜ Stands (now file) (getD (now offsets) i 0) (getD (now masks) i 0) ⌝ }
     requires { ⌜ Small (now model) × Small (now assigned) ⌝ }
-    ensures { λ r. ⌜ ((P : Program) → RuleAt (now (file .entry)) P i (getD (now (offsets .entry)) i 0) (getD (now (masks .entry)) i 0) → Demanded P (valued (now (assigned .entry))) (valued (now (model .entry))) i r) ⌝ }
+    ensures { λ r. ⌜ ((P : Program) → RuleAt (now (file .entry)) P i (getD (now (offsets .entry)) i 0) (getD (now (masks .entry)) i 0)
+        → Demanded P (valued (now (assigned .entry))) (valued (now (model .entry))) i r) ⌝ }
 {
     let at = offsets[i];
     let mask = masks[i];
@@ -112,7 +113,9 @@ pub fn step(
     requires { ⌜ length (now waiting) ≡ rowWords ⌝ }
     ensures { λ _. ⌜ length (now (waiting .exit)) ≡ rowWords ⌝ }
     ensures { λ _. ⌜ Inside (has (now (waiting .exit))) (has (now (waiting .entry))) ⌝ }
-    ensures { λ r. ⌜ ((P : Program) → Placed (now (file .entry)) P (now (offsets .entry)) (now (masks .entry)) → MetOutside P (valued (now (assigned .entry))) (valued (now (model .entry))) (has (now (waiting .entry))) → Stepped P (valued (now (assigned .entry))) (valued (now (model .entry))) (has (now (waiting .exit))) r) ⌝ }
+    ensures { λ r. ⌜ ((P : Program) → Placed (now (file .entry)) P (now (offsets .entry)) (now (masks .entry))
+        → MetOutside P (valued (now (assigned .entry))) (valued (now (model .entry))) (has (now (waiting .entry)))
+        → Stepped P (valued (now (assigned .entry))) (valued (now (model .entry))) (has (now (waiting .exit))) r) ⌝ }
 {
     loop {
         let Found::At(i) = take_lowest(waiting) else {

@@ -48,7 +48,9 @@ module _ {s : List ℕ} {v m c : ℕ} (r : Reads s (accepted v m c)) {P : Progra
 
     -- the rule's mask is of its kept positions
     mask-here : MaskOf P (ruleIn (P .rules) i) (n .mask)
-    mask-here = subst (λ (q : Rule). MaskOf P q (n .mask)) rule-here (λ j l. n .mask-is .below j l ∙ ap (λ (vs : List Variable). kept vs (ruleOf (valueAt s at)) j) (sym (variables-are r a)))
+    mask-here =
+        subst (λ (q : Rule). MaskOf P q (n .mask)) rule-here
+        (λ j l. n .mask-is .below j l ∙ ap (λ (vs : List Variable). kept vs (ruleOf (valueAt s at)) j) (sym (variables-are r a)))
 
     -- and the variables that it reads there are those entered
     reads-here : (x : ℕ) → readAt (ruleOf (valueAt s at)) (n .mask) x ≡ readsKept P (ruleIn (P .rules) i) x

@@ -78,7 +78,8 @@ fn enter(
     requires { ⌜ RuleHere (now file) variables at ⌝ }
     requires { ⌜ (i < maxRules) × (length (now offsets) ≡ maxRules) × (length (now masks) ≡ maxRules) × (length (now readers) ≡ readersWords) ⌝ }
     ensures { λ _. ⌜ (length (now (offsets .exit)) ≡ maxRules) × (length (now (masks .exit)) ≡ maxRules) × (length (now (readers .exit)) ≡ readersWords) ⌝ }
-    ensures { λ r. ⌜ EntryMade (now (file .entry)) variables at i r (now (offsets .entry)) (now (offsets .exit)) (now (masks .entry)) (now (masks .exit)) (now (readers .entry)) (now (readers .exit)) ⌝ }
+    ensures { λ r. ⌜ EntryMade (now (file .entry)) variables at i r (now (offsets .entry)) (now (offsets .exit)) (now (masks .entry)) (now (masks .exit))
+        (now (readers .entry)) (now (readers .exit)) ⌝ }
 {
     let value = value_at(file, at);
     let mask = kept_positions(file, variables, value);

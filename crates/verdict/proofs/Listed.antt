@@ -145,7 +145,9 @@ module _ (p : ℕ → Bool) (m : Valuation) (n : ℕ) where
 
 module _ (p q : ℕ → Bool) (θ : Valuation) (n : ℕ) where
   each : (Q : Entry → Type 0) (v : ℕ) → (T (p v) → Q (entry v atMost (θ v))) → (T (q v) → Q (entry v atLeast (θ v))) → Every Q (conditionsOf p q θ v)
-  each Q v h k = every-append (only (p v) (entry v atMost (θ v))) (only (q v) (entry v atLeast (θ v))) Q (only-every (p v) (entry v atMost (θ v)) Q h) (only-every (q v) (entry v atLeast (θ v)) Q k)
+  each Q v h k =
+      every-append (only (p v) (entry v atMost (θ v))) (only (q v) (entry v atLeast (θ v))) Q (only-every (p v) (entry v atMost (θ v)) Q h)
+      (only-every (q v) (entry v atLeast (θ v)) Q k)
 
   pub conditions-every : (Q : Entry → Type 0) → ((v : ℕ) → T (p v) → Q (entry v atMost (θ v))) → ((v : ℕ) → T (q v) → Q (entry v atLeast (θ v)))
       → Every Q (ascending (conditionsOf p q θ) n)
@@ -162,7 +164,9 @@ module _ (p q : ℕ → Bool) (θ : Valuation) (n : ℕ) where
   pub conditions-sorted : Sorted (ascending (conditionsOf p q θ) n)
   conditions-sorted = ascending-sorted (record {
     own = λ v. each (λ e. (e .variable ≡ v) × (e .mark ≤ 2)) v (λ t. (refl, omega arith)) (λ t. (refl, omega arith));
-    sorted = λ v. sorted-append (only (p v) (entry v atMost (θ v))) (only (q v) (entry v atLeast (θ v))) (only-sorted (p v) (entry v atMost (θ v))) (only-sorted (q v) (entry v atLeast (θ v)))
+    sorted =
+        λ v. sorted-append (only (p v) (entry v atMost (θ v))) (only (q v) (entry v atLeast (θ v))) (only-sorted (p v) (entry v atMost (θ v)))
+        (only-sorted (q v) (entry v atLeast (θ v)))
         (λ i j a b. let x = only-every (p v) (entry v atMost (θ v)) (λ e. key e ≡ 4 * v + 1) (λ t. refl) i a in
         let y = only-every (q v) (entry v atLeast (θ v)) (λ e. key e ≡ 4 * v + 2) (λ t. refl) j b in omega arith);
   }) n

@@ -28,7 +28,8 @@ use Rattle.meaning.proofs.InRanges.{founded-declared, value-small}
 use Rattle.report.specs.Report.{Entry, bytesIn, asksMost, asksLeast, askedAt, askedBy, asked, shown, bounds, conditions}
 use Rattle.report.proofs.Entries.{bytes-length}
 use Rattle.verdict.specs.Demands.{variableAt, markAt, numberAt, isShown, shownBound, ConditionMet, ConditionsMet, Shows}
-use Rattle.verdict.proofs.Listed.{entryIn, Listed, left-is, right-is, both-length, once-by-key, bounds-every, bounds-listed, bounds-sorted, conditions-every, most-listed, least-listed, conditions-sorted, variable-at, mark-at, number-at}
+use Rattle.verdict.proofs.Listed.{entryIn, Listed, left-is, right-is, both-length, once-by-key, bounds-every, bounds-listed, bounds-sorted}
+use Rattle.verdict.proofs.Listed.{conditions-every, most-listed, least-listed, conditions-sorted, variable-at, mark-at, number-at}
 use Rattle.program.specs.Readings.{Valuation, bodyVariable, kept}
 use Rattle.program.proofs.Tests.{cases, is-true, is-test}
 use Rattle.program.specs.Variables.{notPast}
@@ -156,7 +157,8 @@ module _ {P : Program} (promised : Promises P) {θ m : Valuation} (meets : Meets
       outof : T (shown P θ m v) → isShown b n v ≡ true
       outof t =
           let l = bounds-listed (shown P θ m) m (length (P .variables)) v (founded-declared (P .variables) v (short-founded (variableIn (P .variables) v) (θ v) (m v) t)) t in
-          below-some n (λ i. eqb (variableAt b i) v) (l .at) (l .inside) (eq-eqb (variableAt b (l .at)) v (bound-at (l .at) (l .inside) .variable ∙ ap (λ (x : Entry). x .variable) (l .is)))
+          below-some n (λ i. eqb (variableAt b i) v) (l .at) (l .inside)
+          (eq-eqb (variableAt b (l .at)) v (bound-at (l .at) (l .inside) .variable ∙ ap (λ (x : Entry). x .variable) (l .is)))
 
   bound-is : (v : ℕ) → T (isShown b n v) → shownBound b n v ≡ m v
   bound-is v t = shown-number b m n v (λ i h. bound-at i h .number) (is-true (isShown b n v) t)
@@ -230,7 +232,8 @@ module _ {P : Program} (promised : Promises P) {θ m : Valuation} (meets : Meets
     unfolding asked askedBy askedAt
     asked-at asks i j h l t q =
         below-some (length (P .rules)) (λ i. shown P θ m (ruleIn (P .rules) i .head) && askedBy (P .variables) (shown P θ m) asks (ruleIn (P .rules) i) x) i h
-        (and-true (shown P θ m (ruleIn (P .rules) i .head)) (askedBy (P .variables) (shown P θ m) asks (ruleIn (P .rules) i) x) (is-true (shown P θ m (ruleIn (P .rules) i .head)) t)
+        (and-true (shown P θ m (ruleIn (P .rules) i .head)) (askedBy (P .variables) (shown P θ m) asks (ruleIn (P .rules) i) x)
+        (is-true (shown P θ m (ruleIn (P .rules) i .head)) t)
         (below-some (length (ruleIn (P .rules) i .terms)) (λ j. at j && eqb (bodyVariable (ruleIn (P .rules) i) j) x) j l (and-true (at j) (eqb x x) q (eq-eqb x x refl))))
       where
         x : ℕ
@@ -271,7 +274,9 @@ module _ {P : Program} (promised : Promises P) {θ m : Valuation} (meets : Meets
     conditions-once = λ i j l h l′ h′ e q. again i j l l′ (once-by-key (conditions P θ m)
         (conditions-sorted (asked P (shown P θ m) asksMost) (asked P (shown P θ m) asksLeast) θ (length (P .variables))) (i - n) (j - n) (omega arith) (omega arith)
         (sym (condition-at i l h .variable) ∙ e ∙ condition-at j l′ h′ .variable) (sym (condition-at i l h .mark) ∙ q ∙ condition-at j l′ h′ .mark));
-    is-unfounded = same-unfounded P θ (shown P θ m) (isShown b n) m (shownBound b n) (λ v. sym (shown-is v)) (λ v t. sym (bound-is v (rw (shown-is v) t))) (short-unfounded (laws promised) self least (s .0) (s .1));
+    is-unfounded =
+        same-unfounded P θ (shown P θ m) (isShown b n) m (shownBound b n) (λ v. sym (shown-is v)) (λ v t. sym (bound-is v (rw (shown-is v) t)))
+        (short-unfounded (laws promised) self least (s .0) (s .1));
     largest = λ dom bounds′ u v t. let w = inside-short (laws promised) self least u v t in
         let i : T (isShown b n v) = rw (shown-is v) (w .0) in (i, rw (bound-is v i) (w .1));
     conditions-true = met-self;

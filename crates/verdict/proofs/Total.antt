@@ -82,7 +82,9 @@ module _ {P : Program} (promised : Promises P) (θ : Valuation) (b : List ℕ) w
 
   ruled : Within (system P) θ → ((i : ℕ) × FirstUnmet (RuleMet P θ) (length (P .rules)) i) ⊎ ((i : ℕ) → i < length (P .rules) → RuleMet P θ i) → Verdict
   ruled w (inl f) = (_, _, rule-unmet w (f .1))
-  ruled w (inr r) = constrained w r (first-unmet (ConstraintMet P θ) (λ i. is-it (satisfied (constraintIn (P .constraints) i) (λ j. θ (termIn (constraintIn (P .constraints) i .terms) j .variable)))) (length (P .constraints)))
+  ruled w (inr r) =
+      constrained w r (first-unmet (ConstraintMet P θ)
+      (λ i. is-it (satisfied (constraintIn (P .constraints) i) (λ j. θ (termIn (constraintIn (P .constraints) i .terms) j .variable)))) (length (P .constraints)))
 
   verdict : (AllInside P θ → Within (system P) θ) → ((v : ℕ) × FirstOutside P θ v) ⊎ AllInside P θ → Verdict
   verdict w (inl f) = (_, _, outside (f .1))

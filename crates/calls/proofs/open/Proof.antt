@@ -24,7 +24,9 @@ fitted-requires c κs =
     (c .before .before .before .before .before .before .pre, limited r .few-variables)
 
 returns : tie.Need-returns
-returns c = λ b e. bad-file (subst (λ (q : Reading). Reads (c .before .before .before .before .before .before .args .file .now) (answerOf q)) (c .before .why .given .1) (c .before .before .before .read .ensures))
+returns c =
+    λ b e. bad-file (subst (λ (q : Reading). Reads (c .before .before .before .before .before .before .args .file .now) (answerOf q)) (c .before .why .given .1)
+    (c .before .before .before .read .ensures))
 
 returns-2 : tie.Need-returns-2
 returns-2 c = λ b e.

@@ -32,8 +32,12 @@ returns-2 : tie.Need-returns-2
 returns-2 c =
     let p = c .before .before .before .before .before .before .before .position-at .ensures in
     let h = c .before .before .before .wide .ensures .0 ∙ c .before .before .before .before .header .ensures .head-is in
-    let x = c .before .before .wide2 .ensures .0 ∙ p .variable-is in
-    (c .mark .ensures .0, draws-one _ _ _ _ _ (other-draws _ (c .before .before .before .before .before .before .is-falling .ensures) (p .direction-is) (c .before .before .before .before .before .if1 .left)) h x (c .mark .ensures .1))
+    let x = c .before .before .wide2 .ensures .0 ∙ p .variable-is in (
+      c .mark .ensures .0,
+      draws-one _ _ _ _ _
+          (other-draws _ (c .before .before .before .before .before .before .is-falling .ensures) (p .direction-is)
+          (c .before .before .before .before .before .if1 .left)) h x (c .mark .ensures .1),
+    )
 
 pub mark-position-spec : {M : Type 1} → statement M
 mark-position-spec =

@@ -11,7 +11,8 @@ use Rattle.entries.proofs.put_entries.Statement.{statement}
 use Rattle.entries.proofs.put_entries.Tie as tie
 
 abbrev Inv-loop : tie.InvT-loop
-Inv-loop output₀ at report count next₀ i₀ output next i = (length output ≡ length output₀) × (i ≤ count) × (next ≤ at + entryMost * i) × Appends (entryLines report i) at next output₀ output
+Inv-loop output₀ at report count next₀ i₀ output next i =
+    (length output ≡ length output₀) × (i ≤ count) × (next ≤ at + entryMost * i) × Appends (entryLines report i) at next output₀ output
 
 abbrev μ-loop : tie.MeasureT-loop
 μ-loop output₀ at report count next₀ i₀ output next i = count - i
@@ -40,8 +41,11 @@ same-length c = search needs
 returns : tie.Need-returns Inv-loop μ-loop
 returns c =
     let l = c .before .loop in
-    let e : l .i ≡ c .before .before .before .before .args .count = omega (arith, c .loop-test .left, l .inv .1) in
-    (subst (λ (n : ℕ). Appends (entryLines (c .before .before .before .before .args .report .now) n) (c .before .before .before .before .args .at) (l .next) (c .before .before .before .before .args .output .now) (l .output)) e (l .inv .3), omega (arith, l .inv .2))
+    let e : l .i ≡ c .before .before .before .before .args .count = omega (arith, c .loop-test .left, l .inv .1) in (
+      subst (λ (n : ℕ). Appends (entryLines (c .before .before .before .before .args .report .now) n) (c .before .before .before .before .args .at) (l .next)
+          (c .before .before .before .before .args .output .now) (l .output)) e (l .inv .3),
+      omega (arith, l .inv .2),
+    )
 
 pub put-entries-spec : {M : Type 1} → statement M
 put-entries-spec =

@@ -39,7 +39,8 @@ asked c h k = (c .before .before .before .before .before .pre .0, h, k, omega (a
 
 -- a line that was written
 done : (c : tie.After-signed-at) (x y : List ℕ) {at k : ℕ} {b d : List ℕ}
-    → entryWith x (variableAt (bytes c) (entry c)) y (numberAt (bytes c) (entry c)) ≡ entryLine (variableAt (bytes c) (entry c)) (markAt (bytes c) (entry c)) (numberAt (bytes c) (entry c))
+    → entryWith x (variableAt (bytes c) (entry c)) y (numberAt (bytes c) (entry c))
+    ≡ entryLine (variableAt (bytes c) (entry c)) (markAt (bytes c) (entry c)) (numberAt (bytes c) (entry c))
     → Appends (entryWith x (variableAt (bytes c) (entry c)) y (toZ w64 (ofZ w64 (c .signed-at .result)))) at k b d
     → Appends (entryLine (variableAt (bytes c) (entry c)) (markAt (bytes c) (entry c)) (numberAt (bytes c) (entry c))) at k b d × (k ≤ at + entryMost)
 done c x y e w =
@@ -103,19 +104,25 @@ same-length : tie.Need-same-length
 same-length c = search needs
 
 returns : tie.Need-returns
-returns c = done (c .before .before .before .before .before .before .before) (word "most ") (word " ") (most-line _ _ _ (c .before .before .before .before .before .before .match .keys1)) (c .before .before .put-line .ensures)
+returns c =
+    done (c .before .before .before .before .before .before .before) (word "most ") (word " ")
+    (most-line _ _ _ (c .before .before .before .before .before .before .match .keys1)) (c .before .before .put-line .ensures)
 
 same-length-2 : tie.Need-same-length-2
 same-length-2 c = search needs
 
 returns-2 : tie.Need-returns-2
-returns-2 c = done (c .before .before .before .before .before .before .before) (word "when ") (word " <= ") (at-most-line _ _ _ (c .before .before .before .before .before .before .match .keys2)) (c .before .before .put-line2 .ensures)
+returns-2 c =
+    done (c .before .before .before .before .before .before .before) (word "when ") (word " <= ")
+    (at-most-line _ _ _ (c .before .before .before .before .before .before .match .keys2)) (c .before .before .put-line2 .ensures)
 
 same-length-3 : tie.Need-same-length-3
 same-length-3 c = search needs
 
 returns-3 : tie.Need-returns-3
-returns-3 c = done (c .before .before .before .before .before .before .before) (word "when ") (word " >= ") (at-least-line _ _ _ (c .before .before .before .before .before .before .match .keys3)) (c .before .before .put-line3 .ensures)
+returns-3 c =
+    done (c .before .before .before .before .before .before .before) (word "when ") (word " >= ")
+    (at-least-line _ _ _ (c .before .before .before .before .before .before .match .keys3)) (c .before .before .put-line3 .ensures)
 
 returns-4 : tie.Need-returns-4
 returns-4 c =

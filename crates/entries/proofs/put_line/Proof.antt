@@ -30,11 +30,16 @@ same-length c = search needs
 
 returns : tie.Need-returns
 returns c =
-    let a = c .before .before .before .before .before .before .before .before .before .before .before .before .before .before .before .before .before .before .before .put-word .ensures in
-    let d = appends-as (ap decimal (c .before .before .before .before .before .before .before .before .before .before .before .before .before .before .before .wide .ensures .0)) (c .before .before .before .before .before .before .before .before .before .before .before .before .before .before .put-decimal .ensures .0) in
-    let p = c .before .before .before .before .before .before .before .before .before .before .put-word2 .ensures in
-    let e = appends-as (ap number (toZ-ofZ (c .before .before .before .before .before .before .before .before .before .before .before .before .before .before .before .before .before .before .before .before .before .before .before .before .fits .z))) (c .before .before .before .before .before .before .put-number .ensures .0) in
-    let q = c .before .before .put .ensures in
+    let end = c .before .before in
+    let z = end .before .before .before .before in
+    let y = z .before .before .before .before in
+    let v = y .before .before .before .before in
+    let x = v .before .before .before .before .before in
+    let a = x .put-word .ensures in
+    let d = appends-as (ap decimal (v .before .wide .ensures .0)) (v .put-decimal .ensures .0) in
+    let p = y .put-word2 .ensures in
+    let e = appends-as (ap number (toZ-ofZ (x .before .before .before .before .before .fits .z))) (z .put-number .ensures .0) in
+    let q = end .put .ensures in
     appends-both (appends-both (appends-both (appends-both a d) p) e) q
 
 pub put-line-spec : {M : Type 1} → statement M

@@ -75,7 +75,8 @@ returns : tie.Need-returns
 unfolding answerLine
 returns c =
     let w = c .before .before .put-two .ensures in
-    let e = ap₂ (λ (n at : ℕ). line (word "refused " ++ decimal n ++ word " " ++ decimal at)) (c .before .before .before .before .denial-number .ensures) (c .before .before .before .denial-place .ensures) in
+    let e = ap₂ (λ (n at : ℕ). line (word "refused " ++ decimal n ++ word " " ++ decimal at)) (c .before .before .before .before .denial-number .ensures)
+    (c .before .before .before .denial-place .ensures) in
     answered-alone (c .before .before .before .before .before .before .before .before .verdict .given .1) _ refl (appends-as e (w .0)) (w .1)
 
 same-length-2 : tie.Need-same-length-2

@@ -19,8 +19,13 @@ same-length c = search needs
 
 returns : tie.Need-returns
 returns c =
-    let w = appends-both (appends-both (c .before .before .before .before .before .before .before .before .before .before .put-word .ensures) (c .before .before .before .before .before .before .put-decimal .ensures .0)) (c .before .before .put .ensures) in
-    (w, omega (arith, c .before .before .before .before .before .before .before .before .before .before .put-word .ensures .next, c .before .before .before .before .before .before .put-decimal .ensures .1, c .before .before .put .ensures .next, c .before .before .before .before .before .before .before .before .before .before .before .before .before .before .pre))
+    let end = c .before .before in
+    let first = end .before .before .before .before in
+    let start = first .before .before .before .before in
+    let a = start .put-word .ensures in
+    let d = first .put-decimal .ensures in
+    let q = end .put .ensures in
+    (appends-both (appends-both a (d .0)) q, omega (arith, a .next, d .1, q .next, start .before .before .before .before .pre))
 
 pub put-one-spec : {M : Type 1} → statement M
 put-one-spec =

@@ -25,12 +25,19 @@ same-length c = search needs
 
 returns : tie.Need-returns
 returns c =
-    let a = c .before .before .before .before .before .before .before .before .before .before .before .before .before .before .before .before .before .before .put-word .ensures in
-    let d = c .before .before .before .before .before .before .before .before .before .before .before .before .before .before .put-decimal .ensures in
-    let p = c .before .before .before .before .before .before .before .before .before .before .put .ensures in
-    let e = c .before .before .before .before .before .before .put-decimal2 .ensures in
-    let q = c .before .before .put2 .ensures in
-    (appends-both (appends-both (appends-both (appends-both a (d .0)) p) (e .0)) q, omega (arith, a .next, d .1, p .next, e .1, q .next, c .before .before .before .before .before .before .before .before .before .before .before .before .before .before .before .before .before .before .before .before .before .before .pre))
+    let end = c .before .before in
+    let second = end .before .before .before .before in
+    let space = second .before .before .before .before in
+    let first = space .before .before .before .before in
+    let start = first .before .before .before .before in
+    let a = start .put-word .ensures in
+    let d = first .put-decimal .ensures in
+    let p = space .put .ensures in
+    let e = second .put-decimal2 .ensures in
+    let q = end .put2 .ensures in (
+      appends-both (appends-both (appends-both (appends-both a (d .0)) p) (e .0)) q,
+      omega (arith, a .next, d .1, p .next, e .1, q .next, start .before .before .before .before .pre),
+    )
 
 pub put-two-spec : {M : Type 1} → statement M
 put-two-spec =

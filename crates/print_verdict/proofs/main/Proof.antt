@@ -28,7 +28,8 @@ array-share-prefix-output : tie.Need-array-share-prefix-output
 array-share-prefix-output c = search needs
 
 slice-aggregate-write-all : tie.Need-slice-aggregate-write-all
-slice-aggregate-write-all c = sym (length-take-le (c .before .before .print .result) (c .before .before .print .last .1 .0) (omega (arith, c .before .before .print .ensures .short)))
+slice-aggregate-write-all c =
+    sym (length-take-le (c .before .before .print .result) (c .before .before .print .last .1 .0) (omega (arith, c .before .before .print .ensures .short)))
 
 write-all-requires : tie.Need-write-all-requires
 write-all-requires c κs = search needs

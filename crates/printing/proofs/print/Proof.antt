@@ -65,7 +65,9 @@ same-length-2 : tie.Need-same-length-2
 same-length-2 c = search needs
 
 returns-2 : tie.Need-returns-2
-returns-2 c = printed-told _ _ (framed-is (c .before .before .before .before .before .before .before)) (ap (λ (n : ℕ). 2 + n) (c .before .before .before .before .before .before .unsigned-at .ensures .0)) (c .before .before .print-checked .ensures)
+returns-2 c =
+    printed-told _ _ (framed-is (c .before .before .before .before .before .before .before))
+    (ap (λ (n : ℕ). 2 + n) (c .before .before .before .before .before .before .unsigned-at .ensures .0)) (c .before .before .print-checked .ensures)
 
 pub print-spec : {M : Type 1} → statement M
 print-spec =

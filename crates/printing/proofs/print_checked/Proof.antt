@@ -21,7 +21,9 @@ same-length : tie.Need-same-length
 same-length c = search needs
 
 returns : tie.Need-returns
-returns c = let k = c .before .before .before .before .before .before .check in told (k .ensures .0) (omega (arith, entries-fit (k .ensures .0) (k .ensures .1))) (c .before .before .put-answer .ensures)
+returns c =
+    let k = c .before .before .before .before .before .before .check in
+    told (k .ensures .0) (omega (arith, entries-fit (k .ensures .0) (k .ensures .1))) (c .before .before .put-answer .ensures)
 
 pub print-checked-spec : {M : Type 1} → statement M
 print-checked-spec =

@@ -32,8 +32,10 @@ add-bit-requires c κs = search needs
 returns : tie.Need-returns
 unfolding bit
 returns c =
-    let e : c .before .before .wide .result ≡ _ = c .before .before .wide .ensures .0 ∙ c .before .before .before .variable-at .ensures in
-    (c .add-bit .ensures .0 ∙ c .before .before .before .before .before .before .pre .1, entered-one _ _ _ _ _ (eq-eqb _ _ (c .before .before .before .before .if1 .taken)) (omega arith) (rw e at (c .add-bit .ensures .1)))
+    let e : c .before .before .wide .result ≡ _ = c .before .before .wide .ensures .0 ∙ c .before .before .before .variable-at .ensures in (
+      c .add-bit .ensures .0 ∙ c .before .before .before .before .before .before .pre .1,
+      entered-one _ _ _ _ _ (eq-eqb _ _ (c .before .before .before .before .if1 .taken)) (omega arith) (rw e at (c .add-bit .ensures .1)),
+    )
 
 returns-2 : tie.Need-returns-2
 unfolding bit

@@ -39,7 +39,9 @@ loop-less : tie.Need-loop-less Inv-loop μ-loop
 loop-less c = search needs
 
 loop-again : tie.Need-loop-again Inv-loop μ-loop
-loop-again c = let l = c .before .before .before .loop in (omega arith, omega arith, c .enter-position .ensures .0, entered-more _ _ _ _ _ _ (l .inv .3) (c .enter-position .ensures .1))
+loop-again c =
+    let l = c .before .before .before .loop in
+    (omega arith, omega arith, c .enter-position .ensures .0, entered-more _ _ _ _ _ _ (l .inv .3) (c .enter-position .ensures .1))
 
 returns : tie.Need-returns Inv-loop μ-loop
 returns c = let l = c .before .loop in (l .inv .2, entered-rule _ _ _ _ _ _ (omega arith) (l .inv .3))

@@ -31,7 +31,8 @@ put-decimal-cast-put t c = search needs
 put-decimal-add-put : (t : ℕ) → put-decimal-lts.Need-add-put (put-reads.Asked, put-reads.Learnt, put-decimal-below t, put-decimal.Post) (put-decimal-at t) put-decimal.Post
 put-decimal-add-put t c = search needs
 
-put-decimal-put-requires : (t : ℕ) → put-decimal-lts.Need-put-requires (put-reads.Asked, put-reads.Learnt, put-decimal-below t, put-decimal.Post) (put-decimal-at t) put-decimal.Post
+put-decimal-put-requires : (t : ℕ)
+    → put-decimal-lts.Need-put-requires (put-reads.Asked, put-reads.Learnt, put-decimal-below t, put-decimal.Post) (put-decimal-at t) put-decimal.Post
 put-decimal-put-requires t c κs = search needs
 
 put-decimal-same-length : (t : ℕ) → put-decimal-lts.Need-same-length (put-reads.Asked, put-reads.Learnt, put-decimal-below t, put-decimal.Post) (put-decimal-at t) put-decimal.Post
@@ -42,7 +43,8 @@ put-decimal-returns t c =
     let s = c .before .before .before .before .before .before in
     (appends-as (sym (decimal-one (s .args .n) (omega arith))) (c .before .before .put .ensures), omega (arith, c .before .before .put .ensures .next))
 
-put-decimal-put-decimal-requires : (t : ℕ) → put-decimal-lts.Need-put-decimal-requires (put-reads.Asked, put-reads.Learnt, put-decimal-below t, put-decimal.Post) (put-decimal-at t) put-decimal.Post
+put-decimal-put-decimal-requires : (t : ℕ)
+    → put-decimal-lts.Need-put-decimal-requires (put-reads.Asked, put-reads.Learnt, put-decimal-below t, put-decimal.Post) (put-decimal-at t) put-decimal.Post
 put-decimal-put-decimal-requires t c κs = search needs
 
 put-decimal-cast-put-2 : (t : ℕ) → put-decimal-lts.Need-cast-put-2 (put-reads.Asked, put-reads.Learnt, put-decimal-below t, put-decimal.Post) (put-decimal-at t) put-decimal.Post
@@ -51,19 +53,22 @@ put-decimal-cast-put-2 t c = search needs
 put-decimal-add-put-2 : (t : ℕ) → put-decimal-lts.Need-add-put-2 (put-reads.Asked, put-reads.Learnt, put-decimal-below t, put-decimal.Post) (put-decimal-at t) put-decimal.Post
 put-decimal-add-put-2 t c = search needs
 
-put-decimal-put-requires-2 : (t : ℕ) → put-decimal-lts.Need-put-requires-2 (put-reads.Asked, put-reads.Learnt, put-decimal-below t, put-decimal.Post) (put-decimal-at t) put-decimal.Post
+put-decimal-put-requires-2 : (t : ℕ)
+    → put-decimal-lts.Need-put-requires-2 (put-reads.Asked, put-reads.Learnt, put-decimal-below t, put-decimal.Post) (put-decimal-at t) put-decimal.Post
 put-decimal-put-requires-2 t c κs =
     let s = c .before .before .before .before .before .before .before in
     let d = decimal-short 19 (s .args .n / 10) (omega arith) in
     omega (arith, c .before .before .before .put-decimal .ensures .0 .next)
 
-put-decimal-same-length-2 : (t : ℕ) → put-decimal-lts.Need-same-length-2 (put-reads.Asked, put-reads.Learnt, put-decimal-below t, put-decimal.Post) (put-decimal-at t) put-decimal.Post
+put-decimal-same-length-2 : (t : ℕ)
+    → put-decimal-lts.Need-same-length-2 (put-reads.Asked, put-reads.Learnt, put-decimal-below t, put-decimal.Post) (put-decimal-at t) put-decimal.Post
 put-decimal-same-length-2 t c = search needs
 
 put-decimal-returns-2 : (t : ℕ) → put-decimal-lts.Need-returns-2 (put-reads.Asked, put-reads.Learnt, put-decimal-below t, put-decimal.Post) (put-decimal-at t) put-decimal.Post
 put-decimal-returns-2 t c =
     let s = c .before .before .before .before .before .before .before .before .before .before in
-    let w = appends-as (sym (decimal-more (s .args .n) (omega arith))) (appends-both (c .before .before .before .before .before .before .put-decimal .ensures .0) (c .before .before .put2 .ensures)) in
+    let w = appends-as (sym (decimal-more (s .args .n) (omega arith)))
+    (appends-both (c .before .before .before .before .before .before .put-decimal .ensures .0) (c .before .before .put2 .ensures)) in
     (w, omega (arith, w .next, decimal-short 19 (s .args .n) (omega arith)))
 
 pub +put-decimal-spec : {M : Type 1} → statement M

@@ -28,13 +28,15 @@ put-requires c κs = search needs
 sub-put-decimal : tie.Need-sub-put-decimal
 sub-put-decimal c =
     let b = c .before .before .before .before .before in
-    rw (toZ-ofZ (b .before .before .fits .z), negative-size (b .before .before .args .z) (negative b)) (sfits-abs (pos (natAbs (b .before .before .args .z))) 32768 (omega (arith, b .before .before .pre .1)) (omega arith))
+    rw (toZ-ofZ (b .before .before .fits .z), negative-size (b .before .before .args .z) (negative b))
+    (sfits-abs (pos (natAbs (b .before .before .args .z))) 32768 (omega (arith, b .before .before .pre .1)) (omega arith))
 
 cast-put-decimal : tie.Need-cast-put-decimal
 cast-put-decimal c =
     let b = c .before .before .before .before .before in
     let z = b .before .before .args .z in
-    rw (toZ-ofZ (b .before .before .fits .z), negative-size z (negative b), toZ-pos w64 {n = natAbs z} (omega (arith, b .before .before .pre .1))) (tt, record { fits = omega (arith, b .before .before .pre .1) })
+    rw (toZ-ofZ (b .before .before .fits .z), negative-size z (negative b), toZ-pos w64 {n = natAbs z} (omega (arith, b .before .before .pre .1)))
+    (tt, record { fits = omega (arith, b .before .before .pre .1) })
 
 put-decimal-requires : tie.Need-put-decimal-requires
 put-decimal-requires c κs = search needs
@@ -48,7 +50,8 @@ returns c =
     let z = b .before .before .args .z in
     let e : natAbs (toZ w64 (ofZ w64 (pos 0 -ℤ toZ w64 (ofZ w64 z)))) ≡ natAbs z =
     rw (toZ-ofZ (b .before .before .fits .z), negative-size z (negative b), toZ-pos w64 {n = natAbs z} (omega (arith, b .before .before .pre .1))) in
-    let w = appends-as (negative-number z (negative b)) (appends-both (c .before .before .before .before .before .before .put .ensures) (appends-as (ap decimal e) (c .before .before .put-decimal .ensures .0))) in
+    let w = appends-as (negative-number z (negative b))
+    (appends-both (c .before .before .before .before .before .before .put .ensures) (appends-as (ap decimal e) (c .before .before .put-decimal .ensures .0))) in
     (w, omega (arith, w .next, number-short z (b .before .before .pre .1)))
 
 cast-put-decimal-2 : tie.Need-cast-put-decimal-2

@@ -10,7 +10,8 @@ use Rattle.text.proofs.put_word.Statement.{statement}
 use Rattle.text.proofs.put_word.Tie as tie
 
 abbrev Inv-loop : tie.InvT-loop
-Inv-loop output₀ at word next₀ i₀ i-end output next i = (length output ≡ length output₀) × (i ≤ i-end) × (i-end ≡ length word) × (next ≡ at + i) × Appends (take i word) at next output₀ output
+Inv-loop output₀ at word next₀ i₀ i-end output next i =
+    (length output ≡ length output₀) × (i ≤ i-end) × (i-end ≡ length word) × (next ≡ at + i) × Appends (take i word) at next output₀ output
 
 abbrev μ-loop : tie.MeasureT-loop
 μ-loop output₀ at word next₀ i₀ i-end output next i = i-end - i
@@ -33,8 +34,13 @@ loop-less c = search needs
 loop-again : tie.Need-loop-again Inv-loop μ-loop
 loop-again c =
     let l = c .before .before .before .before .before .before in
-    let w = l .before .before .before .args .word .now in
-    (search needs, search needs, search needs, omega (arith, c .before .before .put .ensures .next), word-more w (l .loop .i) (omega arith) (l .loop .inv .4) (c .before .before .put .ensures))
+    let w = l .before .before .before .args .word .now in (
+      search needs,
+      search needs,
+      search needs,
+      omega (arith, c .before .before .put .ensures .next),
+      word-more w (l .loop .i) (omega arith) (l .loop .inv .4) (c .before .before .put .ensures),
+    )
 
 same-length : tie.Need-same-length Inv-loop μ-loop
 same-length c = search needs

@@ -20,13 +20,15 @@ enum-known-counts c = search needs
 check-ranges-requires : tie.Need-check-ranges-requires
 check-ranges-requires c κs =
     let b = c .before .before .before .before .before .before .before .before in
-    let o = subst (λ (q : Opening). Opened checkBytes (b .args .file .now) (b .args .assignment .now) (b .args .report .now) q) (c .before .before .counts .given .1) (c .before .before .before .before .open .ensures _ refl) in
+    let o = subst (λ (q : Opening). Opened checkBytes (b .args .file .now) (b .args .assignment .now) (b .args .report .now) q)
+    (c .before .before .counts .given .1) (c .before .before .before .before .open .ensures _ refl) in
     (o .0, (o .1, o .2))
 
 returns : tie.Need-returns
 returns c =
     let b = c .before .before .before .before .before .before .before in
-    let o = subst (λ (q : Opening). Opened checkBytes (b .args .file .now) (b .args .assignment .now) (b .args .report .now) q) (c .before .why .given .1) (c .before .before .before .open .ensures _ refl) in
+    let o = subst (λ (q : Opening). Opened checkBytes (b .args .file .now) (b .args .assignment .now) (b .args .report .now) q) (c .before .why .given .1)
+    (c .before .before .before .open .ensures _ refl) in
     let k = turned-down o in
     (k, checks-demands k)
 

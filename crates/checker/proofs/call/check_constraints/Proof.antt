@@ -41,7 +41,8 @@ returns : tie.Need-returns
 returns c =
     let b = c .before .before .before .before .before .before in
     let u = c .before .before .before .first-unmet-constraint in
-    λ P x. constraint-unmet (b .pre .1 .1 .1 .0 P x) (b .pre .1 .1 .1 .1 .0 P x) (unmet-at (ConstraintMet P (valued (b .args .values .now))) (u .ensures P x) (c .before .unmet .given .1))
+    λ P x. constraint-unmet (b .pre .1 .1 .1 .0 P x) (b .pre .1 .1 .1 .1 .0 P x)
+    (unmet-at (ConstraintMet P (valued (b .args .values .now))) (u .ensures P x) (c .before .unmet .given .1))
 
 same-length : tie.Need-same-length
 same-length c = search needs

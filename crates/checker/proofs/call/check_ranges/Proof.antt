@@ -47,7 +47,9 @@ check-rules-requires c κs =
     let e = b .pre .1 .0 in
     let h = b .pre .1 .1 in
     let l = loaded-whole a (k .variables) e (c .before .before .before .before .before .before .load .ensures .1) (zeros maxVariables) in
-    let o = subst (λ (q : Outside). OutsideIs (variablesAt s (k .variables)) (valued (c .before .before .before .before .before .before .load .last .1 .0)) (k .variables) q) (c .before .before .enum-told .given .1) (c .before .before .before .before .first-outside .ensures) in
+    let o = subst (λ (q : Outside).
+    OutsideIs (variablesAt s (k .variables)) (valued (c .before .before .before .before .before .before .load .last .1 .0)) (k .variables) q)
+    (c .before .before .enum-told .given .1) (c .before .before .before .before .first-outside .ensures) in
     (r, (all-within s k r a w e h _ (one-valuation _ _ l) o, h))
 
 returns : tie.Need-returns
@@ -61,7 +63,9 @@ returns c =
     let e = b .pre .1 .0 in
     let h = b .pre .1 .1 in
     let l = loaded-whole a (k .variables) e (c .before .before .before .before .before .load .ensures .1) (zeros maxVariables) in
-    let o = subst (λ (q : Outside). OutsideIs (variablesAt s (k .variables)) (valued (c .before .before .before .before .before .load .last .1 .0)) (k .variables) q) (c .before .outside .given .1) (c .before .before .before .first-outside .ensures) in
+    let o = subst (λ (q : Outside).
+    OutsideIs (variablesAt s (k .variables)) (valued (c .before .before .before .before .before .load .last .1 .0)) (k .variables) q)
+    (c .before .outside .given .1) (c .before .before .before .first-outside .ensures) in
     out-of-range s k r a w e h _ (one-valuation _ _ l) _ o
 
 same-length : tie.Need-same-length

@@ -68,7 +68,8 @@ loop-again c =
       omega arith,
       λ P x. let i = l .inv .1 P x in (
         next-place (b .pre .0) x t (i .0) (c .next-at .ensures),
-        constraint-met-at (b .pre .0) x t (i .0) (c .before .before .before .value-at .ensures) (b .args .assigned .now) (c .before .before .satisfied .ensures) (not-false _ (c .before .if1 .left)) (i .1),
+        constraint-met-at (b .pre .0) x t (i .0) (c .before .before .before .value-at .ensures) (b .args .assigned .now) (c .before .before .satisfied .ensures)
+            (not-false _ (c .before .if1 .left)) (i .1),
       ),
     )
 

@@ -81,7 +81,8 @@ returns-2 c =
     let z = c .before .before .before .before .before .before .before .before .short-set in
     let q = c .before .before .before .before .before .asked in
     some-short s k r θ e m (run .result) (run .ensures .1) w (has (z .result .words)) (z .ensures) _ _ (q .ensures .0) (q .ensures .1)
-    (λ x. c .before .before .before .before .before .before .if1 .left (c .before .before .before .before .before .before .before .count .ensures ∙ x)) _ _ (c .before .before .show .ensures)
+    (λ x. c .before .before .before .before .before .before .if1 .left (c .before .before .before .before .before .before .before .count .ensures ∙ x)) _ _
+    (c .before .before .show .ensures)
 
 pub compare-spec : {M : Type 1} → statement M
 compare-spec =

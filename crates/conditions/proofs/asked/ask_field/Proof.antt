@@ -30,7 +30,8 @@ returns-2 : tie.Need-returns-2
 returns-2 c =
     let s = c .before .before .before .before .before .before in
     let v = c .before .before .before .before .value-at .ensures in
-    into-asks _ _ _ (c .before .before .contains .ensures ∙ ap (has (s .args .set .words)) (head-of v (c .before .before .before .header .ensures .head-is))) (not-false _ (c .before .if1 .left))
+    into-asks _ _ _ (c .before .before .contains .ensures ∙ ap (has (s .args .set .words)) (head-of v (c .before .before .before .header .ensures .head-is)))
+    (not-false _ (c .before .if1 .left))
     (rw v at (c .ask-rule .ensures))
 
 pub ask-field-spec : {M : Type 1} → statement M

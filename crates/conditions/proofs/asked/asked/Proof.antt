@@ -36,7 +36,9 @@ element-copy-out-at : tie.Need-element-copy-out-at Inv-loop μ-loop
 element-copy-out-at c = search needs
 
 ask-field-requires : tie.Need-ask-field-requires Inv-loop μ-loop
-ask-field-requires c κs = let s = c .before .before .before .before .before in rule-here (s .args .file .now) (s .args .offsets .now) (s .args .counts) (s .pre .0) (s .pre .1) _ (c .before .loop-test .taken)
+ask-field-requires c κs =
+    let s = c .before .before .before .before .before in
+    rule-here (s .args .file .now) (s .args .offsets .now) (s .args .counts) (s .pre .0) (s .pre .1) _ (c .before .loop-test .taken)
 
 add-i : tie.Need-add-i Inv-loop μ-loop
 add-i c = search needs
@@ -52,8 +54,10 @@ returns c =
     let s = c .before .before .before .before in
     let g = c .before .loop .inv .2 in
     let z = c .before .before .empty .ensures in (
-      λ P x v. asked-all (s .args .file .now) (s .args .offsets .now) (s .args .counts) (s .pre .0) (s .pre .1) (has (s .args .set .words)) asksMost P x v (omega arith) z (g .most),
-      λ P x v. asked-all (s .args .file .now) (s .args .offsets .now) (s .args .counts) (s .pre .0) (s .pre .1) (has (s .args .set .words)) asksLeast P x v (omega arith) z (g .least),
+      λ P x v. asked-all (s .args .file .now) (s .args .offsets .now) (s .args .counts) (s .pre .0) (s .pre .1) (has (s .args .set .words)) asksMost P x v
+          (omega arith) z (g .most),
+      λ P x v. asked-all (s .args .file .now) (s .args .offsets .now) (s .args .counts) (s .pre .0) (s .pre .1) (has (s .args .set .words)) asksLeast P x v
+          (omega arith) z (g .least),
     )
 
 pub asked-spec : {M : Type 1} → statement M

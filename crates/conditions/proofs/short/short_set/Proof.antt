@@ -19,7 +19,8 @@ use Rattle.program.specs.Readings.{valued}
 use Rattle.conditions.proofs.short.short_set.Tie as tie
 
 abbrev Inv-loop : tie.InvT-loop
-Inv-loop file variables assigned model set₀ v₀ set v = (v ≤ variables) × ((u : ℕ) → has (set .words) u ≡ (ltb u v && shortIn (variablesAt file variables) (valued assigned) (valued model) u))
+Inv-loop file variables assigned model set₀ v₀ set v =
+    (v ≤ variables) × ((u : ℕ) → has (set .words) u ≡ (ltb u v && shortIn (variablesAt file variables) (valued assigned) (valued model) u))
 
 abbrev μ-loop : tie.MeasureT-loop
 μ-loop file variables assigned model set₀ v₀ set v = variables - v

@@ -13,7 +13,8 @@ use Rattle.edges.proofs.mixed.is_mixed.Statement.{statement}
 use Rattle.edges.proofs.mixed.is_mixed.Tie as tie
 
 abbrev Inv-loop : tie.InvT-loop
-Inv-loop file variables value n i₀ found₀ i found = (i ≤ n) × (n ≡ length (ruleOf value .terms)) × (found ≡ anyBelow i (λ j. isMixed (direction (variablesAt file variables) (ruleOf value) j)))
+Inv-loop file variables value n i₀ found₀ i found =
+    (i ≤ n) × (n ≡ length (ruleOf value .terms)) × (found ≡ anyBelow i (λ j. isMixed (direction (variablesAt file variables) (ruleOf value) j)))
 
 abbrev μ-loop : tie.MeasureT-loop
 μ-loop file variables value n i₀ found₀ i found = n - i

@@ -14,7 +14,8 @@ use Rattle.edges.proofs.mixed.offends.Statement.{statement}
 use Rattle.edges.proofs.mixed.offends.Tie as tie
 
 abbrev Inv-loop : tie.InvT-loop
-Inv-loop rows file variables value n i₀ found₀ i found = (i ≤ n) × (n ≡ length (ruleOf value .terms)) × (found ≡ anyBelow i (offendsAt (rowHas rows) (variablesAt file variables) (ruleOf value)))
+Inv-loop rows file variables value n i₀ found₀ i found =
+    (i ≤ n) × (n ≡ length (ruleOf value .terms)) × (found ≡ anyBelow i (offendsAt (rowHas rows) (variablesAt file variables) (ruleOf value)))
 
 abbrev μ-loop : tie.MeasureT-loop
 μ-loop rows file variables value n i₀ found₀ i found = n - i

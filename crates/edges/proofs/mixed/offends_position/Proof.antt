@@ -35,7 +35,9 @@ returns-2 c =
     let p = c .before .before .before .before .before .before .position-at .ensures in
     let h = c .before .before .wide .ensures .0 ∙ c .before .before .before .header .ensures .head-is in
     let x = c .before .wide2 .ensures .0 ∙ p .variable-is in
-    offends-shared _ _ _ _ _ _ (sym (ap isMixed (p .direction-is)) ∙ sym (c .before .before .before .before .before .is-mixed .ensures) ∙ not-false _ (c .before .before .before .before .if1 .left)) h x (c .share .ensures)
+    offends-shared _ _ _ _ _ _
+    (sym (ap isMixed (p .direction-is)) ∙ sym (c .before .before .before .before .before .is-mixed .ensures)
+    ∙ not-false _ (c .before .before .before .before .if1 .left)) h x (c .share .ensures)
 
 pub offends-position-spec : {M : Type 1} → statement M
 offends-position-spec =

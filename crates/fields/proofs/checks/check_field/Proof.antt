@@ -23,13 +23,19 @@ is-one-too-many-requires : tie.Need-is-one-too-many-requires
 is-one-too-many-requires c κs = search needs
 
 returns-3 : tie.Need-returns-3
-returns-3 c = λ P d. whole-many P _ _ _ (sym (c .before .before .before .before .is-unknown-tag .ensures) ∙ c .before .before .before .if1 .left) (omega arith) (sym (c .before .is-one-too-many .ensures P (ap (λ (l : List Variable). length l) (d .variables-are) ∙ variables-length _ _) (d .rules-are) (d .constraints-are)) ∙ c .if3 .taken)
+returns-3 c =
+    λ P d. whole-many P _ _ _ (sym (c .before .before .before .before .is-unknown-tag .ensures) ∙ c .before .before .before .if1 .left) (omega arith)
+    (sym (c .before .is-one-too-many .ensures P (ap (λ (l : List Variable). length l) (d .variables-are) ∙ variables-length _ _) (d .rules-are)
+    (d .constraints-are)) ∙ c .if3 .taken)
 
 check-value-requires : tie.Need-check-value-requires
 check-value-requires c κs = (omega arith, sym (c .before .before .before .before .is-unknown-tag .ensures) ∙ c .before .before .before .if1 .left)
 
 returns-4 : tie.Need-returns-4
-returns-4 c = λ P d. whole-value P _ _ _ (sym (c .before .before .before .before .before .is-unknown-tag .ensures) ∙ c .before .before .before .before .if1 .left) (omega arith) (sym (c .before .before .is-one-too-many .ensures P (ap (λ (l : List Variable). length l) (d .variables-are) ∙ variables-length _ _) (d .rules-are) (d .constraints-are)) ∙ c .before .if3 .left) _ _ (d .variables-are) (c .check-value .ensures)
+returns-4 c =
+    λ P d. whole-value P _ _ _ (sym (c .before .before .before .before .before .is-unknown-tag .ensures) ∙ c .before .before .before .before .if1 .left)
+    (omega arith) (sym (c .before .before .is-one-too-many .ensures P (ap (λ (l : List Variable). length l) (d .variables-are) ∙ variables-length _ _)
+    (d .rules-are) (d .constraints-are)) ∙ c .before .if3 .left) _ _ (d .variables-are) (c .check-value .ensures)
 
 pub check-field-spec : {M : Type 1} → statement M
 check-field-spec =

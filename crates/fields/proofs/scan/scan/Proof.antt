@@ -16,7 +16,8 @@ abbrev μ-loop : tie.MeasureT-loop
 
 -- what the pattern bound
 stands : (c : tie.After-known-told Inv-loop μ-loop) → let f = c .before .field2 .given .0 in
-    Stands (c .before .before .before .before .before .before .before .before .before .before .args .file .now) (c .before .before .before .before .before .loop .cursor .at) (f .0) (f .1 .0) (f .1 .1 .0) (f .1 .1 .1 .0 .at)
+    Stands (c .before .before .before .before .before .before .before .before .before .before .args .file .now)
+    (c .before .before .before .before .before .loop .cursor .at) (f .0) (f .1 .0) (f .1 .1 .0) (f .1 .1 .1 .0 .at)
 stands c = field-stands _ _ _ _ _ _ (sym (c .before .field2 .given .1) ∙ c .before .before .before .before .field .ensures)
 
 returns : tie.Need-returns Inv-loop μ-loop
@@ -74,10 +75,14 @@ loop-less : tie.Need-loop-less Inv-loop μ-loop
 loop-less c = let w = stands (c .before .before .before .before .before) in omega arith
 
 loop-again : tie.Need-loop-again Inv-loop μ-loop
-loop-again c = scan-more _ _ _ _ (c .before .before .before .before .before .before .before .before .before .before .loop .inv) _ _ _ _ (stands (c .before .before .before .before .before)) _ (c .before .before .before .check-field .ensures) _ (c .before .enum-told2 .given .1) (c .with .ensures)
+loop-again c =
+    scan-more _ _ _ _ (c .before .before .before .before .before .before .before .before .before .before .loop .inv) _ _ _ _
+    (stands (c .before .before .before .before .before)) _ (c .before .before .before .check-field .ensures) _ (c .before .enum-told2 .given .1) (c .with .ensures)
 
 returns-4 : tie.Need-returns-4 Inv-loop μ-loop
-returns-4 c = scan-bad _ _ _ _ (c .before .before .before .before .before .before .before .before .before .before .loop .inv) _ _ _ _ (stands (c .before .before .before .before .before)) _ (c .before .before .before .check-field .ensures) _ (c .before .checked .given .1)
+returns-4 c =
+    scan-bad _ _ _ _ (c .before .before .before .before .before .before .before .before .before .before .loop .inv) _ _ _ _
+    (stands (c .before .before .before .before .before)) _ (c .before .before .before .check-field .ensures) _ (c .before .checked .given .1)
 
 pub scan-spec : {M : Type 1} → statement M
 scan-spec =

@@ -20,13 +20,15 @@ enum-known-counts c = search needs
 solve-in-ranges-requires : tie.Need-solve-in-ranges-requires
 solve-in-ranges-requires c κs =
     let b = c .before .before .before .before .before .before .before .before in
-    let o = subst (λ (q : Opening). Opened leastBytes (b .args .file .now) (b .args .assignment .now) (b .args .buffer .now) q) (c .before .before .counts .given .1) (c .before .before .before .before .open .ensures _ refl) in
+    let o = subst (λ (q : Opening). Opened leastBytes (b .args .file .now) (b .args .assignment .now) (b .args .buffer .now) q)
+    (c .before .before .counts .given .1) (c .before .before .before .before .open .ensures _ refl) in
     (o .0, (o .1, o .2))
 
 returns : tie.Need-returns
 returns c =
     let b = c .before .before .before .before .before .before .before in
-    turned-down (subst (λ (q : Opening). Opened leastBytes (b .args .file .now) (b .args .assignment .now) (b .args .buffer .now) q) (c .before .why .given .1) (c .before .before .before .open .ensures _ refl))
+    turned-down (subst (λ (q : Opening). Opened leastBytes (b .args .file .now) (b .args .assignment .now) (b .args .buffer .now) q) (c .before .why .given .1)
+    (c .before .before .before .open .ensures _ refl))
 
 same-length : tie.Need-same-length
 same-length c = search needs

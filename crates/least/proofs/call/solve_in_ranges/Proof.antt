@@ -54,7 +54,9 @@ solve-requires c κs = let b = c .before .before .before .before .before .before
     let e = b .pre .1 .0 in
     let h = b .pre .1 .1 in
     let l = loaded-whole a (k .variables) e (c .before .before .before .before .before .before .load .ensures .1) (zeros maxVariables) in
-    let o = subst (λ (q : Outside). OutsideIs (variablesAt s (k .variables)) (valued (c .before .before .before .before .before .before .load .last .1 .0)) (k .variables) q) (c .before .before .enum-told .given .1) (c .before .before .before .before .first-outside .ensures) in
+    let o = subst (λ (q : Outside).
+    OutsideIs (variablesAt s (k .variables)) (valued (c .before .before .before .before .before .before .load .last .1 .0)) (k .variables) q)
+    (c .before .before .enum-told .given .1) (c .before .before .before .before .first-outside .ensures) in
     (r, ((e, h), (l, right-range s k r a _ (one-valuation _ _ l) o)))
 
 returns : tie.Need-returns
@@ -67,7 +69,9 @@ returns c = let b = c .before .before .before .before .before .before .before .b
     let e = b .pre .1 .0 in
     let h = b .pre .1 .1 in
     let l = loaded-whole a (k .variables) e (c .before .before .before .before .before .load .ensures .1) (zeros maxVariables) in
-    let o = subst (λ (q : Outside). OutsideIs (variablesAt s (k .variables)) (valued (c .before .before .before .before .before .load .last .1 .0)) (k .variables) q) (c .before .outside .given .1) (c .before .before .before .first-outside .ensures) in
+    let o = subst (λ (q : Outside).
+    OutsideIs (variablesAt s (k .variables)) (valued (c .before .before .before .before .before .load .last .1 .0)) (k .variables) q)
+    (c .before .outside .given .1) (c .before .before .before .first-outside .ensures) in
     wrong-range s k r a w e h _ _ (one-valuation _ _ l) o
 
 same-length : tie.Need-same-length

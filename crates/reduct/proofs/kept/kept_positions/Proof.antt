@@ -12,7 +12,8 @@ use Rattle.reduct.proofs.kept.kept_positions.Statement.{statement}
 use Rattle.reduct.proofs.kept.kept_positions.Tie as tie
 
 abbrev Inv-loop : tie.InvT-loop
-Inv-loop file variables value i₀ bits₀ i bits = (i ≤ length (ruleOf value .terms)) × Mask (from (kept (variablesAt file variables) (ruleOf value)) i) (length (ruleOf value .terms) - i) bits
+Inv-loop file variables value i₀ bits₀ i bits =
+    (i ≤ length (ruleOf value .terms)) × Mask (from (kept (variablesAt file variables) (ruleOf value)) i) (length (ruleOf value .terms) - i) bits
 
 abbrev μ-loop : tie.MeasureT-loop
 μ-loop file variables value i₀ bits₀ i bits = i
@@ -42,7 +43,9 @@ loop-again c =
     (omega arith, mask-before k _ _ _ (omega arith) (omega arith) (c .before .before .before .loop .inv .1) (c .before .position-at .ensures .kept-is) (c .moved-up .ensures))
 
 returns : tie.Need-returns Inv-loop μ-loop
-returns c = let a = c .before .before .before .before .before .args in mask-whole (kept (variablesAt (a .file .now) (a .variables)) (ruleOf (a .value .now))) _ _ (omega arith) refl (c .before .loop .inv .1)
+returns c =
+    let a = c .before .before .before .before .before .args in
+    mask-whole (kept (variablesAt (a .file .now) (a .variables)) (ruleOf (a .value .now))) _ _ (omega arith) refl (c .before .loop .inv .1)
 
 pub kept-positions-spec : {M : Type 1} → statement M
 kept-positions-spec =

@@ -17,7 +17,8 @@ use Rattle.program.specs.Readings.{valued}
 use Rattle.reduct.proofs.loading.start_values.Tie as tie
 
 abbrev Inv-loop : tie.InvT-loop
-Inv-loop file variables assigned model₀ v₀ model v = (v ≤ variables) × (length model ≡ maxVariables) × Filled (starting (variablesAt file variables) (valued assigned)) v model₀ model
+Inv-loop file variables assigned model₀ v₀ model v =
+    (v ≤ variables) × (length model ≡ maxVariables) × Filled (starting (variablesAt file variables) (valued assigned)) v model₀ model
 
 abbrev μ-loop : tie.MeasureT-loop
 μ-loop file variables assigned model₀ v₀ model v = variables - v

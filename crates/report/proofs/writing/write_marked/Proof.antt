@@ -30,11 +30,15 @@ entries s = markedOf (has (s .args .first .words)) (s .args .mark) (has (s .args
 -- no entries where the union of the sets has no member
 without : (c : tie.After-union Inv-loop μ-loop) {from to : ℕ} → NoneIn (has (c .union .result .words)) from to
     → (u : ℕ) → from ≤ u → u < to → entries (c .before .before) u ≡ []
-without c h = let s = c .before .before in neither (has (s .args .first .words)) (has (s .args .second .words)) (s .args .mark) (s .args .other) (valued (s .args .values .now)) (c .union .ensures) h
+without c h =
+    let s = c .before .before in
+    neither (has (s .args .first .words)) (has (s .args .second .words)) (s .args .mark) (s .args .other) (valued (s .args .values .now)) (c .union .ensures) h
 
 -- the variable that was found
-found : (c : tie.After-v Inv-loop μ-loop) → LeastFrom (has (c .before .before .before .before .union .result .words)) (c .before .before .before .loop .from) maxVariables (c .v .given .0 .0)
-found c = next-at (has (c .before .before .before .before .union .result .words)) (c .before .before .before .loop .from) maxVariables (c .before .before .next .ensures) (c .v .given .1)
+found : (c : tie.After-v Inv-loop μ-loop)
+    → LeastFrom (has (c .before .before .before .before .union .result .words)) (c .before .before .before .loop .from) maxVariables (c .v .given .0 .0)
+found c =
+    next-at (has (c .before .before .before .before .union .result .words)) (c .before .before .before .loop .from) maxVariables (c .before .before .next .ensures) (c .v .given .1)
 
 union-requires : tie.Need-union-requires Inv-loop μ-loop
 union-requires c κs = search needs
@@ -69,8 +73,11 @@ write-variable-requires c κs =
     let k = c .before .before in
     let l = k .before .before .before in
     let s = l .before .before .before in
-    let f = found k in
-    (wrote-room (entries s) (l .loop .from) (k .v .given .0 .0) maxVariables (without (l .before) (f .first)) (f .above) (f .below) (l .loop .inv .2) (s .pre .0) (l .loop .inv .1), s .pre .1)
+    let f = found k in (
+      wrote-room (entries s) (l .loop .from) (k .v .given .0 .0) maxVariables (without (l .before) (f .first)) (f .above) (f .below) (l .loop .inv .2)
+          (s .pre .0) (l .loop .inv .1),
+      s .pre .1,
+    )
 
 add-from : tie.Need-add-from Inv-loop μ-loop
 add-from c = omega (arith, found (c .before .before .before .before .before) .below)

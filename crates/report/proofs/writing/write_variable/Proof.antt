@@ -35,7 +35,8 @@ write-member-requires : tie.Need-write-member-requires
 write-member-requires c κs =
     let s = c .before .before .before .before in
     let e = value-is (c .before) in (
-      first-room (has (s .args .first .words)) (has (s .args .second .words)) (s .args .mark) (s .args .other) (valued (s .args .values .now)) (s .args .v) e (s .args .i) (s .pre .0),
+      first-room (has (s .args .first .words)) (has (s .args .second .words)) (s .args .mark) (s .args .other) (valued (s .args .values .now)) (s .args .v) e
+          (s .args .i) (s .pre .0),
       omega (arith, ap natAbs e, s .pre .1 (s .args .v)),
     )
 
@@ -47,7 +48,8 @@ write-member-requires-2 c κs =
     let e = value-is k in (
       omega (
         arith,
-        second-room (has (s .args .first .words)) (has (s .args .second .words)) (s .args .mark) (s .args .other) (valued (s .args .values .now)) (s .args .v) e (s .args .i) (s .pre .0) (w .write-member .ensures),
+        second-room (has (s .args .first .words)) (has (s .args .second .words)) (s .args .mark) (s .args .other) (valued (s .args .values .now)) (s .args .v) e
+            (s .args .i) (s .pre .0) (w .write-member .ensures),
         w .write-member .kept .0,
       ),
       omega (arith, ap natAbs e, s .pre .1 (s .args .v)),
@@ -62,7 +64,8 @@ returns c =
     let w = w₂ .before .before .before .before in
     let k = w .before .before in
     let s = k .before .before .before in
-    wrote-variable (has (s .args .first .words)) (has (s .args .second .words)) (s .args .mark) (s .args .other) (valued (s .args .values .now)) (s .args .v) (value-is k) (s .args .i) (s .pre .0) (w .write-member .ensures) (w₂ .write-member2 .ensures)
+    wrote-variable (has (s .args .first .words)) (has (s .args .second .words)) (s .args .mark) (s .args .other) (valued (s .args .values .now)) (s .args .v)
+    (value-is k) (s .args .i) (s .pre .0) (w .write-member .ensures) (w₂ .write-member2 .ensures)
 
 pub write-variable-spec : {M : Type 1} → statement M
 write-variable-spec =

@@ -52,7 +52,9 @@ returns c =
     let z : toZ w64 (ofZ w64 v) ≡ v = search needs in
     λ P h.
     let e : x .result ≡ headOf P (a .i) = x .ensures .0 ∙ here-head h (c .before .before .before .before .head-at .ensures) in
-    demanded P _ _ (a .i) (c .exceeds .ensures) (head-variable h (c .before .before .before .before .head-at .ensures) (c .before .before .before .variable .ensures)) (c .before .before .before .before .before .demand .ensures P (a .i) h)
+    demanded P _ _ (a .i) (c .exceeds .ensures)
+    (head-variable h (c .before .before .before .before .head-at .ensures) (c .before .before .before .variable .ensures))
+    (c .before .before .before .before .before .demand .ensures P (a .i) h)
     (z ∙ ap (λ (k : ℕ). getD (a .model .now) k (pos 0)) e)
 
 pub look-spec : {M : Type 1} → statement M

@@ -46,7 +46,8 @@ look-requires : tie.Need-look-requires Inv-loop μ-loop
 look-requires c κs =
     let l = c .before .before .before .before .before .loop in
     let s = c .before .before .before .before .before .before .before in
-    let k = takes-at (has (c .before .before .before .before .before .loop .waiting)) (has (c .before .before .before .take-lowest .last .0)) (c .before .before .before .take-lowest .ensures .1) (c .before .i .given .1) in
+    let t = c .before .before .before .take-lowest in
+    let k = takes-at (has (l .waiting)) (has (t .last .0)) (t .ensures .1) (c .before .i .given .1) in
     (k .lowest .below, (taken-stands k (s .pre .0) (l .inv .1), s .pre .1 .0))
 
 enum-known-found : tie.Need-enum-known-found Inv-loop μ-loop
@@ -57,7 +58,7 @@ returns-2 c =
     let l = c .before .before .before .before .before .before .before .before .before .loop in
     let s = c .before .before .before .before .before .before .before .before .before .before .before in
     let t = c .before .before .before .before .before .before .before .take-lowest in
-    let k = takes-at (has (c .before .before .before .before .before .before .before .before .before .loop .waiting)) (has (c .before .before .before .before .before .before .before .take-lowest .last .0)) (c .before .before .before .before .before .before .before .take-lowest .ensures .1) (c .before .before .before .before .before .i .given .1) in
+    let k = takes-at (has (l .waiting)) (has (t .last .0)) (t .ensures .1) (c .before .before .before .before .before .i .given .1) in
     let f = c .before .found .given in
     let z : toZ w64 (ofZ w64 (f .0 .0)) ≡ f .0 .0 = search needs in (
       t .ensures .0,
@@ -73,14 +74,17 @@ enum-told-2 : tie.Need-enum-told-2 Inv-loop μ-loop
 enum-told-2 c = search needs
 
 loop-less : tie.Need-loop-less Inv-loop μ-loop
-loop-less c = taken-less (takes-at (has (c .before .before .before .before .before .before .before .before .loop .waiting)) (has (c .before .before .before .before .before .before .take-lowest .last .0)) (c .before .before .before .before .before .before .take-lowest .ensures .1) (c .before .before .before .before .i .given .1))
+loop-less c =
+    let l = c .before .before .before .before .before .before .before .before .loop in
+    let t = c .before .before .before .before .before .before .take-lowest in
+    taken-less (takes-at (has (l .waiting)) (has (t .last .0)) (t .ensures .1) (c .before .before .before .before .i .given .1))
 
 loop-again : tie.Need-loop-again Inv-loop μ-loop
 loop-again c =
     let l = c .before .before .before .before .before .before .before .before .loop in
     let s = c .before .before .before .before .before .before .before .before .before .before in
     let t = c .before .before .before .before .before .before .take-lowest in
-    let k = takes-at (has (c .before .before .before .before .before .before .before .before .loop .waiting)) (has (c .before .before .before .before .before .before .take-lowest .last .0)) (c .before .before .before .before .before .before .take-lowest .ensures .1) (c .before .before .before .before .i .given .1) in (
+    let k = takes-at (has (l .waiting)) (has (t .last .0)) (t .ensures .1) (c .before .before .before .before .i .given .1) in (
       t .ensures .0,
       λ j e. l .inv .1 j (taken-inside k j e),
       λ P p o.

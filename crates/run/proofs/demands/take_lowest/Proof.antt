@@ -30,8 +30,11 @@ drop-bit-requires c κs =
 returns-2 : tie.Need-returns-2
 returns-2 c =
     let s = c .before .before .before .before .before .before .before .before in
-    let d = c .drop-bit .ensures in
-    (d .0 ∙ s .pre, lowest-taken (s .pre) (next-at (has (s .args .waiting .now)) 0 _ (c .before .before .before .before .before .next-bit .ensures) (c .before .before .before .i .given .1)) (d .1))
+    let d = c .drop-bit .ensures in (
+      d .0 ∙ s .pre,
+      lowest-taken (s .pre)
+          (next-at (has (s .args .waiting .now)) 0 _ (c .before .before .before .before .before .next-bit .ensures) (c .before .before .before .i .given .1)) (d .1),
+    )
 
 pub take-lowest-spec : {M : Type 1} → statement M
 take-lowest-spec =

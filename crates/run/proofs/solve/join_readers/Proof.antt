@@ -32,8 +32,10 @@ join-bits-requires c κs = search needs
 
 returns : tie.Need-returns
 returns c =
-    let a = c .before .before .before .before .args in
-    (c .join-bits .ensures .0 ∙ c .before .before .before .before .pre .0, joined-row (a .readers .now) (a .x) (a .x * rowWords) _ (has (a .waiting .now)) (omega arith) (c .join-bits .ensures .1))
+    let a = c .before .before .before .before .args in (
+      c .join-bits .ensures .0 ∙ c .before .before .before .before .pre .0,
+      joined-row (a .readers .now) (a .x) (a .x * rowWords) _ (has (a .waiting .now)) (omega arith) (c .join-bits .ensures .1),
+    )
 
 pub join-readers-spec : {M : Type 1} → statement M
 join-readers-spec =

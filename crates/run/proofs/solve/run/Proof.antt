@@ -18,7 +18,8 @@ fill-bits-requires c κs = limited (c .before .before .before .before .pre .0) .
 
 solve-requires : tie.Need-solve-requires
 solve-requires c κs = let b = c .before .before .before .before .before .before .before .before in (
-  begun _ _ (b .pre .0) _ _ _ _ _ _ _ _ (b .pre .1 .1 .0) (b .pre .1 .0) (b .pre .1 .1 .1 .0) (c .before .before .before .before .before .start-values .ensures .1) (none-in rowWords) (c .before .before .before .fill-bits .ensures .1),
+  begun _ _ (b .pre .0) _ _ _ _ _ _ _ _ (b .pre .1 .1 .0) (b .pre .1 .0) (b .pre .1 .1 .1 .0)
+      (c .before .before .before .before .before .start-values .ensures .1) (none-in rowWords) (c .before .before .before .fill-bits .ensures .1),
   (c .before .before .before .before .before .start-values .ensures .0, c .before .before .before .fill-bits .ensures .0),
 )
 

@@ -84,8 +84,14 @@ returns-2 c =
     let n = c .before .before .before .before .before .before .before .before .next .given in
     let x = run-stepped (l .inv .0) _ (d .1 .1) (n .1) in
     let z : toZ w64 (ofZ w64 (n .0 .1 .0)) ≡ n .0 .1 .0 = search needs in
-    let r = c .before .raise in
-    (r .ensures .0, (r .ensures .1 .0, no-lift (l .inv .0) _ x (c .before .before .before .before .before .head-at .ensures) (c .before .before .before .before .variable .ensures) z (r .last .1 .1 .1 .1 .0) (r .last .1 .1 .1 .1 .1 .0) (r .result) (r .ensures .1 .1) (not-true _ (c .if1 .taken))))
+    let r = c .before .raise in (
+      r .ensures .0,
+      (
+        r .ensures .1 .0,
+        no-lift (l .inv .0) _ x (c .before .before .before .before .before .head-at .ensures) (c .before .before .before .before .variable .ensures) z
+            (r .last .1 .1 .1 .1 .0) (r .last .1 .1 .1 .1 .1 .0) (r .result) (r .ensures .1 .1) (not-true _ (c .if1 .taken)),
+      ),
+    )
 
 loop-less : tie.Need-loop-less Inv-loop μ-loop
 loop-less c =
@@ -95,7 +101,8 @@ loop-less c =
     let x = run-stepped (l .inv .0) _ (d .1 .1) (n .1) in
     let z : toZ w64 (ofZ w64 (n .0 .1 .0)) ≡ n .0 .1 .0 = search needs in
     let r = c .before .raise in
-    lift-nearer (l .inv .0) _ x (c .before .before .before .before .before .head-at .ensures) (c .before .before .before .before .variable .ensures) z (r .last .1 .1 .1 .1 .0) (r .last .1 .1 .1 .1 .1 .0) (r .result) (r .ensures .1 .1) (not-false _ (c .if1 .left)) (d .1 .0) (l .inv .1)
+    lift-nearer (l .inv .0) _ x (c .before .before .before .before .before .head-at .ensures) (c .before .before .before .before .variable .ensures) z
+    (r .last .1 .1 .1 .1 .0) (r .last .1 .1 .1 .1 .1 .0) (r .result) (r .ensures .1 .1) (not-false _ (c .if1 .left)) (d .1 .0) (l .inv .1)
 
 loop-again : tie.Need-loop-again Inv-loop μ-loop
 loop-again c =
@@ -105,7 +112,8 @@ loop-again c =
     let x = run-stepped (l .inv .0) _ (d .1 .1) (n .1) in
     let z : toZ w64 (ofZ w64 (n .0 .1 .0)) ≡ n .0 .1 .0 = search needs in
     let r = c .before .raise in (
-      lift-on (l .inv .0) _ x (c .before .before .before .before .before .head-at .ensures) (c .before .before .before .before .variable .ensures) z (r .last .1 .1 .1 .1 .0) (r .last .1 .1 .1 .1 .1 .0) (r .result) (r .ensures .1 .1) (not-false _ (c .if1 .left)) (d .1 .0) (l .inv .1),
+      lift-on (l .inv .0) _ x (c .before .before .before .before .before .head-at .ensures) (c .before .before .before .before .variable .ensures) z
+          (r .last .1 .1 .1 .1 .0) (r .last .1 .1 .1 .1 .1 .0) (r .result) (r .ensures .1 .1) (not-false _ (c .if1 .left)) (d .1 .0) (l .inv .1),
       r .ensures .0,
       r .ensures .1 .0,
     )

@@ -56,8 +56,11 @@ loop-less c = search needs
 loop-again : tie.Need-loop-again Inv-loop μ-loop
 loop-again c =
     let l = c .before .before .before .before .before .loop in
-    let e = field-rule _ _ _ (l .inv .1) (c .before .before .before .value-at .ensures) in
-    (omega arith, next-rule _ _ _ (l .inv .1) (c .next-at .ensures), none-more _ _ (l .inv .2) (sym (c .before .before .offends .ensures ∙ ap (offendsIn _ _) e) ∙ c .before .if1 .left))
+    let e = field-rule _ _ _ (l .inv .1) (c .before .before .before .value-at .ensures) in (
+      omega arith,
+      next-rule _ _ _ (l .inv .1) (c .next-at .ensures),
+      none-more _ _ (l .inv .2) (sym (c .before .before .offends .ensures ∙ ap (offendsIn _ _) e) ∙ c .before .if1 .left),
+    )
 
 returns-2 : tie.Need-returns-2 Inv-loop μ-loop
 returns-2 c = λ i l. c .before .loop .inv .2 i (omega arith)

@@ -33,7 +33,10 @@ value-at-requires : tie.Need-value-at-requires Inv-loop μ-loop
 value-at-requires c κs = rule-inside (c .before .before .before .pre .0) _ (omega arith) (c .before .loop .inv .1)
 
 mark-rule-requires : tie.Need-mark-rule-requires Inv-loop μ-loop
-mark-rule-requires c κs = (standing-at (c .before .before .before .before .before .pre .0) _ (omega arith) (c .before .before .before .loop .inv .1) (c .before .value-at .ensures), c .before .before .before .loop .inv .2)
+mark-rule-requires c κs = (
+  standing-at (c .before .before .before .before .before .pre .0) _ (omega arith) (c .before .before .before .loop .inv .1) (c .before .value-at .ensures),
+  c .before .before .before .loop .inv .2,
+)
 
 next-at-requires : tie.Need-next-at-requires Inv-loop μ-loop
 next-at-requires c κs = rule-inside (c .before .before .before .before .before .before .pre .0) _ (omega arith) (c .before .before .before .before .loop .inv .1)
