@@ -198,8 +198,3 @@ zeros (suc m) (suc k) = zeros m k
 pub none-in : (m i : ℕ) → has (replicate m 0) i ≡ false
 unfolding has
 none-in m i = ap (λ (w : ℕ). bit w (i % wordBits)) (zeros m (i / wordBits)) ∙ bit-zero (i % wordBits)
-
--- nothing past the words
-pub none-past : (ws : List ℕ) (i : ℕ) → length ws ≤ i / wordBits → has ws i ≡ false
-unfolding has
-none-past ws i h = ap (λ (w : ℕ). bit w (i % wordBits)) (List·getD-eq-default ws 0 h) ∙ bit-zero (i % wordBits)
