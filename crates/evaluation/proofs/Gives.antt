@@ -1,17 +1,17 @@
 -- A rule by its header and the body that is handed on.
 use Prim.Native.Nat.{ℕ}
-use mathlib.Core.Path.{_≡_, sym, ap, subst, _∙_}
+use mathlib.Core.Path.{_≡_, ap, _∙_}
 use mathlib.Core.Bool.{Bool, true, false}
 use mathlib.Core.List.{List}
 use lib.IntN.{ℤ}
 use lib.ListN.{length}
 use borrow.Author.Tests.{ne-eqb}
-use Rattle.program.specs.Program.{Rule, ruleOf, ruleBody, termsOf}
-use Rattle.program.specs.Evaluate.{allHold, amount, evaluate}
-use Rattle.program.specs.Evaluable.{Plain, hasLiterals, Evaluable}
+use Rattle.program.specs.Program.{ruleOf, ruleBody, termsOf}
+use Rattle.program.specs.Evaluate.{allHold, amountOf, evaluate}
+use Rattle.program.specs.Evaluable.{Plain, hasLiterals, EvaluableAs, Evaluable}
 use Rattle.program.specs.declared.Given.the-variants.{Nothing, Value}
 use Rattle.program.proofs.Gives.{given-is}
-use Rattle.parts.specs.Values.{HeaderIs, Handed, headed}
+use Rattle.parts.specs.Values.{HeaderIs, Handed}
 use Rattle.parts.specs.declared.rules.RuleHeader.{RuleHeader}
 use Rattle.bodies.specs.Readings.{readingOf}
 
@@ -20,11 +20,8 @@ pub no-literals : (form : ℕ) → (form ≡ 6 → ⊥) → (form ≡ 7 → ⊥)
 no-literals form h k = simp (ne-eqb form 6 h, ne-eqb form 7 k)
 
 module _ (v : List ℕ) {h : RuleHeader} {b : List ℕ} (x : HeaderIs v h) (y : Handed (ruleBody v) b) where
-  pub same-rule : headed h (termsOf b) ≡ ruleOf v
-  same-rule = rw (x .form-is, x .head-is, x .c-is, y .is)
-
-  pub handed-evaluable : Evaluable (ruleOf v) → Evaluable (headed h (termsOf b))
-  handed-evaluable e = subst Evaluable (sym same-rule) e
+  pub handed-evaluable : Evaluable (ruleOf v) → EvaluableAs (h .form) (h .c) (h .divisor) (termsOf b)
+  handed-evaluable e = rw (x .form-is, x .c-is, x .divisor-is, y .is) e
 
   -- the requirement on the literals
   pub handed-plain : Evaluable (ruleOf v) → hasLiterals (h .form) ≡ false → Plain (termsOf b)
@@ -41,7 +38,7 @@ module _ (v : List ℕ) {h : RuleHeader} {b : List ℕ} (x : HeaderIs v h) (y : 
     given-nothing e = rw (← met-as e)
 
     pub given-value : {a : ℤ} → true ≡ allHold (termsOf b) (readingOf kept first second (termsOf b)) (length (termsOf b))
-        → a ≡ amount (headed h (termsOf b)) (readingOf kept first second (termsOf b))
+        → a ≡ amountOf (h .form) (h .c) (h .divisor) (termsOf b) (readingOf kept first second (termsOf b))
         → Value a ≡ evaluate (ruleOf v) (readingOf kept first second (ruleOf v .terms))
     given-value e q = given-is (ruleOf v) (readingOf kept first second (ruleOf v .terms)) (met-as e)
-        (q ∙ ap (λ (r : Rule). amount r (readingOf kept first second (r .terms))) same-rule)
+        (q ∙ rw (x .form-is, x .c-is, x .divisor-is, y .is))

@@ -5,9 +5,9 @@ ghost use Prim.Native.Nat.{_/_, _≤_};
 ghost use lib.ListN.{length};
 ghost use Rattle.format.specs.Limits.{maxTerms};
 ghost use Rattle.program.specs.Program.{ruleOf, termsOf};
-ghost use Rattle.program.specs.Evaluate.{allHold, amount, evaluate};
-ghost use Rattle.program.specs.Evaluable.{Small, Plain, hasLiterals, Evaluable};
-ghost use Rattle.parts.specs.Values.{ruleHeader, headed};
+ghost use Rattle.program.specs.Evaluate.{allHold, amountOf, evaluate};
+ghost use Rattle.program.specs.Evaluable.{Small, Plain, hasLiterals, EvaluableAs, Evaluable};
+ghost use Rattle.parts.specs.Values.{ruleHeader};
 ghost use Rattle.bodies.specs.Readings.{readingOf};
 use bodies::numbers;
 use format::Format;
@@ -42,14 +42,14 @@ fn amount(
     first: &[i64; Format::MAX_VARIABLES],
     second: &[i64; Format::MAX_VARIABLES],
 ) -> i64
-    requires { ⌜ Evaluable (headed rule (termsOf (now body))) ⌝ }
+    requires { ⌜ EvaluableAs (rule .form) (rule .c) (rule .divisor) (termsOf (now body)) ⌝ }
     requires { ⌜ Small (now first) × Small (now second) ⌝ }
-    ensures { λ r. ⌜ r ≡ amount (headed rule (termsOf (now (body .entry)))) (readingOf kept (now (first .entry)) (now (second .entry)) (termsOf (now (body .entry)))) ⌝ }
+    ensures { λ r. ⌜ r ≡ amountOf (rule .form) (rule .c) (rule .divisor) (termsOf (now (body .entry))) (readingOf kept (now (first .entry)) (now (second .entry)) (termsOf (now (body .entry)))) ⌝ }
 {
     let form = rule.form;
     let c = rule.c;
     match form {
-        1 => bodies::sum(c, body, kept, first, second),
+        1 => numbers::over_up(bodies::sum(c, body, kept, first, second), rule.divisor),
         2 => numbers::plus(c, bodies::largest(body, kept, first, second)),
         3 => numbers::plus(c, bodies::smallest(body, kept, first, second)),
         4 => numbers::plus(c, bodies::product(body, kept, first, second)),

@@ -4,12 +4,13 @@ use mathlib.Core.Path.{_≡_, sym, ap, _∙_}
 use mathlib.Core.List.{List}
 use mathlib.Core.Bool.{Bool, false, _||_}
 use lib.Dec.{leb}
+use lib.ListN.{length}
 use Rattle.program.specs.Tables.{anyBelow}
 use Rattle.program.specs.Program.{termIn, variablesAt}
-use Rattle.program.specs.Refusals.{undeclaredTerm, wrongTerm, outsideTerm, repeatedTerm, negativeTerm}
+use Rattle.program.specs.Refusals.{wrongDivisor, outsideDivisor, undeclaredTerm, wrongTerm, outsideTerm, repeatedTerm, negativeTerm}
 use Rattle.program.proofs.Conditions.{any-more}
 use Rattle.program.proofs.Places.{variables-length}
-use Rattle.faults.specs.Faults.{TermFaults, FaultsBelow}
+use Rattle.faults.specs.Faults.{DivisorFaults, TermFaults, FaultsBelow}
 use Rattle.faults.specs.declared.Faults.{Faults}
 use Rattle.program.specs.declared.Variable.{Variable}
 use Rattle.program.specs.declared.Term.{Term}
@@ -42,6 +43,19 @@ module _ (vs : List Variable) (form : ℕ) (ts : List Term) where
 
   pub faults-done : (i n : ℕ) (r : Faults) → i ≡ n → FaultsBelow vs form ts i r → FaultsBelow vs form ts n r
   faults-done i n r e h = rw e at h
+
+-- ---- the divisor
+
+module _ (ds : List Term) where
+  pub divisor-absent : {r : Faults} → length ds ≡ 0 → (r .form ≡ false) × (r .range ≡ false) × (r .variable ≡ false) × (r .repeated ≡ false) × (r .negative ≡ false)
+      → DivisorFaults ds r
+  unfolding anyBelow
+  divisor-absent e h = record { form-is = rw e (h .0); range-is = rw e (h .1) }
+
+  pub divisor-one : {t : Term} {a b u w g : Bool} → length ds ≡ 1 → t ≡ termIn ds 0 → a ≡ wrongDivisor t → b ≡ outsideDivisor t
+      → DivisorFaults ds (record { form = a; range = b; variable = u; repeated = w; negative = g })
+  unfolding anyBelow
+  divisor-one e m a b = record { form-is = rw e (a ∙ ap wrongDivisor m); range-is = rw e (b ∙ ap outsideDivisor m) }
 
 -- the tests of one term
 module _ (s : List ℕ) (n form i : ℕ) (ts : List Term) {t : Term} (m : t ≡ termIn ts i) where

@@ -2,7 +2,7 @@
 use Prim.Native.Nat.{ℕ, suc, _+_, _*_, _-_, _^_, _<_, _≤_}
 use mathlib.Core.Path.{_≡_, refl, sym, ap, _∙_}
 use mathlib.Core.List.{List}
-use mathlib.Core.Bool.{Bool, true, false, not, _||_}
+use mathlib.Core.Bool.{Bool, true, false, not, _||_, _&&_}
 use lib.Dec.{eqb}
 use lib.IntN.{ℤ, pos, negsuc, natAbs}
 use lib.ListN.{length, getD, List·getD-eq-default}
@@ -11,11 +11,11 @@ use mir.Syntax.{w64}
 use mir.Val.{SFits, ofZ}
 use native.Mathlib.Omega.{arith}
 use borrow.Author.Tests.{eq-eqb, ne-eqb, eqb-false}
-use Rattle.format.specs.Limits.{maxNumber, maxCoefficient}
+use Rattle.format.specs.Limits.{maxNumber, maxCoefficient, maxDivisor}
 use Rattle.format.specs.Numbers.{beyond}
 use Rattle.program.specs.Tables.{anyBelow}
 use Rattle.program.specs.Program.{termsOf, termIn, variableIn, variablesAt, noVariable}
-use Rattle.program.specs.Refusals.{literalPosition, wrongOp, mustBeZero, wrongTerm, outsideTerm, repeatedTerm, negativeTerm}
+use Rattle.program.specs.Refusals.{wrongDivisor, outsideDivisor, literalPosition, wrongOp, mustBeZero, wrongTerm, outsideTerm, repeatedTerm, negativeTerm}
 use Rattle.program.proofs.Bodies.{term-at}
 use Rattle.program.proofs.Conditions.{any-more}
 use Rattle.program.proofs.Places.{variables-length}
@@ -136,3 +136,30 @@ module _ (s : List ℕ) (n form : ℕ) (t : Term) (h : form ≡ 4) where
   negative-undeclared k =
       ap (λ (y : Variable). ltZ (y .low) (pos 0)) (sym (List·getD-eq-default (variablesAt s n) noVariable (omega (arith, variables-length s n))))
       ∙ negative-low (variablesAt s n) form t h
+
+-- ---- the divisor's term
+
+module _ (t : Term) where
+  pub divisor-op : t .op ≡ 3 → not (eqb (t .variable) 0) ≡ wrongDivisor t
+  unfolding wrongDivisor
+  divisor-op h = go (eqb (t .variable) 0) refl
+    where
+      go : (b : Bool) → eqb (t .variable) 0 ≡ b → not b ≡ not (b && eqb (t .op) 3)
+      go true e = rw (eq-eqb (t .op) 3 h)
+      go false e = refl
+
+  pub divisor-other-op : (t .op ≡ 3 → ⊥) → true ≡ wrongDivisor t
+  unfolding wrongDivisor
+  divisor-other-op h = go (eqb (t .variable) 0)
+    where
+      go : (b : Bool) → true ≡ not (b && eqb (t .op) 3)
+      go true = rw (ne-eqb (t .op) 3 h)
+      go false = refl
+
+  pub divisor-below : ltZ (t .number) (pos 1) ≡ true → true ≡ outsideDivisor t
+  unfolding outsideDivisor
+  divisor-below h = simp h
+
+  pub divisor-above : ltZ (t .number) (pos 1) ≡ false → ltZ (pos maxDivisor) (t .number) ≡ outsideDivisor t
+  unfolding outsideDivisor
+  divisor-above h = simp h

@@ -5,7 +5,7 @@ use mathlib.Core.List.{List, [], _∷_}
 use mathlib.Core.Bool.{Bool}
 use Rattle.program.specs.Tables.{_when_, firstOf, anyBelow}
 use Rattle.program.specs.Program.{termIn}
-use Rattle.program.specs.Refusals.{wrongTerm, outsideTerm, undeclaredTerm, repeatedTerm, negativeTerm}
+use Rattle.program.specs.Refusals.{anyTerm, wrongDivisor, outsideDivisor, wrongTerm, outsideTerm, undeclaredTerm, repeatedTerm, negativeTerm}
 use Rattle.program.specs.Reading.{numberOf}
 use Rattle.faults.specs.declared.Checked.{Checked}
 use Rattle.faults.specs.declared.Checked.the-variants.{Fine, Bad}
@@ -22,6 +22,11 @@ checkedNumber (Bad why) = numberOf why
 abbrev pub faultsNumber : Faults → Bool → ℕ
 faultsNumber r count =
     firstOf ((7 when r .form) ∷ (8 when r .range) ∷ (9 when r .variable) ∷ (10 when count) ∷ (11 when r .repeated) ∷ (12 when r .negative) ∷ [])
+
+-- what is wrong with the divisor's term, where there is one
+pub record DivisorFaults (ds : List Term) (r : Faults) : Type 0 where
+  pub form-is : r .form ≡ anyTerm ds (λ i t. wrongDivisor t)
+  pub range-is : r .range ≡ anyTerm ds (λ i t. outsideDivisor t)
 
 -- what is wrong with term i of a body of this form
 pub record TermFaults (vs : List Variable) (form : ℕ) (ts : List Term) (i : ℕ) (r : Faults) : Type 0 where

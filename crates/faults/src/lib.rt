@@ -9,6 +9,7 @@ ghost use Rattle.faults.specs.Faults.{TermFaults, FaultsBelow, faultsNum
 use program::Refusal;
 
 pub mod by_form;
+pub mod divisors;
 
 // What a check finds.
 pub enum Checked {

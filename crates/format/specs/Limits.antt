@@ -24,3 +24,7 @@ maxNumber = 30000
 
 abbrev pub maxCoefficient : ℕ
 maxCoefficient = 1000
+
+-- document 02, wish 1: "a divisor from 1 to 1,000"
+abbrev pub maxDivisor : ℕ
+maxDivisor = 1000

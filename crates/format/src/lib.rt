@@ -5,7 +5,7 @@ ghost use lib.ListN.{length};
 ghost use lib.IntN.{pos, natAbs};
 ghost use mir.Syntax.{w16};
 ghost use mir.Val.{ofZ};
-ghost use Rattle.format.specs.Limits.{maxFile, maxVariables, maxRules, maxConstraints, maxTerms, maxNumber, maxCoefficient};
+ghost use Rattle.format.specs.Limits.{maxFile, maxVariables, maxRules, maxConstraints, maxTerms, maxNumber, maxCoefficient, maxDivisor};
 ghost use Rattle.format.specs.Numbers.{big, signed, unsignedAt, signedAt, beyond};
 
 pub struct Format {}
@@ -33,6 +33,8 @@ impl Format {
 
     pub const MAX_COEFFICIENT: i64 = 1000;
 
+    pub const MAX_DIVISOR: i64 = 1000;
+
     // The limits of the code are those of the specification.
     pub fn quoted()
         ensures { λ _. do ⌜ (← ⟦Format::MAX_FILE⟧ .entry) ≡ maxFile ⌝ }
@@ -42,6 +44,7 @@ impl Format {
         ensures { λ _. do ⌜ (← ⟦Format::MAX_TERMS⟧ .entry) ≡ maxTerms ⌝ }
         ensures { λ _. do ⌜ (← ⟦Format::MAX_NUMBER⟧ .entry) ≡ pos maxNumber ⌝ }
         ensures { λ _. do ⌜ (← ⟦Format::MAX_COEFFICIENT⟧ .entry) ≡ pos maxCoefficient ⌝ }
+        ensures { λ _. do ⌜ (← ⟦Format::MAX_DIVISOR⟧ .entry) ≡ pos maxDivisor ⌝ }
     {}
 }
 

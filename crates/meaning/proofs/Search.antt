@@ -10,9 +10,9 @@ use lib.IntN.{ℤ, pos}
 use lib.ListN.{length, getD, set, length-set, List·getD-eq-default}
 use lib.Seq.{getD-set-same, getD-set-other}
 use lib.Dec.{T, ltb, ltb→lt, nltb→le}
-use Rattle.program.specs.Program.{Rule, Program, noVariable, variableIn, ruleIn}
+use Rattle.program.specs.Program.{Rule, Program, termForm, noVariable, variableIn, ruleIn}
 use Rattle.program.specs.Directions.{plainDirection, termDirection, direction}
-use Rattle.program.specs.Evaluate.{sumBelow, pickTo, allHold, amount, evaluate}
+use Rattle.program.specs.Evaluate.{sumBelow, pickTo, allHold, overUp, amountOf, evaluate}
 use Rattle.program.specs.declared.Given.{Given}
 use Rattle.program.specs.declared.Given.the-variants.{Nothing, Value}
 use Rattle.program.proofs.Promises.{Promises}
@@ -31,7 +31,7 @@ use Rattle.meaning.proofs.Laws.{below-refl, short-below}
 
 -- unfolding this unfolds the search and what it reads of a program
 unfoldable pub computes : Unit {0}
-unfolding start far notPast plainDirection termDirection direction sumBelow pickTo allHold amount evaluate kept gives starts firstUnmet iterate
+unfolding start far notPast termForm plainDirection termDirection direction sumBelow pickTo allHold overUp amountOf evaluate kept gives starts firstUnmet iterate
 computes = tt
 
 -- ---- lists

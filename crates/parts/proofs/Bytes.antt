@@ -1,27 +1,70 @@
 -- The parts of a file, by the bytes that they are read from: a part of a slice is the bytes of its stretch.
 use Prim.Native.Nat.{ℕ, _+_, _-_, _*_, _/_, _<_, _≤_}
 use mathlib.Core.Path.{_≡_, refl, sym, ap, ap₂, _∙_}
-use mathlib.Core.List.{List}
+use mathlib.Core.List.{List, [], _∷_}
 use native.Mathlib.Omega.{arith}
 use native.Mathlib.Nat.{add-sub-cancel-left}
 use lib.Dec.{lit<}
-use lib.IntN.{ℤ}
-use lib.ListN.{length, getD, take, drop, length-drop}
+use lib.IntN.{ℤ, pos}
+use lib.ListN.{length, getD, take, drop, length-drop, drop-of-length-le}
 use lib.Seq.{take-all, getD-take, getD-drop}
 use Rattle.format.specs.Numbers.{signed, signedAt}
 use Rattle.program.specs.Fields.{lengthAt, valueAt}
-use Rattle.program.specs.Program.{variableOf, variableIn, variablesAt, ruleOf, ruleBody, termsOf, termIn}
+use Rattle.program.specs.Program.{variableOf, variableIn, variablesAt, divisorTerms, byOne, divisorOf, ruleDivisor, ruleBody, ruleOf, termsOf, termIn, noTerm}
 use Rattle.program.proofs.Bodies.{terms-length, termAt, term-at}
 use Rattle.program.proofs.Places.{variable-at}
-use Rattle.parts.specs.Values.{Handed}
+use Rattle.parts.specs.Values.{StartsAt, Handed}
 use Rattle.program.specs.declared.Variable.{Variable}
 use Rattle.program.specs.declared.Term.{Term}
 
--- the part from h on, handed on as a body
+-- a stretch of a value, handed on
+pub handed-as : {body b : List ℕ} → b ≡ body → Handed body b
+handed-as {body} e = record { is = e; many = ap (λ (b : List ℕ). length b / 4) e ∙ sym (terms-length body) }
+
+-- the part from h on
 pub handed : (h : ℕ) (v : List ℕ) → h ≤ length v → Handed (drop h v) (take (length v - h) (drop h v))
-handed h v l =
-    let e : take (length v - h) (drop h v) ≡ drop h v = take-all (length v - h) (drop h v) (simp length-drop (omega arith)) in
-    record { is = e; many = ap (λ (b : List ℕ). length b / 4) e ∙ sym (terms-length (drop h v)) }
+handed h v l = handed-as (take-all (length v - h) (drop h v) (simp length-drop (omega arith)))
+
+-- ---- where the body of a rule starts
+
+module _ (v : List ℕ) where
+  pub starts-after : {start : ℕ} → start ≡ 4 + 4 * divisorTerms (getD v 0 0) → start ≤ length v → StartsAt v start
+  starts-after {start} e h = record {
+    after = omega arith;
+    inside = h;
+    divisor-is = let k : start - 4 ≡ 4 * divisorTerms (getD v 0 0) = omega arith in ap (λ (n : ℕ). take n (drop 4 v)) k;
+    body-is = ap (λ (n : ℕ). drop n v) e;
+  }
+
+  pub starts-at-end : 4 ≤ length v → length v < 4 + 4 * divisorTerms (getD v 0 0) → StartsAt v (length v)
+  starts-at-end h l = record {
+    after = h;
+    inside = omega arith;
+    divisor-is = take-all (length v - 4) (drop 4 v) (omega (arith, length-drop 4 v))
+        ∙ sym (take-all (4 * divisorTerms (getD v 0 0)) (drop 4 v) (omega (arith, length-drop 4 v)));
+    body-is = drop-of-length-le v {i = length v} (omega arith) ∙ sym (drop-of-length-le v {i = 4 + 4 * divisorTerms (getD v 0 0)} (omega arith));
+  }
+
+  pub body-handed : {start : ℕ} → StartsAt v start → Handed (ruleBody v) (take (length v - start) (drop start v))
+  body-handed {start} s = rw (← s .body-is) (handed start v (s .inside))
+
+-- ---- the divisor
+
+module _ (v : List ℕ) {b : List ℕ} (h : Handed (ruleDivisor v) b) where
+  -- of no term, and of the first
+  pub divisor-none : length b < 4 → pos 1 ≡ divisorOf (ruleOf v)
+  divisor-none l = go (ruleOf v .divisor) (omega (arith, h .many))
+    where
+      go : (ts : List Term) → length ts ≡ 0 → pos 1 ≡ getD ts 0 byOne .number
+      go [] e = refl
+      go (t ∷ ts) e = let f : ⊥ = omega arith in absurd f
+
+  pub divisor-first : {t : Term} → 4 ≤ length b → t ≡ termIn (termsOf b) 0 → t .number ≡ divisorOf (ruleOf v)
+  divisor-first {t} l e = ap (λ (u : Term). u .number) (e ∙ ap (λ (c : List ℕ). termIn (termsOf c) 0) (h .is)) ∙ go (ruleOf v .divisor) (omega (arith, h .many))
+    where
+      go : (ts : List Term) → 1 ≤ length ts → getD ts 0 noTerm .number ≡ getD ts 0 byOne .number
+      go [] k = let f : ⊥ = omega arith in absurd f
+      go (u ∷ ts) k = refl
 
 -- the value of the field at a place
 pub value-part : (s : List ℕ) (at : ℕ) {start len : ℕ} → start ≡ at + 3 → len ≡ lengthAt s at → take (start + len - start) (drop start s) ≡ valueAt s at

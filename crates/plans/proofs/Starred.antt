@@ -12,10 +12,10 @@ use Rattle.format.specs.Limits.{maxFile}
 use Rattle.format.specs.Numbers.{beyond}
 use Rattle.program.specs.Tables.{anyBelow}
 use Rattle.program.specs.Fields.{place, tagBefore}
-use Rattle.program.specs.Program.{Program, program, termsOf, variableIn, ruleIn}
+use Rattle.program.specs.Program.{Program, program, divisorTerms, termsOf, variableIn, ruleIn}
 use Rattle.program.specs.Refusals.{cutShort, unknownTag, tagBelow, oneTooMany, notTerms, wrongLength, literalPosition, wrongOp, mustBeZero, wrongTerm}
-use Rattle.program.specs.Refusals.{unknownForm, wrongConstraint, wrongForm, outsideTerm, outsideRange, undeclaredTerm, wrongHead, undeclared}
-use Rattle.program.specs.Refusals.{wrongCountOf, wrongCount, repeatedTerm, variableTwice, negativeTerm, negativeProduct, itemRefusal, valueRefusal}
+use Rattle.program.specs.Refusals.{unknownForm, wrongDivisor, wrongConstraint, wrongForm, outsideTerm, outsideDivisor, outsideRange, undeclaredTerm, wrongHead, undeclared}
+use Rattle.program.specs.Refusals.{wrongCountOf, wrongDivisors, wrongCount, repeatedTerm, variableTwice, negativeTerm, negativeProduct, itemRefusal, valueRefusal}
 use Rattle.program.specs.Refusals.{fieldRefusal}
 use Rattle.program.specs.Directions.{direction, isMixed}
 use Rattle.program.specs.Components.{Valid}
@@ -64,7 +64,7 @@ above-in P θ m = anyBelow (length (P .variables)) (λ v. not (notPast (variable
 
 -- unfolding these unfolds the reading of a file
 fields-compute : Unit {0}
-unfolding beyond anyBelow place tagBefore program termsOf cutShort unknownTag tagBelow oneTooMany notTerms wrongLength itemRefusal valueRefusal fieldRefusal
+unfolding beyond anyBelow place tagBefore program divisorTerms termsOf cutShort unknownTag tagBelow oneTooMany notTerms wrongLength itemRefusal valueRefusal fieldRefusal
 fields-compute = tt
 
 items-compute : Unit {0}
@@ -72,7 +72,7 @@ unfolding literalPosition wrongOp mustBeZero wrongTerm unknownForm wrongConstrai
 items-compute = tt
 
 bodies-compute : Unit {0}
-unfolding wrongCount repeatedTerm variableTwice negativeTerm negativeProduct
+unfolding wrongDivisor outsideDivisor wrongDivisors wrongCount repeatedTerm variableTwice negativeTerm negativeProduct
 bodies-compute = tt
 
 -- and this also the tests and the search

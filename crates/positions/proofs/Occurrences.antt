@@ -3,7 +3,7 @@ use Prim.Native.Nat.{ℕ, _<_}
 use mathlib.Core.Path.{_≡_, ap, ap₂, _∙_}
 use mathlib.Core.List.{List}
 use mathlib.Core.Bool.{Bool, _&&_}
-use Rattle.program.specs.Program.{Rule, variableIn, termIn}
+use Rattle.program.specs.Program.{Rule, termForm, variableIn, termIn}
 use Rattle.program.specs.Variables.{isFounded}
 use Rattle.program.specs.Directions.{direction, termDirection, isRising}
 use Rattle.program.specs.Readings.{bodyVariable, kept}
@@ -23,7 +23,7 @@ module _ (vs : List Variable) (r : Rule) (i : ℕ) where
   kept-as p q = rw (p, q)
 
   pub position-read : {t : Term} {x : Variable} {d : Direction} {rising standing : Bool} → t ≡ termIn (r .terms) i → x ≡ variableIn vs (t .variable)
-      → d ≡ termDirection (r .form) x t → rising ≡ isRising d → standing ≡ isFounded x
+      → d ≡ termDirection (termForm (r .form)) x t → rising ≡ isRising d → standing ≡ isFounded x
       → PositionIs vs r i (record { variable = t .variable; direction = d; kept = rising && standing })
   position-read {t} {x} {d} {rising} {standing} p q e a b =
       let w : d ≡ direction vs r i = e ∙ direction-is vs r i p q in

@@ -1,24 +1,25 @@
 -- The bytes of a value and what they mean, both ways.
-use Prim.Native.Nat.{ℕ, zero, suc, _+_, _*_, _/_, _%_, _<_, _≤_}
+use Prim.Native.Nat.{ℕ, zero, suc, _+_, _-_, _*_, _/_, _%_, _<_, _≤_}
 use mathlib.Core.Path.{_≡_, refl, sym, ap, _∙_}
-use mathlib.Core.List.{List, [], _∷_, _++_}
+use mathlib.Core.List.{List, [], _∷_, _++_, append-nil}
 use mathlib.Core.Bool.{Bool, true, false}
 use native.Mathlib.Omega.{arith}
-use lib.Dec.{eqb}
-use borrow.Author.Tests.{eqb-true, eqb-false}
+use lib.Dec.{eqb, leb}
+use borrow.Author.Tests.{eqb-true, eqb-false, leb-true, leb-false}
 use lib.IntN.{ℤ, natAbs}
-use lib.ListN.{length, getD, take, drop, length-drop, drop-of-length-le}
-use lib.Seq.{drop-cons, getD-drop}
+use lib.ListN.{length, getD, take, drop, length-drop, drop-of-length-le, take-append-drop, length-append}
+use lib.Seq.{drop-cons, getD-drop, drop-drop, take-all, length-take-le, take-append-seam, drop-append-seam, drop-append-add}
 use mir.Syntax.{w16}
 use mir.Val.{ofZ}
 use Rattle.format.specs.Limits.{maxVariables, maxNumber}
 use Rattle.format.specs.Numbers.{signed, bytesOf}
 use Rattle.format.proofs.Ints.{read-written, written-read, raw-small}
 use Rattle.program.specs.Fields.{lengthAt, valueAt}
-use Rattle.program.specs.Program.{Rule, Constraint, termsOf, termIn, noTerm, variableOf, ruleOf, constraintOf}
+use Rattle.program.specs.Program.{Rule, Constraint, divisorTerms, termsOf, termIn, noTerm, variableOf, ruleBody, ruleOf, constraintOf}
 use Rattle.program.specs.Refusals.{literalPosition}
 use Rattle.program.specs.Encode.{each, fieldBytes, termBytes, variableBytes, ruleBytes, constraintBytes, Bytes, All}
-use Rattle.program.proofs.Promises.{TermPromise, BodyPromise, VariablePromise, RulePromise, ConstraintPromise}
+use Rattle.program.proofs.Forms.{divisor-few}
+use Rattle.program.proofs.Promises.{TermPromise, DivisorPromise, BodyPromise, VariablePromise, RulePromise, ConstraintPromise}
 use Rattle.program.specs.declared.Variable.{Variable}
 use Rattle.program.specs.declared.Term.{Term}
 
@@ -27,7 +28,7 @@ abbrev pub variableValue : Variable → List ℕ
 variableValue x = x .kind ∷ bytesOf (x .low) ++ bytesOf (x .high)
 
 abbrev pub ruleValue : Rule → List ℕ
-ruleValue r = r .form ∷ r .head ∷ bytesOf (r .c) ++ each termBytes (r .terms)
+ruleValue r = r .form ∷ r .head ∷ bytesOf (r .c) ++ (each termBytes (r .divisor) ++ each termBytes (r .terms))
 
 abbrev pub constraintValue : Constraint → List ℕ
 constraintValue k = k .form ∷ bytesOf (k .c) ++ each termBytes (k .terms)
@@ -73,6 +74,23 @@ terms-written zero (x ∷ op ∷ high ∷ low ∷ rest) h y = let f : ⊥ = omeg
 terms-written (suc n) (x ∷ op ∷ high ∷ low ∷ rest) h y =
     rw (written-read high low (y 2) (y 3), terms-written n rest (omega arith) (λ i. y (suc (suc (suc (suc i))))))
 
+-- n terms, cut after the first k of them: where there are fewer, the second part is empty
+parted-written : (n k : ℕ) (b : List ℕ) → length b ≡ 4 * n → Bytes b → each termBytes (termsOf (take (4 * k) b)) ++ each termBytes (termsOf (drop (4 * k) b)) ≡ b
+unfolding termsOf
+parted-written n k b h y = go (leb k n) refl
+  where
+    go : (t : Bool) → leb k n ≡ t → each termBytes (termsOf (take (4 * k) b)) ++ each termBytes (termsOf (drop (4 * k) b)) ≡ b
+    go true e =
+        let l = leb-true k n e in
+        let p = terms-written k (take (4 * k) b) (length-take-le (4 * k) b (omega arith)) (bytes-take (4 * k) b y) in
+        let q = terms-written (n - k) (drop (4 * k) b) (omega (arith, length-drop (4 * k) b)) (bytes-drop (4 * k) b y) in
+        rw (p, q) (take-append-drop (4 * k) b)
+    go false e =
+        let l = leb-false k n e in
+        let p : take (4 * k) b ≡ b = take-all (4 * k) b (omega arith) in
+        let q : drop (4 * k) b ≡ [] = drop-of-length-le b {i = 4 * k} (omega arith) in
+        rw (p, q, terms-written n b h y) (append-nil b)
+
 module _ (v : List ℕ) (y : Bytes v) where
   pub variable-written : length v ≡ 5 → variableBytes (variableOf v) ≡ fieldBytes 1 v
   variable-written h =
@@ -82,8 +100,10 @@ module _ (v : List ℕ) (y : Bytes v) where
 
   pub rule-written : (n : ℕ) → length v ≡ 4 + 4 * n → ruleBytes (ruleOf v) ≡ fieldBytes 2 v
   rule-written n h =
-      let t = terms-written n (drop 4 v) (omega (arith, length-drop 4 v)) (bytes-drop 4 v y) in
-      let e : ruleValue (ruleOf v) ≡ v = rw (written-read (getD v 2 0) (getD v 3 0) (y 2) (y 3), t) (sym (front-four v (omega arith))) in
+      let t = parted-written n (divisorTerms (getD v 0 0)) (drop 4 v) (omega (arith, length-drop 4 v)) (bytes-drop 4 v y) in
+      let d : each termBytes (ruleOf v .divisor) ++ each termBytes (ruleOf v .terms) ≡ drop 4 v =
+      ap (λ (b : List ℕ). each termBytes (ruleOf v .divisor) ++ each termBytes (termsOf b)) (sym (drop-drop (4 * divisorTerms (getD v 0 0)) 4 v)) ∙ t in
+      let e : ruleValue (ruleOf v) ≡ v = rw (written-read (getD v 2 0) (getD v 3 0) (y 2) (y 3), d) (sym (front-four v (omega arith))) in
       ap (fieldBytes 2) e
 
   pub constraint-written : (n : ℕ) → length v ≡ 3 + 4 * n → constraintBytes (constraintOf v) ≡ fieldBytes 3 v
@@ -91,6 +111,13 @@ module _ (v : List ℕ) (y : Bytes v) where
       let t = terms-written n (drop 3 v) (omega (arith, length-drop 3 v)) (bytes-drop 3 v y) in
       let e : constraintValue (constraintOf v) ≡ v = rw (written-read (getD v 1 0) (getD v 2 0) (y 1) (y 2), t) (sym (front-three v (omega arith))) in
       ap (fieldBytes 3) e
+
+-- ---- lengths
+
+pub terms-size : (ts : List Term) → length (each termBytes ts) ≡ 4 * length ts
+unfolding bytesOf
+terms-size [] = refl
+terms-size (t ∷ ts) = let e = terms-size ts in omega arith
 
 -- ---- written, then read
 
@@ -113,9 +140,23 @@ pub variable-read : (x : Variable) → Small (x .low) → Small (x .high) → va
 unfolding bytesOf
 variable-read x h l = rw (read-back (x .low) h, read-back (x .high) l)
 
-pub rule-read : (r : Rule) → Small (r .c) → SmallTerms (r .terms) → ruleOf (ruleValue r) ≡ r
+-- the divisor's bytes and those of the terms, cut where the one ends
+parted-read : (form : ℕ) (ds ts : List Term) → length ds ≡ divisorTerms form → SmallTerms ds → SmallTerms ts
+    → (termsOf (take (4 * divisorTerms form) (each termBytes ds ++ each termBytes ts)) ≡ ds) × (termsOf (drop (4 * divisorTerms form) (each termBytes ds ++ each termBytes ts)) ≡ ts)
+parted-read form ds ts e h l =
+    let a = each termBytes ds in
+    let b = each termBytes ts in
+    let k : 4 * divisorTerms form ≡ length a = omega (arith, terms-size ds) in
+    (ap (λ (n : ℕ). termsOf (take n (a ++ b))) k ∙ ap termsOf (take-append-seam a b) ∙ terms-read ds h,
+    ap (λ (n : ℕ). termsOf (drop n (a ++ b))) k ∙ ap termsOf (drop-append-seam a b) ∙ terms-read ts l)
+
+pub rule-read : (r : Rule) → Small (r .c) → length (r .divisor) ≡ divisorTerms (r .form) → SmallTerms (r .divisor) → SmallTerms (r .terms) → ruleOf (ruleValue r) ≡ r
 unfolding bytesOf
-rule-read r h l = rw (read-back (r .c) h, terms-read (r .terms) l)
+rule-read r h e d l =
+    let p = parted-read (r .form) (r .divisor) (r .terms) e d l in
+    let q : termsOf (ruleBody (ruleValue r)) ≡ r .terms =
+    ap termsOf (drop-append-add (r .form ∷ r .head ∷ bytesOf (r .c)) _ (4 * divisorTerms (r .form))) ∙ p .1 in
+    rw (read-back (r .c) h, p .0, q)
 
 pub constraint-read : (k : Constraint) → Small (k .c) → SmallTerms (k .terms) → constraintOf (constraintValue k) ≡ k
 unfolding bytesOf
@@ -138,15 +179,11 @@ module _ {vs : List Variable} {form i : ℕ} {t : Term} (p : TermPromise vs form
       go true e = omega (arith, p .literal-op-most e)
       go false e = omega (arith, p .plain-op e)
 
+pub divisor-small : (ts : List Term) → ((i : ℕ) → i < length ts → DivisorPromise (termIn ts i)) → SmallTerms ts
+divisor-small ts p i h = omega (arith, p i h .small)
+
 pub body-small : {vs : List Variable} {form : ℕ} {ts : List Term} → BodyPromise vs form ts → SmallTerms ts
 body-small b i h = term-small (b .terms i h)
-
--- ---- lengths
-
-pub terms-size : (ts : List Term) → length (each termBytes ts) ≡ 4 * length ts
-unfolding bytesOf
-terms-size [] = refl
-terms-size (t ∷ ts) = let e = terms-size ts in omega arith
 
 -- ---- what is written is bytes
 
@@ -186,6 +223,15 @@ pub all-map : {A : Type 0} {p q : A → Type 0} → ((x : A) → p x → q x) �
 all-map f [] h = tt
 all-map f (x ∷ xs) h = (f x (h .0), all-map f xs (h .1))
 
+divisor-bytes : (ts : List Term) → ((i : ℕ) → i < length ts → DivisorPromise (termIn ts i)) → Bytes (each termBytes ts)
+divisor-bytes ts p = bytes-each termBytes ts (all-of (λ t. Bytes (termBytes t)) noTerm ts (λ i h. one (termIn ts i) (p i h)))
+  where
+    one : (t : Term) → DivisorPromise t → Bytes (termBytes t)
+    one t q =
+        let rest = bytesOf (t .number) in
+        bytes-cons (t .variable) (t .op ∷ rest) (omega (arith, q .no-variable))
+        (bytes-cons (t .op) rest (omega (arith, q .divisor-op)) (bytes-number (t .number) (omega (arith, q .small))))
+
 module _ {vs : List Variable} (few : length vs ≤ maxVariables) where
   term-bytes : {form i : ℕ} {t : Term} → TermPromise vs form i t → Bytes (termBytes t)
   term-bytes {t = t} p =
@@ -194,6 +240,10 @@ module _ {vs : List Variable} (few : length vs ≤ maxVariables) where
 
   body-bytes : {form : ℕ} {ts : List Term} → BodyPromise vs form ts → Bytes (each termBytes ts)
   body-bytes {ts = ts} b = bytes-each termBytes ts (all-of (λ t. Bytes (termBytes t)) noTerm ts (λ i h. term-bytes (b .terms i h)))
+
+pub rule-size : (r : Rule) → length (ruleValue r) ≡ 4 + 4 * (length (r .divisor) + length (r .terms))
+unfolding bytesOf
+rule-size r = omega (arith, terms-size (r .divisor), terms-size (r .terms), length-append (each termBytes (r .divisor)) (each termBytes (r .terms)))
 
 pub variable-bytes : (x : Variable) → VariablePromise x → Bytes (variableBytes x)
 unfolding bytesOf
@@ -207,11 +257,13 @@ variable-bytes x p =
 pub rule-bytes : {vs : List Variable} (r : Rule) → length vs ≤ maxVariables → RulePromise vs r → Bytes (ruleBytes r)
 unfolding bytesOf
 rule-bytes r few p =
-    let body = each termBytes (r .terms) in
+    let divisor = each termBytes (r .divisor) in
+    let body = divisor ++ each termBytes (r .terms) in
     let rest = bytesOf (r .c) ++ body in
-    let numbers = bytes-append (bytesOf (r .c)) body (bytes-number (r .c) (p .c-small)) (body-bytes few (p .body)) in
-    bytes-field 2 (ruleValue r) (omega arith) (omega (arith, terms-size (r .terms), p .body .count .most))
-    (bytes-cons (r .form) (r .head ∷ rest) (omega (arith, p .form-most)) (bytes-cons (r .head) rest (omega (arith, p .head-declared)) numbers))
+    let bodies = bytes-append divisor (each termBytes (r .terms)) (divisor-bytes (r .divisor) (p .divisor)) (body-bytes few (p .body)) in
+    let numbers = bytes-append (bytesOf (r .c)) body (bytes-number (r .c) (p .c-small)) bodies in
+    bytes-field 2 (ruleValue r) (omega arith) (omega (arith, rule-size r, p .divided, divisor-few (r .form), p .body .count .most))
+    (bytes-cons (r .form) (r .head ∷ rest) (omega (arith, p .form-byte)) (bytes-cons (r .head) rest (omega (arith, p .head-declared)) numbers))
 
 pub constraint-bytes : {vs : List Variable} (k : Constraint) → length vs ≤ maxVariables → ConstraintPromise vs k → Bytes (constraintBytes k)
 unfolding bytesOf

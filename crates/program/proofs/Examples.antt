@@ -11,8 +11,8 @@ use Rattle.format.specs.Numbers.{beyond}
 use Rattle.walks.specs.Walk as walk
 use Rattle.program.specs.Tables.{anyBelow}
 use Rattle.program.specs.Fields.{place, tagBefore}
-use Rattle.program.specs.Program.{Program, program, termsOf, ruleIn}
-use Rattle.program.specs.Refusals.{cutShort, unknownTag, tagBelow, oneTooMany, notTerms, wrongLength, literalPosition, wrongOp, mustBeZero, wrongTerm, unknownForm, wrongConstraint, wrongForm, outsideTerm, outsideRange, undeclaredTerm, wrongHead, undeclared, wrongCountOf, wrongCount, repeatedTerm, variableTwice, negativeTerm, negativeProduct, itemRefusal, valueRefusal, fieldRefusal}
+use Rattle.program.specs.Program.{Program, program, divisorTerms, termForm, termsOf, ruleIn}
+use Rattle.program.specs.Refusals.{cutShort, unknownTag, tagBelow, oneTooMany, notTerms, wrongLength, literalPosition, wrongOp, mustBeZero, wrongTerm, unknownForm, wrongDivisor, wrongConstraint, wrongForm, outsideTerm, outsideDivisor, outsideRange, undeclaredTerm, wrongHead, undeclared, wrongCountOf, wrongDivisors, wrongCount, repeatedTerm, variableTwice, negativeTerm, negativeProduct, itemRefusal, valueRefusal, fieldRefusal}
 use Rattle.program.specs.Directions.{plainDirection, termDirection, direction, isMixed}
 use Rattle.program.specs.Components.{draws, edge, Offends, Valid}
 use Rattle.program.specs.Reading.{Answer, accepted, refused, Reads, bad-field, not-valid, whole}
@@ -22,7 +22,7 @@ use Rattle.program.proofs.Unique.{reads-unique}
 
 -- unfolding this unfolds the specification
 computes : Unit {0}
-unfolding beyond anyBelow place tagBefore program termsOf cutShort unknownTag tagBelow oneTooMany notTerms wrongLength literalPosition wrongOp mustBeZero wrongTerm unknownForm wrongConstraint wrongForm outsideTerm outsideRange undeclaredTerm wrongHead undeclared wrongCountOf wrongCount repeatedTerm variableTwice negativeTerm negativeProduct itemRefusal valueRefusal fieldRefusal plainDirection termDirection direction draws edge
+unfolding beyond anyBelow place tagBefore program divisorTerms termForm termsOf cutShort unknownTag tagBelow oneTooMany notTerms wrongLength literalPosition wrongOp mustBeZero wrongTerm unknownForm wrongDivisor wrongConstraint wrongForm outsideTerm outsideDivisor outsideRange undeclaredTerm wrongHead undeclared wrongCountOf wrongDivisors wrongCount repeatedTerm variableTwice negativeTerm negativeProduct itemRefusal valueRefusal fieldRefusal plainDirection termDirection direction draws edge
 computes = tt
 
 -- rule i has a mixed place, and some of the first n rules has

@@ -6,12 +6,12 @@ use mathlib.Core.Bool.{Bool, true, false, _&&_}
 use native.Mathlib.Omega.{arith}
 use lib.IntN.{ℤ, pos, natAbs, _+ℤ_, _*ℤ_}
 use lib.ListN.{length}
-use Rattle.program.specs.Program.{Rule, Constraint, termIn}
+use Rattle.program.specs.Program.{Rule, Constraint, termForm, divisorOf, termIn}
 use Rattle.program.specs.Refusals.{bodyForm}
-use Rattle.program.specs.Evaluate.{sumBelow, larger, smaller, pickTo, largestTo, smallestTo, holds, allHold, onlyIf, amount, evaluate}
-use Rattle.program.specs.Evaluable.{fewest, hasLiterals, Evaluable, Satisfiable}
+use Rattle.program.specs.Evaluate.{sumBelow, larger, smaller, pickTo, largestTo, smallestTo, holds, allHold, onlyIf, overUp, amountOf, amount, evaluate}
+use Rattle.program.specs.Evaluable.{fewest, hasLiterals, EvaluableAs, Evaluable, Satisfiable}
 use Rattle.program.proofs.Conditions.{never}
-use Rattle.program.proofs.Promises.{RulePromise, CountPromise, ConstraintPromise, plain-position}
+use Rattle.program.proofs.Promises.{RulePromise, CountPromise, ConstraintPromise, plain-position, divisor-least, divisor-most}
 use Rattle.program.specs.declared.Variable.{Variable}
 use Rattle.program.specs.declared.Term.{Term}
 
@@ -29,35 +29,36 @@ seven P a b c d e f g (suc (suc (suc (suc (suc (suc (suc (suc n)))))))) h k = ab
 
 -- ---- the amount of each form
 
-module _ (r : Rule) (at : ℕ → ℤ) where
-  pub amount-sum : r .form ≡ 1 → amount r at ≡ r .c +ℤ sumBelow (λ i. termIn (r .terms) i .number *ℤ at i) (length (r .terms))
-  unfolding amount
+module _ {form : ℕ} (c d : ℤ) (ts : List Term) (at : ℕ → ℤ) where
+  pub amount-sum : form ≡ 1 → amountOf form c d ts at ≡ overUp d (c +ℤ sumBelow (λ i. termIn ts i .number *ℤ at i) (length ts))
+  unfolding amountOf
   amount-sum h = rw h
 
-  pub amount-largest : r .form ≡ 2 → amount r at ≡ r .c +ℤ largestTo at (length (r .terms) - 1)
-  unfolding amount
+  pub amount-largest : form ≡ 2 → amountOf form c d ts at ≡ c +ℤ largestTo at (length ts - 1)
+  unfolding amountOf
   amount-largest h = rw h
 
-  pub amount-smallest : r .form ≡ 3 → amount r at ≡ r .c +ℤ smallestTo at (length (r .terms) - 1)
-  unfolding amount
+  pub amount-smallest : form ≡ 3 → amountOf form c d ts at ≡ c +ℤ smallestTo at (length ts - 1)
+  unfolding amountOf
   amount-smallest h = rw h
 
-  pub amount-product : r .form ≡ 4 → amount r at ≡ r .c +ℤ (at 0 *ℤ at 1)
-  unfolding amount
+  pub amount-product : form ≡ 4 → amountOf form c d ts at ≡ c +ℤ (at 0 *ℤ at 1)
+  unfolding amountOf
   amount-product h = rw h
 
-  pub amount-size : r .form ≡ 5 → amount r at ≡ r .c +ℤ pos (natAbs (at 0))
-  unfolding amount
+  pub amount-size : form ≡ 5 → amountOf form c d ts at ≡ c +ℤ pos (natAbs (at 0))
+  unfolding amountOf
   amount-size h = rw h
 
-  pub amount-literals : r .form ≡ 6 → amount r at ≡ r .c
-  unfolding amount
+  pub amount-literals : form ≡ 6 → amountOf form c d ts at ≡ c
+  unfolding amountOf
   amount-literals h = rw h
 
-  pub amount-carried : r .form ≡ 7 → amount r at ≡ r .c +ℤ at 0
-  unfolding amount
+  pub amount-carried : form ≡ 7 → amountOf form c d ts at ≡ c +ℤ at 0
+  unfolding amountOf
   amount-carried h = rw h
 
+module _ (r : Rule) (at : ℕ → ℤ) where
   -- the amount is given where every literal holds
   pub given-is : {b : Bool} {a : ℤ} → b ≡ allHold (r .terms) at (length (r .terms)) → a ≡ amount r at → onlyIf b a ≡ evaluate r at
   unfolding evaluate
@@ -88,24 +89,30 @@ module _ (f g : ℕ → ℤ) where
   hold-same ts (suc n) h = ap₂ _&&_ (hold-same ts n (λ i l. h i (omega arith))) (ap (holds (termIn ts n)) (h n (omega arith)))
 
 -- a rule has the terms that its form reads
-pub enough-of : {r : Rule} → Evaluable r → (k : ℕ) → r .form ≡ k → fewest k ≤ length (r .terms)
+pub enough-of : {form : ℕ} {c d : ℤ} {ts : List Term} → EvaluableAs form c d ts → (k : ℕ) → form ≡ k → fewest k ≤ length ts
 enough-of e k h = rw h at (e .enough)
 
 amount-same : (r : Rule) (f g : ℕ → ℤ) → ((i : ℕ) → i < length (r .terms) → f i ≡ g i) → Evaluable r → amount r f ≡ amount r g
 amount-same r f g h e =
-    seven (λ k. r .form ≡ k → amount r f ≡ amount r g)
-    (λ q. amount-sum r f q ∙ ap total (sum-same (weighted f) (weighted g) n (λ i l. ap (λ (z : ℤ). termIn ts i .number *ℤ z) (h i l))) ∙ sym (amount-sum r g q))
-    (λ q. amount-largest r f q ∙ ap total (pick-same f g larger (n - 1) (first (enough-of e 2 q))) ∙ sym (amount-largest r g q))
-    (λ q. amount-smallest r f q ∙ ap total (pick-same f g smaller (n - 1) (first (enough-of e 3 q))) ∙ sym (amount-smallest r g q))
-    (λ q. amount-product r f q ∙ ap total (ap₂ _*ℤ_ (h 0 (omega (arith, enough-of e 4 q))) (h 1 (omega (arith, enough-of e 4 q)))) ∙ sym (amount-product r g q))
-    (λ q. amount-size r f q ∙ ap (λ (z : ℤ). total (pos (natAbs z))) (h 0 (omega (arith, enough-of e 5 q))) ∙ sym (amount-size r g q))
-    (λ q. amount-literals r f q ∙ sym (amount-literals r g q))
-    (λ q. amount-carried r f q ∙ ap total (h 0 (omega (arith, enough-of e 7 q))) ∙ sym (amount-carried r g q))
-    (r .form)
+    seven (λ k. termForm (r .form) ≡ k → amount r f ≡ amount r g)
+    (λ q. amount-sum c d ts f q ∙ ap (λ (z : ℤ). overUp d (total z)) (sum-same (weighted f) (weighted g) n (λ i l. ap (λ (z : ℤ). termIn ts i .number *ℤ z) (h i l))) ∙ sym (amount-sum c d ts g q))
+    (λ q. amount-largest c d ts f q ∙ ap total (pick-same f g larger (n - 1) (first (enough-of e 2 q))) ∙ sym (amount-largest c d ts g q))
+    (λ q. amount-smallest c d ts f q ∙ ap total (pick-same f g smaller (n - 1) (first (enough-of e 3 q))) ∙ sym (amount-smallest c d ts g q))
+    (λ q. amount-product c d ts f q ∙ ap total (ap₂ _*ℤ_ (h 0 (omega (arith, enough-of e 4 q))) (h 1 (omega (arith, enough-of e 4 q)))) ∙ sym (amount-product c d ts g q))
+    (λ q. amount-size c d ts f q ∙ ap (λ (z : ℤ). total (pos (natAbs z))) (h 0 (omega (arith, enough-of e 5 q))) ∙ sym (amount-size c d ts g q))
+    (λ q. amount-literals c d ts f q ∙ sym (amount-literals c d ts g q))
+    (λ q. amount-carried c d ts f q ∙ ap total (h 0 (omega (arith, enough-of e 7 q))) ∙ sym (amount-carried c d ts g q))
+    (termForm (r .form))
     (e .from)
     (e .to)
     refl
   where
+    c : ℤ
+    c = r .c
+
+    d : ℤ
+    d = divisorOf r
+
     ts : List Term
     ts = r .terms
 
@@ -116,7 +123,7 @@ amount-same r f g h e =
     weighted at i = termIn ts i .number *ℤ at i
 
     total : ℤ → ℤ
-    total z = r .c +ℤ z
+    total z = c +ℤ z
 
     first : 1 ≤ n → (i : ℕ) → i ≤ n - 1 → f i ≡ g i
     first l i m = h i (omega arith)
@@ -138,20 +145,22 @@ promised-evaluable {vs} {r} p = record {
   from = p .form-least;
   to = p .form-most;
   near = p .c-small;
+  divisor-least = divisor-least p;
+  divisor-near = divisor-most p;
   weights = λ e i h. p .body .terms i h .coefficient-small e;
-  plain = λ e i h. p .body .terms i h .plain-op (plain-position (r .form) i (no-literals (r .form) i (p .form-least) (p .form-most) e));
+  plain = λ e i h. p .body .terms i h .plain-op (plain-position (termForm (r .form)) i (no-literals (termForm (r .form)) i (p .form-least) (p .form-most) e));
   few = p .body .count .most;
   enough = enough;
 }
   where
-    count : CountPromise (r .form) (length (r .terms))
+    count : CountPromise (termForm (r .form)) (length (r .terms))
     count = p .body .count
 
-    enough : fewest (r .form) ≤ length (r .terms)
+    enough : fewest (termForm (r .form)) ≤ length (r .terms)
     enough =
-        seven (λ k. r .form ≡ k → fewest k ≤ length (r .terms)) (λ e. omega arith) (count .max-least) (count .min-least)
+        seven (λ k. termForm (r .form) ≡ k → fewest k ≤ length (r .terms)) (λ e. omega arith) (count .max-least) (count .min-least)
         (λ e. omega (arith, count .product-two e)) (λ e. omega (arith, count .size-one e)) (λ e. omega arith) (λ e. omega (arith, count .carry-least e))
-        (r .form) (p .form-least) (p .form-most) refl
+        (termForm (r .form)) (p .form-least) (p .form-most) refl
 
 -- and a constraint too
 pub promised-satisfiable : {vs : List Variable} {k : Constraint} → ConstraintPromise vs k → Satisfiable k

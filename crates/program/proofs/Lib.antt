@@ -1,5 +1,6 @@
 pub mod Bodies
 pub mod Conditions
+pub mod Forms
 pub mod Places
 pub mod Promises
 pub mod Unique
@@ -12,6 +13,7 @@ pub mod Counting
 pub mod Tests
 pub mod Variables
 pub mod Pushes
+pub mod Quotients
 pub mod Gives
 pub mod Monotone
 pub mod Examples

@@ -12,7 +12,7 @@ use lib.Dec.{T}
 use borrow.Author.Tests.{ne-eqb}
 use Rattle.format.proofs.Int.{int, sum-is, times-pos, times-neg, times, not-negative, not-positive, abs-is}
 use Rattle.program.specs.Tables.{_⇒_, select}
-use Rattle.program.specs.Program.{Rule, variableIn, termIn}
+use Rattle.program.specs.Program.{Rule, termForm, divisorOf, variableIn, termIn}
 use Rattle.program.specs.Directions.{bySign, byRange, plainDirection, direction}
 use Rattle.program.specs.Evaluate.{sumBelow, larger, smaller, pickTo, holds, allHold, onlyIf, amount, evaluate}
 use Rattle.program.specs.Readings.{bodyVariable}
@@ -20,7 +20,8 @@ use Rattle.program.specs.declared.Direction.{Direction}
 use Rattle.program.specs.declared.Direction.the-variants.{Rising, Falling, Mixed}
 use Rattle.program.specs.declared.Given.{Given}
 use Rattle.program.specs.declared.Given.the-variants.{Nothing, Value}
-use Rattle.program.proofs.Promises.{RulePromise, plain-position, carried-position}
+use Rattle.program.proofs.Promises.{RulePromise, plain-position, carried-position, divisor-least}
+use Rattle.program.proofs.Quotients.{over-up-rises}
 use Rattle.program.proofs.Gives.{seven, amount-sum, amount-largest, amount-smallest, amount-product, amount-size, amount-literals, amount-carried}
 use Rattle.program.proofs.Pushes.{plain-sum, plain-rising, plain-size, plain-carried, term-least, term-below, direction-plain, direction-is}
 use Rattle.program.proofs.Tests.{cases, and-left, and-right, and-both}
@@ -130,23 +131,29 @@ module _ {vs : List Variable} {r : Rule} (p : RulePromise vs r) (at to : ℕ →
   -- the plain positions are moved in their directions
   abbrev pub PlainMoved : Type 0
   PlainMoved = (i : ℕ) → i < length (r .terms) → termIn (r .terms) i .op ≡ 0
-      → Moves (plainDirection (r .form) (variableIn vs (bodyVariable r i)) (termIn (r .terms) i .number)) (at i) (to i)
+      → Moves (plainDirection (termForm (r .form)) (variableIn vs (bodyVariable r i)) (termIn (r .terms) i .number)) (at i) (to i)
 
   pub amount-up : ((i : ℕ) → i < length (r .terms) → Ranged i) → PlainMoved → amount r at ≤ℤ amount r to
   amount-up w m =
-      seven (λ k. r .form ≡ k → amount r at ≤ℤ amount r to)
-      (λ q. rw (amount-sum r at q, amount-sum r to q) (total (sum-up (λ i. termIn ts i .number *ℤ at i) (λ i. termIn ts i .number *ℤ to i) n (weighed q))))
-      (λ q. rw (amount-largest r at q, amount-largest r to q) (total (pick-up at to larger-up (n - 1) (first (omega arith) (omega arith) (p .body .count .max-least q)))))
-      (λ q. rw (amount-smallest r at q, amount-smallest r to q) (total (pick-up at to smaller-up (n - 1) (first (omega arith) (omega arith) (p .body .count .min-least q)))))
-      (λ q. rw (amount-product r at q, amount-product r to q) (total (product q (omega (arith, p .body .count .product-two q)))))
-      (λ q. rw (amount-size r at q, amount-size r to q) (total (sized q)))
-      (λ q. rw (amount-literals r at q, amount-literals r to q) (≤ℤ-refl (r .c)))
-      (λ q. rw (amount-carried r at q, amount-carried r to q) (total (carried q)))
-      (r .form)
+      seven (λ k. termForm (r .form) ≡ k → amount r at ≤ℤ amount r to)
+      (λ q. rw (amount-sum c d ts at q, amount-sum c d ts to q) (over-up-rises (divisor-least p) (total (sum-up (λ i. termIn ts i .number *ℤ at i) (λ i. termIn ts i .number *ℤ to i) n (weighed q)))))
+      (λ q. rw (amount-largest c d ts at q, amount-largest c d ts to q) (total (pick-up at to larger-up (n - 1) (first (omega arith) (omega arith) (p .body .count .max-least q)))))
+      (λ q. rw (amount-smallest c d ts at q, amount-smallest c d ts to q) (total (pick-up at to smaller-up (n - 1) (first (omega arith) (omega arith) (p .body .count .min-least q)))))
+      (λ q. rw (amount-product c d ts at q, amount-product c d ts to q) (total (product q (omega (arith, p .body .count .product-two q)))))
+      (λ q. rw (amount-size c d ts at q, amount-size c d ts to q) (total (sized q)))
+      (λ q. rw (amount-literals c d ts at q, amount-literals c d ts to q) (≤ℤ-refl (r .c)))
+      (λ q. rw (amount-carried c d ts at q, amount-carried c d ts to q) (total (carried q)))
+      (termForm (r .form))
       (p .form-least)
       (p .form-most)
       refl
     where
+      c : ℤ
+      c = r .c
+
+      d : ℤ
+      d = divisorOf r
+
       ts : List Term
       ts = r .terms
 
@@ -157,38 +164,38 @@ module _ {vs : List Variable} {r : Rule} (p : RulePromise vs r) (at to : ℕ →
       total {a} {b} h = plus-up (r .c) a b h
 
       -- a position of a form without literals
-      moved : r .form ≤ 5 → (i : ℕ) → i < n → Moves (plainDirection (r .form) (variableIn vs (bodyVariable r i)) (termIn ts i .number)) (at i) (to i)
-      moved h i l = m i l (p .body .terms i l .plain-op (plain-position (r .form) i h))
+      moved : termForm (r .form) ≤ 5 → (i : ℕ) → i < n → Moves (plainDirection (termForm (r .form)) (variableIn vs (bodyVariable r i)) (termIn ts i .number)) (at i) (to i)
+      moved h i l = m i l (p .body .terms i l .plain-op (plain-position (termForm (r .form)) i h))
 
-      weighed : r .form ≡ 1 → (i : ℕ) → i < n → (termIn ts i .number *ℤ at i) ≤ℤ (termIn ts i .number *ℤ to i)
-      weighed q i l = weight-up (termIn ts i .number) (at i) (to i) (rw (← plain-sum (r .form) (variableIn vs (bodyVariable r i)) (termIn ts i .number) q) at (moved (omega arith) i l))
+      weighed : termForm (r .form) ≡ 1 → (i : ℕ) → i < n → (termIn ts i .number *ℤ at i) ≤ℤ (termIn ts i .number *ℤ to i)
+      weighed q i l = weight-up (termIn ts i .number) (at i) (to i) (rw (← plain-sum (termForm (r .form)) (variableIn vs (bodyVariable r i)) (termIn ts i .number) q) at (moved (omega arith) i l))
 
-      rising : 2 ≤ r .form → r .form ≤ 4 → (i : ℕ) → i < n → at i ≤ℤ to i
-      rising h k i l = rw (← plain-rising (r .form) (variableIn vs (bodyVariable r i)) (termIn ts i .number) h k) at (moved (omega arith) i l)
+      rising : 2 ≤ termForm (r .form) → termForm (r .form) ≤ 4 → (i : ℕ) → i < n → at i ≤ℤ to i
+      rising h k i l = rw (← plain-rising (termForm (r .form)) (variableIn vs (bodyVariable r i)) (termIn ts i .number) h k) at (moved (omega arith) i l)
 
-      first : 2 ≤ r .form → r .form ≤ 4 → 1 ≤ n → (i : ℕ) → i ≤ n - 1 → at i ≤ℤ to i
+      first : 2 ≤ termForm (r .form) → termForm (r .form) ≤ 4 → 1 ≤ n → (i : ℕ) → i ≤ n - 1 → at i ≤ℤ to i
       first h k l i j = rising h k i (omega arith)
 
-      low : r .form ≡ 4 → (i : ℕ) → i < n → pos 0 ≤ℤ at i
+      low : termForm (r .form) ≡ 4 → (i : ℕ) → i < n → pos 0 ≤ℤ at i
       low q i l = let a = p .body .terms i l .product-order q in let b = w i l .first .low in omega int
 
-      product : r .form ≡ 4 → 2 ≤ n → (at 0 *ℤ at 1) ≤ℤ (to 0 *ℤ to 1)
+      product : termForm (r .form) ≡ 4 → 2 ≤ n → (at 0 *ℤ at 1) ≤ℤ (to 0 *ℤ to 1)
       product q l =
           let a : 0 < n = omega arith in
           let b : 1 < n = omega arith in
           times (low q 0 a) (rising (omega arith) (omega arith) 0 a) (low q 1 b) (rising (omega arith) (omega arith) 1 b)
 
-      sized : r .form ≡ 5 → pos (natAbs (at 0)) ≤ℤ pos (natAbs (to 0))
+      sized : termForm (r .form) ≡ 5 → pos (natAbs (at 0)) ≤ℤ pos (natAbs (to 0))
       sized q =
           let l : 0 < n = omega (arith, p .body .count .size-one q) in
           size-up (variableIn vs (bodyVariable r 0)) (at 0) (to 0) (w 0 l .first) (w 0 l .second)
-          (rw (← plain-size (r .form) (variableIn vs (bodyVariable r 0)) (termIn ts 0 .number) q) at (moved (omega arith) 0 l))
+          (rw (← plain-size (termForm (r .form)) (variableIn vs (bodyVariable r 0)) (termIn ts 0 .number) q) at (moved (omega arith) 0 l))
 
-      carried : r .form ≡ 7 → at 0 ≤ℤ to 0
+      carried : termForm (r .form) ≡ 7 → at 0 ≤ℤ to 0
       carried q =
           let l : 0 < n = omega (arith, p .body .count .carry-least q) in
-          rw (← plain-carried (r .form) (variableIn vs (bodyVariable r 0)) (termIn ts 0 .number) q)
-          at (m 0 l (p .body .terms 0 l .plain-op (carried-position (r .form) 0 q refl)))
+          rw (← plain-carried (termForm (r .form)) (variableIn vs (bodyVariable r 0)) (termIn ts 0 .number) q)
+          at (m 0 l (p .body .terms 0 l .plain-op (carried-position (termForm (r .form)) 0 q refl)))
 
 -- ---- what the rule gives
 
@@ -200,8 +207,8 @@ only-if-up false t f h = tt
 module _ {vs : List Variable} {r : Rule} (p : RulePromise vs r) (at to : ℕ → ℤ) where
   eased : (i : ℕ) → Moves (direction vs r i) (at i) (to i) → Eases (termIn (r .terms) i) (at i) (to i)
   eased i m = record {
-    least = λ e. rw (← direction-is vs r i refl refl, ← term-least (r .form) (variableIn vs (bodyVariable r i)) (termIn (r .terms) i) e) at m;
-    below = λ e. rw (← direction-is vs r i refl refl, ← term-below (r .form) (variableIn vs (bodyVariable r i)) (termIn (r .terms) i) e) at m;
+    least = λ e. rw (← direction-is vs r i refl refl, ← term-least (termForm (r .form)) (variableIn vs (bodyVariable r i)) (termIn (r .terms) i) e) at m;
+    below = λ e. rw (← direction-is vs r i refl refl, ← term-below (termForm (r .form)) (variableIn vs (bodyVariable r i)) (termIn (r .terms) i) e) at m;
   }
 
   -- every position moved in its direction: the first reading gives no more than the second

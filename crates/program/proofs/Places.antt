@@ -12,10 +12,9 @@ use borrow.Author.Tests.{ltb-false, leb-true, leb-false, eqb-true, not-false}
 use Rattle.format.specs.Limits.{maxFile, maxVariables, maxRules, maxConstraints, maxTerms}
 use Rattle.program.specs.Tables.{Condition, _when_, firstOf}
 use Rattle.program.specs.Fields.{tagAt, lengthAt, valueAt, nextAt, place, tagBefore}
-use Rattle.program.specs.Program.{Program, Item, variable, rule, constraint, none, variableOf, ruleOf, constraintOf, termsOf, with, itemOf, item, program, variableIn, ruleIn, constraintIn, noVariable, noRule, noConstraint, variablesAt}
+use Rattle.program.specs.Program.{Program, Item, variable, rule, constraint, none, variableOf, ruleOf, constraintOf, with, itemOf, item, program, divisorTerms, variableIn, ruleIn, constraintIn, noVariable, noRule, noConstraint, variablesAt}
 use Rattle.program.specs.Refusals.{cutShort, unknownTag, tagBelow, oneTooMany, notTerms, wrongLength, undeclared, negativeProduct, itemRefusal, valueRefusal, fieldRefusal}
 use Rattle.program.specs.Reading.{Passed, RuleField}
-use Rattle.program.proofs.Bodies.{terms-length}
 use Rattle.program.proofs.Conditions.{neither, both, none-first, some-below, last-or}
 use Rattle.program.specs.declared.Variable.{Variable}
 
@@ -86,7 +85,7 @@ pub record Fine (s : List ℕ) (j : ℕ) : Type 0 where
   pub ascends : tagBefore s j ≤ tagAt s (place s j)
   pub room : oneTooMany (program s j) (tagAt s (place s j)) ≡ false
   pub length-is : length (valueAt s (place s j)) ≡ lengthAt s (place s j)
-  pub sized : wrongLength (tagAt s (place s j)) (lengthAt s (place s j)) ≡ false
+  pub sized : wrongLength (tagAt s (place s j)) (valueAt s (place s j)) ≡ false
   pub meant : itemRefusal (program s j .variables) (item s j) ≡ 0
 
 -- a field that is not cut short ends within the file
@@ -113,7 +112,7 @@ conditions P before tag v =
     (3 when unknownTag tag)
     ∷ (4 when tagBelow before tag)
     ∷ (5 when oneTooMany P tag)
-    ∷ (6 when wrongLength tag (length v))
+    ∷ (6 when wrongLength tag v)
     ∷ (itemRefusal (P .variables) (itemOf tag v) when true)
     ∷ []
 
@@ -136,7 +135,7 @@ fine-field s j e =
       ascends = tag-above (tagBefore s j) (tagAt s at) (above .0);
       room = room .0;
       length-is = value-length s at inside;
-      sized = ap (wrongLength (tagAt s at)) (sym (value-length s at inside)) ∙ sized .0;
+      sized = sized .0;
       meant = sized .1;
     }
 
@@ -149,30 +148,42 @@ passed-inside {s} (suc k) p = rw (place-suc s k) (passed-fine p k (omega arith) 
 
 -- ---- the three kinds of field
 
--- a value of `header` bytes and some terms
-pub record Sized (header len : ℕ) : Type 0 where
+-- a value of `header` bytes and some terms, at most so many
+pub record Sized (header most len : ℕ) : Type 0 where
   pub terms : ℕ
-  pub few : terms ≤ maxTerms
+  pub few : terms ≤ most
   pub length-is : len ≡ header + 4 * terms
 
-pub sized-terms : (header len : ℕ) → notTerms header len ≡ false → Sized header len
+pub sized-terms : (header most len : ℕ) → notTerms header most len ≡ false → Sized header most len
 unfolding notTerms
-sized-terms header len e =
-    let r = some-below (maxTerms + 1) (λ n. eqb len (header + 4 * n)) (not-false _ e) in
+sized-terms header most len e =
+    let r = some-below (most + 1) (λ n. eqb len (header + 4 * n)) (not-false _ e) in
     record { terms = r .0; few = omega arith; length-is = eqb-true len (header + 4 * r .0) (r .2) }
 
-module _ (tag len : ℕ) (e : wrongLength tag len ≡ false) where
-  pub variable-sized : tag ≡ 1 → len ≡ 5
+module _ (tag : ℕ) (v : List ℕ) (e : wrongLength tag v ≡ false) where
+  pub variable-sized : tag ≡ 1 → length v ≡ 5
   unfolding wrongLength
-  variable-sized h = eqb-true len 5 (not-false (eqb len 5) (rw h at e))
+  variable-sized h = eqb-true (length v) 5 (not-false (eqb (length v) 5) (rw h at e))
 
-  pub rule-sized : tag ≡ 2 → Sized 4 len
+  pub rule-sized : tag ≡ 2 → Sized 4 (divisorTerms (getD v 0 0) + maxTerms) (length v)
   unfolding wrongLength
-  rule-sized h = sized-terms 4 len (rw h at e)
+  rule-sized h = sized-terms 4 (divisorTerms (getD v 0 0) + maxTerms) (length v) (rw h at e)
 
-  pub constraint-sized : tag ≡ 3 → Sized 3 len
+  pub constraint-sized : tag ≡ 3 → Sized 3 maxTerms (length v)
   unfolding wrongLength
-  constraint-sized h = sized-terms 3 len (rw h at e)
+  constraint-sized h = sized-terms 3 maxTerms (length v) (rw h at e)
+
+-- the length of a field
+module _ {s : List ℕ} {j : ℕ} (f : Fine s j) where
+  pub variable-length : tagAt s (place s j) ≡ 1 → lengthAt s (place s j) ≡ 5
+  variable-length h = sym (f .length-is) ∙ variable-sized _ _ (f .sized) h
+
+  -- there is room for the header of a rule, of a constraint
+  pub rule-header : tagAt s (place s j) ≡ 2 → 4 ≤ lengthAt s (place s j)
+  rule-header h = omega (arith, f .length-is, rule-sized _ _ (f .sized) h .length-is)
+
+  pub constraint-header : tagAt s (place s j) ≡ 3 → 3 ≤ lengthAt s (place s j)
+  constraint-header h = omega (arith, f .length-is, constraint-sized _ _ (f .sized) h .length-is)
 
 module _ (P : Program) (tag : ℕ) (e : oneTooMany P tag ≡ false) where
   pub variable-room : tag ≡ 1 → length (P .variables) < maxVariables
@@ -310,7 +321,7 @@ pub record NextVariable (s : List ℕ) (k : ℕ) : Type 0 where
 
 pub record NextRule (s : List ℕ) (k : ℕ) : Type 0 where
   pub tagged : tagAt s (place s k) ≡ 2
-  pub sized : Sized 4 (lengthAt s (place s k))
+  pub sized : Sized 4 (divisorTerms (getD (valueAt s (place s k)) 0 0) + maxTerms) (length (valueAt s (place s k)))
   pub means : program s (suc k) ≡ with (program s k) (rule (ruleOf (valueAt s (place s k))))
   pub no-constraint : constraintsTo s k ≡ 0
   pub rules-more : rulesTo s (suc k) ≡ suc (rulesTo s k)
@@ -318,7 +329,7 @@ pub record NextRule (s : List ℕ) (k : ℕ) : Type 0 where
 
 pub record NextConstraint (s : List ℕ) (k : ℕ) : Type 0 where
   pub tagged : tagAt s (place s k) ≡ 3
-  pub sized : Sized 3 (lengthAt s (place s k))
+  pub sized : Sized 3 maxTerms (length (valueAt s (place s k)))
   pub means : program s (suc k) ≡ with (program s k) (constraint (constraintOf (valueAt s (place s k))))
   pub constraints-more : constraintsTo s (suc k) ≡ suc (constraintsTo s k)
   pub number : k ≡ variablesTo s k + rulesTo s k + constraintsTo s k
@@ -335,7 +346,7 @@ module _ {s : List ℕ} {k : ℕ} (o : Sorted s k) (f : Fine s k) where
       let q : constraintsTo s k ≡ 0 = o .no-constraint (omega arith) in
       record {
         tagged = h;
-        takes = variable-sized _ _ (f .sized) h;
+        takes = variable-length f h;
         means = one-variable s k h;
         no-rule = r;
         no-constraint = q;
@@ -652,7 +663,7 @@ variable-stands {s} {k} {x} p h =
     let t = v .tagged x h in
     let at = v .placed x (omega arith) in
     let is = ap (λ (vs : List Variable). variableIn vs x) (v .are) ∙ variable-at s (variablesTo s k) x h in
-    let same = variable-value s (place s x) (variable-sized _ _ (f .sized) t) ∙ ap (λ (i : ℕ). variableOf (drop (i + 3) s)) at in
+    let same = variable-value s (place s x) (variable-length f t) ∙ ap (λ (i : ℕ). variableOf (drop (i + 3) s)) at in
     record {
       before = omega arith;
       tagged = t;
@@ -662,24 +673,3 @@ variable-stands {s} {k} {x} p h =
       fine = ap (λ (y : Variable). itemRefusal (program s k .variables) (variable y)) (is ∙ sym same)
           ∙ alone (program s k .variables) (program s x .variables) _ ∙ meant-as f t;
     }
-
--- ---- the length of a field
-
-pub record Length (header len terms : ℕ) : Type 0 where
-  pub few : terms ≤ maxTerms
-  pub are : len ≡ header + 4 * terms
-
-length-of : (header len : ℕ) (v : List ℕ) → length v ≡ len → Sized header len → Length header len (length (termsOf (drop header v)))
-length-of header len v l z =
-    let e : length (termsOf (drop header v)) ≡ z .terms = terms-length (drop header v) ∙ rw (length-drop, l, z .length-is) (omega arith) in
-    omega arith
-
-module _ {s : List ℕ} {j : ℕ} (f : Fine s j) where
-  pub variable-length : tagAt s (place s j) ≡ 1 → lengthAt s (place s j) ≡ 5
-  variable-length h = variable-sized _ _ (f .sized) h
-
-  pub rule-length : tagAt s (place s j) ≡ 2 → Length 4 (lengthAt s (place s j)) (length (ruleOf (valueAt s (place s j)) .terms))
-  rule-length h = length-of 4 _ (valueAt s (place s j)) (f .length-is) (rule-sized _ _ (f .sized) h)
-
-  pub constraint-length : tagAt s (place s j) ≡ 3 → Length 3 (lengthAt s (place s j)) (length (constraintOf (valueAt s (place s j)) .terms))
-  constraint-length h = length-of 3 _ (valueAt s (place s j)) (f .length-is) (constraint-sized _ _ (f .sized) h)

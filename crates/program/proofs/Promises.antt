@@ -2,20 +2,22 @@
 use Prim.Native.Nat.{ℕ, zero, suc, _<_, _≤_}
 use mathlib.Core.Path.{_≡_, refl, sym, ap, subst}
 use mathlib.Core.Logic.{_≢_}
-use mathlib.Core.List.{List, []}
+use mathlib.Core.List.{List, [], _∷_}
 use mathlib.Core.Bool.{Bool, true, false, not, _||_, _&&_}
 use native.Mathlib.Omega.{arith}
 use lib.IntN.{ℤ, pos, negsuc, natAbs}
 use lib.Signed.{ltZ, _≤ℤ_, ltZ-no}
-use lib.ListN.{length, drop}
+use lib.ListN.{length, getD, drop}
 use lib.Dec.{T, eqb, leb, ltb}
 use borrow.Author.Tests.{ltb-false, leb-true, leb-false, eqb-true, eqb-false, eq-eqb, ne-eqb, not-false}
-use Rattle.format.specs.Limits.{maxTerms, maxNumber, maxCoefficient}
+use Rattle.format.specs.Limits.{maxTerms, maxNumber, maxCoefficient, maxDivisor}
 use Rattle.format.specs.Numbers.{beyond}
+use Rattle.format.proofs.Int.{int, abs-is, not-negative}
 use Rattle.format.proofs.Ints.{within-small}
-use Rattle.program.specs.Program.{Rule, Constraint, Program, Item, variable, rule, constraint, constraintIn, program, variableIn, ruleIn, termIn}
-use Rattle.program.specs.Refusals.{bodyForm, anyTerm, literalPosition, wrongOp, mustBeZero, wrongTerm, unknownForm, wrongConstraint, wrongForm, outsideTerm, outsideRange, undeclaredTerm, wrongHead, undeclared, notFrom, wrongCountOf, wrongCount, repeatedTerm, variableTwice, negativeTerm, negativeProduct, itemConditions, itemRefusal}
+use Rattle.program.specs.Program.{Rule, Constraint, Program, Item, variable, rule, constraint, constraintIn, program, divisorTerms, termForm, byOne, divisorOf, variableIn, ruleIn, termIn}
+use Rattle.program.specs.Refusals.{bodyForm, anyTerm, literalPosition, wrongOp, mustBeZero, wrongTerm, unknownForm, wrongDivisor, wrongConstraint, wrongForm, outsideTerm, outsideDivisor, outsideRange, undeclaredTerm, wrongHead, undeclared, notFrom, wrongCountOf, wrongDivisors, wrongCount, repeatedTerm, variableTwice, negativeTerm, negativeProduct, itemConditions, itemRefusal}
 use Rattle.program.specs.Reading.{Passed, Accepts}
+use Rattle.program.proofs.Forms.{read-as-known}
 use Rattle.program.proofs.Conditions.{never, neither, both, none-first, none-below, below-none}
 use Rattle.program.proofs.Places.{variablesTo, rulesTo, constraintsTo, variable-stands, rule-at, constraint-at}
 use Rattle.program.specs.Variables.{isFounded}
@@ -192,36 +194,89 @@ body-promised {vs} {form} {ts} h k f =
 
 -- ---- rules
 
+-- the divisor's term
+pub record DivisorPromise (t : Term) : Type 0 where
+  pub no-variable : t .variable ≡ 0
+  pub divisor-op : t .op ≡ 3
+  pub from-one : pos 1 ≤ℤ t .number
+  pub small : natAbs (t .number) ≤ maxDivisor
+
 pub record RulePromise (vs : List Variable) (r : Rule) : Type 0 where
-  pub form-least : 1 ≤ r .form
-  pub form-most : r .form ≤ 7
+  pub form-least : 1 ≤ termForm (r .form)
+  pub form-most : termForm (r .form) ≤ 7
+  pub form-byte : r .form ≤ 8
   pub head-declared : r .head < length vs
   pub head-founded : isFounded (variableIn vs (r .head)) ≡ true
   pub c-small : natAbs (r .c) ≤ maxNumber
-  pub body : BodyPromise vs (r .form) (r .terms)
+  pub divided : length (r .divisor) ≡ divisorTerms (r .form)
+  pub divisor : (i : ℕ) → i < length (r .divisor) → DivisorPromise (termIn (r .divisor) i)
+  pub body : BodyPromise vs (termForm (r .form)) (r .terms)
 
-known-form : (form : ℕ) → unknownForm form ≡ false → (1 ≤ form) × (form ≤ 7)
+known-form : (form : ℕ) → unknownForm form ≡ false → (1 ≤ form) × (form ≤ 8)
 unfolding unknownForm
 known-form form e =
-    let b = both (leb 1 form) (leb form 7) (not-false (leb 1 form && leb form 7) e) in
-    (leb-true 1 form (b .0), leb-true form 7 (b .1))
+    let b = both (leb 1 form) (leb form 8) (not-false (leb 1 form && leb form 8) e) in
+    (leb-true 1 form (b .0), leb-true form 8 (b .1))
+
+-- the divisor's term, where it meets no refusal
+divisor-promised : (t : Term) → wrongDivisor t ≡ false → outsideDivisor t ≡ false → DivisorPromise t
+unfolding wrongDivisor outsideDivisor
+divisor-promised t w o =
+    let a = both (eqb (t .variable) 0) (eqb (t .op) 3) (not-false (eqb (t .variable) 0 && eqb (t .op) 3) w) in
+    let b = neither (ltZ (t .number) (pos 1)) (ltZ (pos maxDivisor) (t .number)) o in
+    let l : pos 1 ≤ℤ t .number = not-below (b .0) in
+    let m : t .number ≤ℤ pos maxDivisor = not-below (b .1) in
+    record {
+      no-variable = eqb-true (t .variable) 0 (a .0);
+      divisor-op = eqb-true (t .op) 3 (a .1);
+      from-one = l;
+      small = omega (int, abs-is (t .number), not-negative {z = t .number} (omega int));
+    }
+
+divided-as : (r : Rule) → wrongDivisors r ≡ false → length (r .divisor) ≡ divisorTerms (r .form)
+unfolding wrongDivisors
+divided-as r e = eqb-true (length (r .divisor)) (divisorTerms (r .form)) (not-false _ e)
+
+-- a rule is over a number from 1 on
+pub divisor-least : {vs : List Variable} {r : Rule} → RulePromise vs r → pos 1 ≤ℤ divisorOf r
+divisor-least {r = r} p = go (r .divisor) (p .divisor)
+  where
+    go : (ts : List Term) → ((i : ℕ) → i < length ts → DivisorPromise (termIn ts i)) → pos 1 ≤ℤ getD ts 0 byOne .number
+    go [] h = omega int
+    go (t ∷ ts) h = h 0 (omega arith) .from-one
+
+pub divisor-most : {vs : List Variable} {r : Rule} → RulePromise vs r → natAbs (divisorOf r) ≤ maxDivisor
+divisor-most {r = r} p = go (r .divisor) (p .divisor)
+  where
+    go : (ts : List Term) → ((i : ℕ) → i < length ts → DivisorPromise (termIn ts i)) → natAbs (getD ts 0 byOne .number) ≤ maxDivisor
+    go [] h = omega arith
+    go (t ∷ ts) h = h 0 (omega arith) .small
 
 pub rule-promised : (vs : List Variable) (r : Rule) → itemRefusal vs (rule r) ≡ 0 → RulePromise vs r
 unfolding wrongForm outsideRange undeclared wrongHead wrongCount variableTwice negativeProduct
 rule-promised vs r e =
     let f = item-fine vs (rule r) e in
-    let a = neither (unknownForm (r .form)) (anyTerm (r .terms) (wrongTerm (r .form))) (f .formed) in
-    let b = neither (beyond maxNumber (r .c)) (anyTerm (r .terms) (outsideTerm (r .form))) (f .ranged) in
+    let form = termForm (r .form) in
+    let n = length (r .divisor) in
+    let a = neither (unknownForm (r .form) || anyTerm (r .divisor) (λ i t. wrongDivisor t)) (anyTerm (r .terms) (wrongTerm form)) (f .formed) in
+    let own = neither (unknownForm (r .form)) (anyTerm (r .divisor) (λ i t. wrongDivisor t)) (a .0) in
+    let b = neither (beyond maxNumber (r .c) || anyTerm (r .divisor) (λ i t. outsideDivisor t)) (anyTerm (r .terms) (outsideTerm form)) (f .ranged) in
+    let near = neither (beyond maxNumber (r .c)) (anyTerm (r .divisor) (λ i t. outsideDivisor t)) (b .0) in
+    let k = neither (wrongDivisors r) (wrongCountOf form (length (r .terms))) (f .counted) in
     let d = neither (wrongHead vs (r .head)) (anyTerm (r .terms) (λ i t. undeclaredTerm vs t)) (f .declared) in
     let g = neither (leb (length vs) (r .head)) (not (isFounded (variableIn vs (r .head)))) (d .0) in
-    let form = known-form (r .form) (a .0) in
+    let known = known-form (r .form) (own .0) in
+    let read-as = read-as-known (r .form) (known .0) (known .1) in
     record {
-      form-least = form .0;
-      form-most = form .1;
+      form-least = read-as .0;
+      form-most = read-as .1;
+      form-byte = known .1;
       head-declared = leb-false (length vs) (r .head) (g .0);
       head-founded = not-false (isFounded (variableIn vs (r .head))) (g .1);
-      c-small = within-small maxNumber (r .c) (b .0);
-      body = body-promised (form .0) (form .1) (record { formed = a .1; ranged = b .1; declared = d .1; counted = f .counted; once = f .once; product = f .product });
+      c-small = within-small maxNumber (r .c) (near .0);
+      divided = divided-as r (k .0);
+      divisor = λ i l. divisor-promised (termIn (r .divisor) i) (none-below n _ (own .1) i l) (none-below n _ (near .1) i l);
+      body = body-promised (read-as .0) (read-as .1) (record { formed = a .1; ranged = b .1; declared = d .1; counted = k .1; once = f .once; product = f .product });
     }
 
 -- ---- constraints

@@ -7,7 +7,7 @@ use native.Mathlib.Omega.{arith}
 use lib.Dec.{eqb}
 use lib.IntN.{ℤ}
 use borrow.Author.Tests.{ne-eqb, eqb-true, eqb-false}
-use Rattle.program.specs.Program.{Rule, variableIn, termIn}
+use Rattle.program.specs.Program.{Rule, termForm, variableIn, termIn}
 use Rattle.program.specs.Directions.{direction, termDirection, plainDirection, bySign, byRange}
 use Rattle.program.specs.declared.Variable.{Variable}
 use Rattle.program.specs.declared.Term.{Term}
@@ -91,11 +91,11 @@ module _ (form : ℕ) (x : Variable) (t : Term) where
 -- ---- a position
 
 module _ (vs : List Variable) (r : Rule) (i : ℕ) where
-  pub direction-is : {x : Variable} {t : Term} → t ≡ termIn (r .terms) i → x ≡ variableIn vs (t .variable) → termDirection (r .form) x t ≡ direction vs r i
+  pub direction-is : {x : Variable} {t : Term} → t ≡ termIn (r .terms) i → x ≡ variableIn vs (t .variable) → termDirection (termForm (r .form)) x t ≡ direction vs r i
   unfolding direction
   direction-is p q = rw (q, p)
 
   pub direction-plain : termIn (r .terms) i .op ≡ 0
-      → plainDirection (r .form) (variableIn vs (termIn (r .terms) i .variable)) (termIn (r .terms) i .number) ≡ direction vs r i
+      → plainDirection (termForm (r .form)) (variableIn vs (termIn (r .terms) i .variable)) (termIn (r .terms) i .number) ≡ direction vs r i
   unfolding direction
-  direction-plain h = term-plain (r .form) _ _ h
+  direction-plain h = term-plain (termForm (r .form)) _ _ h

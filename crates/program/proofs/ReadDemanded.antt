@@ -46,7 +46,7 @@ value-number P before tag v =
     ((3 when unknownTag tag)
     ∷ (4 when tagBelow before tag)
     ∷ (5 when oneTooMany P tag)
-    ∷ (6 when wrongLength tag (length v))
+    ∷ (6 when wrongLength tag v)
     ∷ (last when true)
     ∷ [])
     (and-both (ofField last) true (item-number _ _) tt)

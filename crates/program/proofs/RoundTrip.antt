@@ -12,13 +12,13 @@ use lib.Seq.{take-add, take-all, take-append-seam, append-snoc, drop-append-add,
 use Rattle.format.specs.Limits.{maxFile, maxVariables, maxRules, maxConstraints, maxTerms}
 use Rattle.format.specs.Numbers.{bytesOf}
 use Rattle.program.specs.Fields.{tagAt, lengthAt, valueAt, nextAt, place, tagBefore}
-use Rattle.program.specs.Program.{Rule, Constraint, Program, Item, variable, rule, constraint, with, itemOf, program, noVariable, noRule, noConstraint}
+use Rattle.program.specs.Program.{Rule, Constraint, Program, Item, variable, rule, constraint, with, itemOf, program, divisorTerms, noVariable, noRule, noConstraint}
 use Rattle.program.specs.Refusals.{cutShort, unknownTag, tagBelow, oneTooMany, wrongLength, notTerms, itemRefusal, valueRefusal, fieldRefusal}
 use Rattle.program.specs.Components.{Valid}
 use Rattle.program.specs.Reading.{Passed, Whole, Accepts}
 use Rattle.program.specs.Encode.{each, fieldBytes, variableBytes, ruleBytes, constraintBytes, encode, Bytes, All, Proper}
 use Rattle.program.proofs.Places.{Fine, Next, a-variable, a-rule, a-constraint, next-of, alone, length-snoc, place-start, program-start, before-start, place-next, program-next, before-next, place-suc, value-length, passed-less, passed-none, passed-more, passed-fine, counts, variable-stands, rule-at, constraint-at}
-use Rattle.program.proofs.Encoding.{variableValue, ruleValue, constraintValue, front, variable-written, rule-written, constraint-written, body-small, variable-read, rule-read, constraint-read, terms-size, value-bytes, bytes-each, bytes-append, all-of, all-map, variable-bytes, rule-bytes, constraint-bytes}
+use Rattle.program.proofs.Encoding.{variableValue, ruleValue, constraintValue, front, variable-written, rule-written, constraint-written, divisor-small, body-small, variable-read, rule-read, constraint-read, terms-size, rule-size, value-bytes, bytes-each, bytes-append, all-of, all-map, variable-bytes, rule-bytes, constraint-bytes}
 use Rattle.program.proofs.Promises.{variable-promised, rule-promised, constraint-promised}
 use Rattle.program.proofs.Conditions.{below-some}
 use Rattle.program.specs.declared.Variable.{Variable}
@@ -82,11 +82,11 @@ module _ (s : List ℕ) (k : ℕ) where
   next-written b f (a-rule x) =
       one-written
       (ap encode (x .means) ∙ encode-rule (program s k) _ (x .no-constraint))
-      (rule-written (valueAt s (place s k)) (value-bytes s (place s k) b) (x .sized .terms) (f .length-is ∙ x .sized .length-is)) (x .tagged)
+      (rule-written (valueAt s (place s k)) (value-bytes s (place s k) b) (x .sized .terms) (x .sized .length-is)) (x .tagged)
   next-written b f (a-constraint x) =
       one-written
       (ap encode (x .means) ∙ encode-constraint (program s k) _)
-      (constraint-written (valueAt s (place s k)) (value-bytes s (place s k) b) (x .sized .terms) (f .length-is ∙ x .sized .length-is)) (x .tagged)
+      (constraint-written (valueAt s (place s k)) (value-bytes s (place s k) b) (x .sized .terms) (x .sized .length-is)) (x .tagged)
 
 pub passed-encoded : {s : List ℕ} → Bytes s → (k : ℕ) → Passed s k → take (place s k) s ≡ encode (program s k)
 unfolding place program encode
@@ -164,7 +164,7 @@ record Fits (Q : Program) (tag : ℕ) (v : List ℕ) (it : Item) : Type 0 where
   tag-least : 1 ≤ tag
   tag-most : tag ≤ 3
   room : oneTooMany Q tag ≡ false
-  sized : wrongLength tag (length v) ≡ false
+  sized : wrongLength tag v ≡ false
   means : itemOf tag v ≡ it
   fine : itemRefusal (Q .variables) it ≡ 0
 
@@ -199,9 +199,9 @@ step {s} {v} {rest} {tag} {Q} {it} r f =
     }
 
 -- a right length
-right-length : (header len n : ℕ) → n ≤ maxTerms → len ≡ header + 4 * n → notTerms header len ≡ false
+right-length : (header most len n : ℕ) → n ≤ most → len ≡ header + 4 * n → notTerms header most len ≡ false
 unfolding notTerms
-right-length header len n h e = rw (below-some (maxTerms + 1) (λ i. eqb len (header + 4 * i)) n (omega arith) (eq-eqb len (header + 4 * n) e))
+right-length header most len n h e = rw (below-some (most + 1) (λ i. eqb len (header + 4 * i)) n (omega arith) (eq-eqb len (header + 4 * n) e))
 
 module _ (Q : Program) where
   fits-variable : (x : Variable) → itemRefusal (Q .variables) (variable x) ≡ 0 → length (Q .variables) < maxVariables → Fits Q 1 (variableValue x) (variable x)
@@ -225,8 +225,9 @@ module _ (Q : Program) where
         tag-least = omega arith;
         tag-most = omega arith;
         room = lt-leb maxRules (length (Q .rules)) h;
-        sized = right-length 4 (length (ruleValue r)) (length (r .terms)) (p .body .count .most) (omega (arith, terms-size (r .terms)));
-        means = ap rule (rule-read r (p .c-small) (body-small (p .body)));
+        sized = right-length 4 (divisorTerms (r .form) + maxTerms) (length (ruleValue r)) (length (r .divisor) + length (r .terms))
+            (omega (arith, p .divided, p .body .count .most)) (rule-size r);
+        means = ap rule (rule-read r (p .c-small) (p .divided) (divisor-small (r .divisor) (p .divisor)) (body-small (p .body)));
         fine = e;
       }
 
@@ -239,7 +240,7 @@ module _ (Q : Program) where
         tag-least = omega arith;
         tag-most = omega arith;
         room = lt-leb maxConstraints (length (Q .constraints)) h;
-        sized = right-length 3 (length (constraintValue k)) (length (k .terms)) (p .body .count .most) (omega (arith, terms-size (k .terms)));
+        sized = right-length 3 maxTerms (length (constraintValue k)) (length (k .terms)) (p .body .count .most) (omega (arith, terms-size (k .terms)));
         means = ap constraint (constraint-read k (p .c-small) (body-small (p .body)));
         fine = e;
       }

@@ -6,7 +6,7 @@ use mathlib.Core.Bool.{Bool, true, false, cond}
 use lib.IntN.{ℤ, pos}
 use lib.Signed.{leZ, ltZ}
 use Rattle.program.specs.Tables.{_⇒_, select}
-use Rattle.program.specs.Program.{Rule, variableIn, termIn}
+use Rattle.program.specs.Program.{Rule, termForm, variableIn, termIn}
 use Rattle.program.specs.declared.Direction.{Direction}
 use Rattle.program.specs.declared.Variable.{Variable}
 use Rattle.program.specs.declared.Term.{Term}
@@ -39,7 +39,7 @@ termDirection form x t = select (t .op) ((0 ⇒ plainDirection form x (t .number
 
 -- the direction of position i of a rule, vs being the program's variables
 unfoldable pub direction : List Variable → Rule → ℕ → Direction
-direction vs r i = let t = termIn (r .terms) i in termDirection (r .form) (variableIn vs (t .variable)) t
+direction vs r i = let t = termIn (r .terms) i in termDirection (termForm (r .form)) (variableIn vs (t .variable)) t
 
 abbrev pub isRising : Direction → Bool
 isRising Rising = true

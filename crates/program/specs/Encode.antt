@@ -26,7 +26,7 @@ abbrev pub variableBytes : Variable → List ℕ
 variableBytes x = fieldBytes 1 (x .kind ∷ bytesOf (x .low) ++ bytesOf (x .high))
 
 abbrev pub ruleBytes : Rule → List ℕ
-ruleBytes r = fieldBytes 2 (r .form ∷ r .head ∷ bytesOf (r .c) ++ each termBytes (r .terms))
+ruleBytes r = fieldBytes 2 (r .form ∷ r .head ∷ bytesOf (r .c) ++ (each termBytes (r .divisor) ++ each termBytes (r .terms)))
 
 abbrev pub constraintBytes : Constraint → List ℕ
 constraintBytes k = fieldBytes 3 (k .form ∷ bytesOf (k .c) ++ each termBytes (k .terms))

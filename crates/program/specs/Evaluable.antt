@@ -3,11 +3,12 @@ use Prim.Native.Nat.{ℕ, _<_, _≤_}
 use mathlib.Core.Path.{_≡_}
 use mathlib.Core.List.{List, [], _∷_}
 use mathlib.Core.Bool.{Bool, true, false}
-use lib.IntN.{ℤ, natAbs}
+use lib.IntN.{ℤ, pos, natAbs}
+use lib.Signed.{_≤ℤ_}
 use lib.ListN.{length}
-use Rattle.format.specs.Limits.{maxTerms, maxNumber, maxCoefficient}
+use Rattle.format.specs.Limits.{maxTerms, maxNumber, maxCoefficient, maxDivisor}
 use Rattle.program.specs.Tables.{_⇒_, select}
-use Rattle.program.specs.Program.{Rule, Constraint, termIn}
+use Rattle.program.specs.Program.{Rule, Constraint, termForm, divisorOf, termIn}
 use Rattle.program.specs.Readings.{valued}
 use Rattle.program.specs.declared.Term.{Term}
 
@@ -31,15 +32,20 @@ fewest form = select form ((2 ⇒ 1) ∷ (3 ⇒ 1) ∷ (4 ⇒ 2) ∷ (5 ⇒ 1) �
 abbrev pub hasLiterals : ℕ → Bool
 hasLiterals form = select form ((6 ⇒ true) ∷ (7 ⇒ true) ∷ []) false
 
--- a rule of a known form, within the format's limits as far as its evaluation goes
-pub record Evaluable (r : Rule) : Type 0 where
-  pub from : 1 ≤ r .form
-  pub to : r .form ≤ 7
-  pub near : natAbs (r .c) ≤ maxNumber
-  pub weights : r .form ≡ 1 → Coefficients (r .terms)
-  pub plain : hasLiterals (r .form) ≡ false → Plain (r .terms)
-  pub few : length (r .terms) ≤ maxTerms
-  pub enough : fewest (r .form) ≤ length (r .terms)
+-- a known form, as which the terms are read, with c, the divisor d and the terms within the format's limits as far as evaluation goes
+pub record EvaluableAs (form : ℕ) (c d : ℤ) (ts : List Term) : Type 0 where
+  pub from : 1 ≤ form
+  pub to : form ≤ 7
+  pub near : natAbs c ≤ maxNumber
+  pub divisor-least : pos 1 ≤ℤ d
+  pub divisor-near : natAbs d ≤ maxDivisor
+  pub weights : form ≡ 1 → Coefficients ts
+  pub plain : hasLiterals form ≡ false → Plain ts
+  pub few : length ts ≤ maxTerms
+  pub enough : fewest form ≤ length ts
+
+abbrev pub Evaluable : Rule → Type 0
+Evaluable r = EvaluableAs (termForm (r .form)) (r .c) (divisorOf r) (r .terms)
 
 -- a constraint of a known form, within the format's limits as far as its evaluation goes
 pub record Satisfiable (k : Constraint) : Type 0 where

@@ -1,13 +1,13 @@
 -- Document 01, "Rule forms": what a rule gives, and what a constraint asks, when the variable at position i of its body is read as
 -- `at i`.
-use Prim.Native.Nat.{ℕ, zero, suc, _-_}
+use Prim.Native.Nat.{ℕ, zero, suc, _+_, _-_, _/_}
 use mathlib.Core.List.{List, [], _∷_}
 use mathlib.Core.Bool.{Bool, true, false, cond, _&&_}
-use lib.IntN.{ℤ, pos, natAbs, _+ℤ_, _*ℤ_}
+use lib.IntN.{ℤ, pos, negsuc, negℤ, natAbs, _+ℤ_, _*ℤ_}
 use lib.Signed.{leZ, ltZ}
 use lib.ListN.{length}
 use Rattle.program.specs.Tables.{_⇒_, select, anyBelow}
-use Rattle.program.specs.Program.{Rule, Constraint, termIn}
+use Rattle.program.specs.Program.{Rule, Constraint, termForm, divisorOf, termIn}
 use Rattle.program.specs.declared.Given.{Given}
 use Rattle.program.specs.declared.Term.{Term}
 use Rattle.program.specs.declared.Given.the-variants.{Nothing, Value}
@@ -47,14 +47,18 @@ allHold ts at (suc n) = allHold ts at n && holds (termIn ts n) (at n)
 abbrev pub onlyIf : Bool → ℤ → Given
 onlyIf b a = cond b (Value a) Nothing
 
--- what each form amounts to
-unfoldable pub amount : Rule → (ℕ → ℤ) → ℤ
-amount r at =
-    let c = r .c in
-    let ts = r .terms in
-    let n = length (r .terms) in
-    select (r .form)
-    ((1 ⇒ (c +ℤ sumBelow (λ i. termIn ts i .number *ℤ at i) n))
+-- Document 02, wish 1: "the smallest whole number not below the sum, c included, over the divisor": z over d, rounded up, for d from 1 on (laws
+-- `over-up-reaches`, `over-up-smallest`)
+unfoldable pub overUp : ℤ → ℤ → ℤ
+overUp d (pos a) = pos ((a + (natAbs d - 1)) / natAbs d)
+overUp d (negsuc a) = negℤ (pos (suc a / natAbs d))
+
+-- what each form amounts to, by the form as which its terms are read, c, the divisor d and the terms
+unfoldable pub amountOf : ℕ → ℤ → ℤ → List Term → (ℕ → ℤ) → ℤ
+amountOf form c d ts at =
+    let n = length ts in
+    select form
+    ((1 ⇒ overUp d (c +ℤ sumBelow (λ i. termIn ts i .number *ℤ at i) n))
     ∷ (2 ⇒ (c +ℤ largestTo at (n - 1)))
     ∷ (3 ⇒ (c +ℤ smallestTo at (n - 1)))
     ∷ (4 ⇒ (c +ℤ (at 0 *ℤ at 1)))
@@ -63,6 +67,9 @@ amount r at =
     ∷ (7 ⇒ (c +ℤ at 0))
     ∷ [])
     c
+
+abbrev pub amount : Rule → (ℕ → ℤ) → ℤ
+amount r at = amountOf (termForm (r .form)) (r .c) (divisorOf r) (r .terms) at
 
 -- "when every literal holds, else nothing": a form without literals always gives its amount
 unfoldable pub evaluate : Rule → (ℕ → ℤ) → Given

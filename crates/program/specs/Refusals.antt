@@ -4,13 +4,13 @@ use mathlib.Core.List.{List, [], _∷_}
 use mathlib.Core.Bool.{Bool, true, false, not, cond, _||_, _&&_}
 use lib.IntN.{ℤ, pos, natAbs}
 use lib.Signed.{ltZ}
-use lib.ListN.{length}
+use lib.ListN.{length, getD}
 use lib.Dec.{leb, ltb, eqb}
-use Rattle.format.specs.Limits.{maxVariables, maxRules, maxConstraints, maxTerms, maxNumber, maxCoefficient}
+use Rattle.format.specs.Limits.{maxVariables, maxRules, maxConstraints, maxTerms, maxNumber, maxCoefficient, maxDivisor}
 use Rattle.format.specs.Numbers.{beyond}
 use Rattle.program.specs.Tables.{_⇒_, select, Condition, _when_, firstOf, anyBelow}
 use Rattle.program.specs.Fields.{tagAt, valueAt, nextAt, place, tagBefore}
-use Rattle.program.specs.Program.{Program, Item, variable, rule, constraint, none, itemOf, program, variableIn, termIn}
+use Rattle.program.specs.Program.{Program, Rule, Item, variable, rule, constraint, none, itemOf, divisorTerms, termForm, program, variableIn, termIn}
 use Rattle.program.specs.Variables.{isFounded}
 use Rattle.program.specs.declared.Variable.{Variable}
 use Rattle.program.specs.declared.Term.{Term}
@@ -37,14 +37,21 @@ oneTooMany P tag =
     ∷ [])
     false
 
--- 6: "length: variable not 5; rule not 4 + 4n, constraint not 3 + 4n, n in 0..16"
-unfoldable pub notTerms : ℕ → ℕ → Bool
-notTerms header len = not (anyBelow (maxTerms + 1) (λ n. eqb len (header + 4 * n)))
+-- 6: "length: variable not 5; rule not 4 + 4n, constraint not 3 + 4n, n in 0..16". Document 02, wish 1: "The divisor is beside the 16 terms, so form 8's n
+-- in refusal 6 runs to 17."
+unfoldable pub notTerms : ℕ → ℕ → ℕ → Bool
+notTerms header most len = not (anyBelow (most + 1) (λ n. eqb len (header + 4 * n)))
 
-unfoldable pub wrongLength : ℕ → ℕ → Bool
-wrongLength tag len = select tag ((1 ⇒ not (eqb len 5)) ∷ (2 ⇒ notTerms 4 len) ∷ (3 ⇒ notTerms 3 len) ∷ []) false
+unfoldable pub wrongLength : ℕ → List ℕ → Bool
+wrongLength tag v =
+    select tag
+    ((1 ⇒ not (eqb (length v) 5))
+    ∷ (2 ⇒ notTerms 4 (divisorTerms (getD v 0 0) + maxTerms) (length v))
+    ∷ (3 ⇒ notTerms 3 maxTerms (length v))
+    ∷ [])
+    false
 
--- Conditions on bodies: `form` is the form of a rule. A constraint of form 1 has the terms of a sum, one of form 2 the literals of an if
+-- Conditions on bodies: `form` is the form of a rule, 1 for the terms of form 8. A constraint of form 1 has the terms of a sum, one of form 2 the literals of an if
 abbrev pub bodyForm : ℕ → ℕ
 bodyForm form = select form ((1 ⇒ 1) ∷ (2 ⇒ 6) ∷ []) 0
 
@@ -68,7 +75,11 @@ unfoldable pub wrongTerm : ℕ → ℕ → Term → Bool
 wrongTerm form i t = wrongOp form i (t .op) || (mustBeZero form i && not (eqb (natAbs (t .number)) 0))
 
 unfoldable pub unknownForm : ℕ → Bool
-unknownForm form = not (leb 1 form && leb form 7)
+unknownForm form = not (leb 1 form && leb form 8)
+
+-- document 02, wish 1: "a first term of another variable byte or op 7"
+unfoldable pub wrongDivisor : Term → Bool
+wrongDivisor t = not (eqb (t .variable) 0 && eqb (t .op) 3)
 
 -- a constraint's form is unknown, or its c must be 0 and is not
 unfoldable pub wrongConstraint : ℕ → ℤ → Bool
@@ -77,7 +88,7 @@ wrongConstraint form c = select form ((1 ⇒ false) ∷ (2 ⇒ not (eqb (natAbs 
 -- 7: "unknown kind or form, op not for this form and position, number or c that must be 0"
 unfoldable pub wrongForm : Item → Bool
 wrongForm (variable x) = ltb 1 (x .kind)
-wrongForm (rule r) = unknownForm (r .form) || anyTerm (r .terms) (wrongTerm (r .form))
+wrongForm (rule r) = unknownForm (r .form) || anyTerm (r .divisor) (λ i t. wrongDivisor t) || anyTerm (r .terms) (wrongTerm (termForm (r .form)))
 wrongForm (constraint k) = wrongConstraint (k .form) (k .c) || anyTerm (k .terms) (wrongTerm (bodyForm (k .form)))
 wrongForm none = false
 
@@ -87,10 +98,14 @@ outsideTerm form i t =
     cond (literalPosition form i) (beyond maxNumber (t .number))
     (eqb form 1 && (eqb (natAbs (t .number)) 0 || beyond maxCoefficient (t .number)))
 
+-- document 02, wish 1: "A divisor out of range meets refusal 8"
+unfoldable pub outsideDivisor : Term → Bool
+outsideDivisor t = ltZ (t .number) (pos 1) || ltZ (pos maxDivisor) (t .number)
+
 -- 8: "number outside its range, or low above high"
 unfoldable pub outsideRange : Item → Bool
 outsideRange (variable x) = beyond maxNumber (x .low) || beyond maxNumber (x .high) || ltZ (x .high) (x .low)
-outsideRange (rule r) = beyond maxNumber (r .c) || anyTerm (r .terms) (outsideTerm (r .form))
+outsideRange (rule r) = beyond maxNumber (r .c) || anyTerm (r .divisor) (λ i t. outsideDivisor t) || anyTerm (r .terms) (outsideTerm (termForm (r .form)))
 outsideRange (constraint k) = beyond maxNumber (k .c) || anyTerm (k .terms) (outsideTerm (bodyForm (k .form)))
 outsideRange none = false
 
@@ -124,9 +139,13 @@ wrongCountOf form n =
     ∷ [])
     false
 
+-- document 02, wish 1: "a rule without terms 10". A rule has the divisor that its form asks for, and no other
+unfoldable pub wrongDivisors : Rule → Bool
+wrongDivisors r = not (eqb (length (r .divisor)) (divisorTerms (r .form)))
+
 unfoldable pub wrongCount : Item → Bool
 wrongCount (variable x) = false
-wrongCount (rule r) = wrongCountOf (r .form) (length (r .terms))
+wrongCount (rule r) = wrongDivisors r || wrongCountOf (termForm (r .form)) (length (r .terms))
 wrongCount (constraint k) = wrongCountOf (bodyForm (k .form)) (length (k .terms))
 wrongCount none = false
 
@@ -146,7 +165,7 @@ negativeTerm vs form t = eqb form 4 && ltZ (variableIn vs (t .variable) .low) (p
 
 unfoldable pub negativeProduct : List Variable → Item → Bool
 negativeProduct vs (variable x) = false
-negativeProduct vs (rule r) = anyTerm (r .terms) (λ i t. negativeTerm vs (r .form) t)
+negativeProduct vs (rule r) = anyTerm (r .terms) (λ i t. negativeTerm vs (termForm (r .form)) t)
 negativeProduct vs (constraint k) = false
 negativeProduct vs none = false
 
@@ -171,7 +190,7 @@ valueRefusal P before tag v =
     ((3 when unknownTag tag)
     ∷ (4 when tagBelow before tag)
     ∷ (5 when oneTooMany P tag)
-    ∷ (6 when wrongLength tag (length v))
+    ∷ (6 when wrongLength tag v)
     ∷ (itemRefusal (P .variables) (itemOf tag v) when true)
     ∷ [])
 

@@ -9,7 +9,7 @@ use lib.ListN.{length, drop}
 use Rattle.program.specs.Fields.{place, nextAt}
 use Rattle.program.specs.Program.{Program, program, ruleIn, variableOf, variableIn, variablesAt}
 use Rattle.program.specs.Reading.{Accepts, Whole, Reads, accepted, whole}
-use Rattle.program.proofs.Places.{place-next, passed-fine, counts, variables-stand, variable-stands, constraint-at, constraint-length}
+use Rattle.program.proofs.Places.{place-next, passed-fine, counts, variables-stand, variable-stands, constraint-at, constraint-header}
 use Rattle.program.proofs.Promises.{constraint-promised}
 use Rattle.program.proofs.Unique.{accepts-reads}
 use Rattle.fields.specs.Scanning.{Counted}
@@ -47,11 +47,10 @@ module _ {s : List ℕ} {k : ℕ} (w : Whole s k) where
   constraint-lies-at i h =
       let r = constraint-at (w .passed) h in
       let f = passed-fine (w .passed) _ (r .before) in
-      let l = constraint-length f (r .field .tagged) in
       record {
         inside = f .whole;
         is = r .is;
-        headed = omega (arith, f .length-is, l .are);
+        headed = omega (arith, f .length-is, constraint-header f (r .field .tagged));
         satisfiable = rw (r .is) at (promised-satisfiable (constraint-promised _ _ (r .fine)));
       }
 

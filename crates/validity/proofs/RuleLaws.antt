@@ -12,7 +12,7 @@ use Rattle.program.specs.Program.{ruleOf, ruleIn, program, variablesAt}
 use Rattle.program.specs.Reading.{Passed}
 use Rattle.program.specs.declared.Counts.{Counts}
 use Rattle.program.proofs.Conditions.{last-or}
-use Rattle.program.proofs.Places.{RuleStands, Fine, variablesTo, variables-length, variables-stand, rule-at, rule-length, passed-fine, place-next, counts}
+use Rattle.program.proofs.Places.{RuleStands, Fine, variablesTo, variables-length, variables-stand, rule-at, rule-header, passed-fine, place-next, counts}
 use Rattle.program.proofs.Promises.{RulePromise, passed-rule}
 use Rattle.fields.specs.Scanning.{Counted}
 use Rattle.edges.specs.Edges.{Grown, anyMixed, drawsIn}
@@ -81,12 +81,11 @@ module _ {s : List ℕ} {k : Counts} (c : Counted s k) where
 
     pub standing : Standing s (k .variables) (valueAt s (place s (k .variables + i)))
     standing =
-        let l = rule-length rule-fine (rule-stands .field .tagged) in
         let n = variables-length s (k .variables) in
         record {
           inside = variables-inside;
           few = variables-few;
-          headed = omega (arith, rule-fine .length-is, l .are);
+          headed = omega (arith, rule-fine .length-is, rule-header rule-fine (rule-stands .field .tagged));
           head = rw n at (rule-promise .head-declared);
           declared = λ j m. rw n at (rule-promise .body .terms j m .declared);
         }

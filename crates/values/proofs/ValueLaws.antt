@@ -5,20 +5,22 @@ use mathlib.Core.List.{List, [], _∷_}
 use mathlib.Core.Bool.{Bool, true, false, not, cond, _||_}
 use lib.Dec.{eqb, ltb, leb}
 use lib.IntN.{ℤ, natAbs}
-use lib.ListN.{length, getD}
+use lib.ListN.{length, getD, drop, length-take}
 use lib.Signed.{ltZ}
 use native.Mathlib.Omega.{arith}
 use borrow.Author.Tests.{eq-eqb, ne-eqb, eqb-true, lt-ltb, le-ltb, le-leb, lt-leb, ltb-false, leb-true}
 use Rattle.format.specs.Limits.{maxNumber, maxTerms}
 use Rattle.format.specs.Numbers.{beyond}
 use Rattle.program.specs.Tables.{_when_, firstOf, anyBelow}
-use Rattle.program.specs.Program.{variable, rule, constraint, variableOf, ruleOf, constraintOf, termsOf, termIn, variableIn, variablesAt}
-use Rattle.program.specs.Refusals.{wrongLength, notTerms, wrongForm, outsideRange, undeclared, wrongCount, variableTwice, negativeProduct, itemRefusal, unknownForm, wrongHead, wrongCountOf, wrongConstraint, bodyForm, wrongTerm, outsideTerm, undeclaredTerm, repeatedTerm, negativeTerm, notFrom}
+use Rattle.program.specs.Program.{variable, rule, constraint, divisorTerms, termForm, variableOf, ruleDivisor, ruleOf, constraintOf, termsOf, termIn, variableIn, variablesAt}
+use Rattle.program.specs.Refusals.{anyTerm, wrongDivisor, outsideDivisor, wrongDivisors, wrongLength, notTerms, wrongForm, outsideRange, undeclared, wrongCount, variableTwice, negativeProduct, itemRefusal, unknownForm, wrongHead, wrongCountOf, wrongConstraint, bodyForm, wrongTerm, outsideTerm, undeclaredTerm, repeatedTerm, negativeTerm, notFrom}
+use Rattle.program.proofs.Forms.{divisor-few}
 use Rattle.program.proofs.Conditions.{below-none, none-below, never}
 use Rattle.program.proofs.Places.{variables-length, sized-terms}
-use Rattle.parts.specs.Values.{Handed}
+use Rattle.parts.specs.Values.{HeaderIs, Handed}
+use Rattle.parts.specs.declared.rules.RuleHeader.{RuleHeader}
 use Rattle.faults.specs.Faults.{FaultsBelow, faultsNumber}
-use Rattle.values.specs.Lengths.{lengthRefusal}
+use Rattle.values.specs.Lengths.{lengthRefusal, RuleFaults}
 use Rattle.faults.specs.declared.Faults.{Faults}
 use Rattle.faults.proofs.TermLaws.{negative-other}
 use Rattle.program.specs.Variables.{isFounded}
@@ -60,53 +62,53 @@ range-of e h = rw e at h
 
 -- ---- lengths
 
-module _ (header len : ℕ) where
+module _ (header most len : ℕ) where
   abbrev is-terms : ℕ → Bool
   is-terms n = eqb len (header + 4 * n)
 
-  none-right : ((n : ℕ) → n < maxTerms + 1 → len ≡ header + 4 * n → ⊥) → true ≡ notTerms header len
+  none-right : ((n : ℕ) → n < most + 1 → len ≡ header + 4 * n → ⊥) → true ≡ notTerms header most len
   unfolding notTerms
-  none-right h = sym (ap not (below-none (maxTerms + 1) is-terms (λ n k. ne-eqb len (header + 4 * n) (h n k))))
+  none-right h = sym (ap not (below-none (most + 1) is-terms (λ n k. ne-eqb len (header + 4 * n) (h n k))))
 
-  pub terms-short : len < header → true ≡ notTerms header len
+  pub terms-short : len < header → true ≡ notTerms header most len
   terms-short h = none-right (λ n k e. omega arith)
 
-  pub terms-uneven : header ≤ len → ((len - header) % 4 ≡ 0 → ⊥) → true ≡ notTerms header len
+  pub terms-uneven : header ≤ len → ((len - header) % 4 ≡ 0 → ⊥) → true ≡ notTerms header most len
   terms-uneven h u = none-right (λ n k e. u (omega arith))
 
-  pub terms-even : header ≤ len → (len - header) % 4 ≡ 0 → ltb maxTerms ((len - header) / 4) ≡ notTerms header len
+  pub terms-even : header ≤ len → (len - header) % 4 ≡ 0 → ltb most ((len - header) / 4) ≡ notTerms header most len
   unfolding notTerms
-  terms-even h u = go (ltb maxTerms ((len - header) / 4)) refl
+  terms-even h u = go (ltb most ((len - header) / 4)) refl
     where
-      at-least-one : (b : Bool) → anyBelow (maxTerms + 1) is-terms ≡ b → (len - header) / 4 < maxTerms + 1 → false ≡ not b
+      at-least-one : (b : Bool) → anyBelow (most + 1) is-terms ≡ b → (len - header) / 4 < most + 1 → false ≡ not b
       at-least-one true e k = refl
       at-least-one false e k =
-          absurd (never (eq-eqb len (header + 4 * ((len - header) / 4)) (omega arith)) (none-below (maxTerms + 1) is-terms e ((len - header) / 4) k))
+          absurd (never (eq-eqb len (header + 4 * ((len - header) / 4)) (omega arith)) (none-below (most + 1) is-terms e ((len - header) / 4) k))
 
-      go : (t : Bool) → ltb maxTerms ((len - header) / 4) ≡ t → t ≡ notTerms header len
+      go : (t : Bool) → ltb most ((len - header) / 4) ≡ t → t ≡ notTerms header most len
       go true e = none-right (λ n k q. let m = lt-of e in omega arith)
         where
-          lt-of : ltb maxTerms ((len - header) / 4) ≡ true → maxTerms < (len - header) / 4
-          lt-of e = leb-true (suc maxTerms) ((len - header) / 4) e
-      go false e = at-least-one (anyBelow (maxTerms + 1) is-terms) refl (let m = ltb-false maxTerms ((len - header) / 4) e in omega arith)
+          lt-of : ltb most ((len - header) / 4) ≡ true → most < (len - header) / 4
+          lt-of e = leb-true (suc most) ((len - header) / 4) e
+      go false e = at-least-one (anyBelow (most + 1) is-terms) refl (let m = ltb-false most ((len - header) / 4) e in omega arith)
 
   -- a right length has the header
-  pub terms-header : notTerms header len ≡ false → header ≤ len
-  terms-header e = let w = sized-terms header len e in omega arith
+  pub terms-header : notTerms header most len ≡ false → header ≤ len
+  terms-header e = let w = sized-terms header most len e in omega arith
 
 -- ---- forms and counts
 
-pub form-known : (form : ℕ) → 1 ≤ form → form ≤ 7 → false ≡ unknownForm form
+pub form-known : (form : ℕ) → 1 ≤ form → form ≤ 8 → false ≡ unknownForm form
 unfolding unknownForm
-form-known form h k = simp (le-leb 1 form h, le-leb form 7 k)
+form-known form h k = simp (le-leb 1 form h, le-leb form 8 k)
 
 pub form-zero : (form : ℕ) → form ≡ 0 → true ≡ unknownForm form
 unfolding unknownForm
 form-zero form h = rw h
 
-pub form-above : (form : ℕ) → 7 < form → true ≡ unknownForm form
+pub form-above : (form : ℕ) → 8 < form → true ≡ unknownForm form
 unfolding unknownForm
-form-above form h = simp (le-leb 1 form (omega arith), lt-leb form 7 h)
+form-above form h = simp (le-leb 1 form (omega arith), lt-leb form 8 h)
 
 pub count-in : (least most n : ℕ) → least ≤ n → n ≤ most → false ≡ notFrom least most n
 count-in least most n h k = simp (le-ltb n least h, le-ltb most n k)
@@ -212,37 +214,39 @@ joined-is all own terms =
     × (all .repeated ≡ (own .repeated || terms .repeated)) × (all .negative ≡ (own .negative || terms .negative))
 
 -- the faults of a field's own parts and of its body, in order
-abbrev inOrder : List Variable → ℕ → List Term → Bool → Bool → Bool → ℕ
-inOrder vs form ts a b c =
+abbrev inOrder : List Variable → ℕ → List Term → Bool → Bool → Bool → Bool → ℕ
+inOrder vs form ts a b c n =
     firstOf
     ((7 when a || anyBelow (length ts) (λ i. wrongTerm form i (termIn ts i)))
     ∷ (8 when b || anyBelow (length ts) (λ i. outsideTerm form i (termIn ts i)))
     ∷ (9 when c || anyBelow (length ts) (λ i. undeclaredTerm vs (termIn ts i)))
-    ∷ (10 when wrongCountOf form (length ts))
+    ∷ (10 when n)
     ∷ (11 when anyBelow (length ts) (λ i. repeatedTerm ts i))
     ∷ (12 when anyBelow (length ts) (λ i. negativeTerm vs form (termIn ts i)))
     ∷ [])
 
 module _ (vs : List Variable) {body b : List ℕ} (y : Handed body b) (form : ℕ) where
-  pub body-refusal : (terms own all : Faults) (count : Bool) {a r c : Bool}
+  pub body-refusal : (terms own all : Faults) (count : Bool) {a r c k : Bool}
       → FaultsBelow vs form (termsOf b) (length b / 4) terms
       → own .form ≡ a → own .range ≡ r → own .variable ≡ c → own .repeated ≡ false → own .negative ≡ false
       → joined-is all own terms
-      → count ≡ wrongCountOf form (length b / 4)
-      → faultsNumber all count ≡ inOrder vs form (termsOf body) a r c
+      → count ≡ k
+      → faultsNumber all count ≡ inOrder vs form (termsOf body) a r c k
   body-refusal terms own all count f a r c d n e k =
       let g = rw (y .many, y .is) at f in
       first-six
       (e .0 ∙ ap₂ _||_ a (g .form-is))
       (e .1 ∙ ap₂ _||_ r (g .range-is))
       (e .2 ∙ ap₂ _||_ c (g .variable-is))
-      (rw (y .many) at k)
+      k
       (e .3 ∙ ap₂ _||_ d (g .repeated-is))
       (e .4 ∙ ap₂ _||_ n (g .negative-is))
 
 module _ (vs : List Variable) (v : List ℕ) (n : ℕ) where
-  pub rule-refusal : (form : ℕ) → form ≡ ruleOf v .form
-      → n ≡ inOrder vs form (ruleOf v .terms) (unknownForm (ruleOf v .form)) (beyond maxNumber (ruleOf v .c)) (wrongHead vs (ruleOf v .head))
+  pub rule-refusal : (form : ℕ) → form ≡ termForm (ruleOf v .form)
+      → n ≡ inOrder vs form (ruleOf v .terms) (unknownForm (ruleOf v .form) || anyTerm (ruleOf v .divisor) (λ i t. wrongDivisor t))
+      (beyond maxNumber (ruleOf v .c) || anyTerm (ruleOf v .divisor) (λ i t. outsideDivisor t)) (wrongHead vs (ruleOf v .head))
+      (wrongDivisors (ruleOf v) || wrongCountOf form (length (ruleOf v .terms)))
       → n ≡ itemRefusal vs (rule (ruleOf v))
   unfolding itemRefusal wrongForm outsideRange undeclared wrongCount variableTwice negativeProduct
   rule-refusal form h e = rw h at e
@@ -257,6 +261,7 @@ module _ (vs : List Variable) (v : List ℕ) (n : ℕ) where
 
   pub constraint-refusal : (form : ℕ) → form ≡ bodyForm (constraintOf v .form)
       → n ≡ inOrder vs form (constraintOf v .terms) (wrongConstraint (constraintOf v .form) (constraintOf v .c)) (beyond maxNumber (constraintOf v .c)) false
+      (wrongCountOf form (length (constraintOf v .terms)))
       → n ≡ itemRefusal vs (constraint (constraintOf v))
   unfolding itemRefusal wrongForm outsideRange undeclared wrongCount variableTwice negativeProduct
   constraint-refusal form h e =
@@ -264,18 +269,34 @@ module _ (vs : List Variable) (v : List ℕ) (n : ℕ) where
       let z = below-none (length ts) (λ i. negativeTerm vs form (termIn ts i)) (λ i k. sym (negative-other vs form (termIn ts i) (no-product form h))) in
       rw (z, h) at e
 
-  pub rule-length : notTerms 4 (length v) ≡ true → 6 ≡ lengthRefusal vs 2 v
+  pub rule-length : notTerms 4 (divisorTerms (getD v 0 0) + maxTerms) (length v) ≡ true → 6 ≡ lengthRefusal vs 2 v
   unfolding lengthRefusal wrongLength
   rule-length h = simp h
 
-  pub rule-rest : notTerms 4 (length v) ≡ false → n ≡ itemRefusal vs (rule (ruleOf v)) → n ≡ lengthRefusal vs 2 v
+  pub rule-rest : notTerms 4 (divisorTerms (getD v 0 0) + maxTerms) (length v) ≡ false → n ≡ itemRefusal vs (rule (ruleOf v)) → n ≡ lengthRefusal vs 2 v
   unfolding lengthRefusal wrongLength
   rule-rest h e = simp h e
 
-  pub constraint-length : notTerms 3 (length v) ≡ true → 6 ≡ lengthRefusal vs 3 v
+  pub constraint-length : notTerms 3 maxTerms (length v) ≡ true → 6 ≡ lengthRefusal vs 3 v
   unfolding lengthRefusal wrongLength
   constraint-length h = simp h
 
-  pub constraint-rest : notTerms 3 (length v) ≡ false → n ≡ itemRefusal vs (constraint (constraintOf v)) → n ≡ lengthRefusal vs 3 v
+  pub constraint-rest : notTerms 3 maxTerms (length v) ≡ false → n ≡ itemRefusal vs (constraint (constraintOf v)) → n ≡ lengthRefusal vs 3 v
   unfolding lengthRefusal wrongLength
   constraint-rest h e = simp h e
+
+-- ---- the divisor
+
+-- the divisor that is handed on is the rule's, and its part has room for one term
+module _ (v : List ℕ) {b : List ℕ} (h : Handed (ruleDivisor v) b) where
+  pub divisor-room : length b / 4 ≤ 1
+  divisor-room = omega (arith, ap length (h .is), length-take (4 * divisorTerms (getD v 0 0)) (drop 4 v), divisor-few (getD v 0 0))
+
+  pub divided : {n : ℕ} → n ≡ divisorTerms (getD v 0 0) → not (eqb (length b / 4) n) ≡ wrongDivisors (ruleOf v)
+  unfolding wrongDivisors
+  divided e = rw (e, h .many)
+
+-- the faults before the body, of the rule in a value
+pub rule-faults : (vs : List Variable) (v : List ℕ) {form : ℕ} {x : RuleHeader} {b : List ℕ} {r : Faults} → HeaderIs v x → Handed (ruleDivisor v) b
+    → form ≡ ruleOf v .form → RuleFaults vs form (x .head) (x .c) (termsOf b) r → RuleFaults vs (ruleOf v .form) (ruleOf v .head) (ruleOf v .c) (ruleOf v .divisor) r
+rule-faults vs v x h e f = rw (e, x .head-is, x .c-is, h .is) at f

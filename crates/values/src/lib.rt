@@ -1,22 +1,24 @@
 // The values of fields: variables, rules and constraints.
 ghost use mathlib.Core.Path.{_≡_};
 ghost use mathlib.Core.List.{List};
-ghost use Prim.Native.Nat.{_*_, _<_, _≤_};
+ghost use Prim.Native.Nat.{_*_, _/_, _<_, _≤_};
 ghost use lib.ListN.{length};
 ghost use lib.Signed.{ltZ};
 ghost use Rattle.format.specs.Limits.{maxTerms};
-ghost use Rattle.program.specs.Program.{Item, ruleOf, constraintOf, variablesAt};
+ghost use Rattle.program.specs.Program.{Item, ruleOf, constraintOf, termsOf, variablesAt};
 ghost use Rattle.program.specs.Refusals.{outsideRange, notTerms, unknownForm, wrongHead, wrongCountOf, wrongConstraint, bodyForm, notFrom, itemRefusal};
 ghost use Rattle.faults.specs.Faults.{checkedNumber};
 ghost use Rattle.parts.specs.Values.{ruleHeader, constraintHeader};
-ghost use Rattle.values.specs.Lengths.{lengthRefusal};
+ghost use Rattle.values.specs.Lengths.{lengthRefusal, RuleFaults};
 ghost use Rattle.program.specs.declared.Variable.{Variable};
 use faults::Checked;
 use faults::Faults;
 use faults::by_form;
+use faults::divisors;
 use format::Format;
 use parts::constraints;
 use parts::rules;
+use parts::rules::RuleHeader;
 use parts::variables;
 use program::Refusal;
 use program::Variable;
@@ -59,9 +61,9 @@ pub fn check_variable(value: &[u8]) -> Checked
     Checked::Fine
 }
 
-// Whether a length is not that of a header and of as many terms as a body may have.
-pub fn is_not_terms(len: usize, header: usize) -> bool
-    ensures { λ r. ⌜ r ≡ notTerms header len ⌝ }
+// Whether a length is not that of a header and of so many terms at most.
+pub fn is_not_terms(len: usize, header: usize, most: usize) -> bool
+    ensures { λ r. ⌜ r ≡ notTerms header most len ⌝ }
 {
     if len < header {
         return true;
@@ -70,15 +72,15 @@ pub fn is_not_terms(len: usize, header: usize) -> bool
     if rest % 4 != 0 {
         return true;
     }
-    Format::MAX_TERMS < rest / 4
+    most < rest / 4
 }
 
 pub fn is_unknown_form(form: u8) -> bool
     ensures { λ r. ⌜ r ≡ unknownForm form ⌝ }
 {
     match form {
-        1..=7 => false,
-        0 | 8..=255 => true,
+        1..=8 => false,
+        0 | 9..=255 => true,
     }
 }
 
@@ -140,30 +142,44 @@ pub fn is_wrong_count(form: u8, n: usize) -> bool
     }
 }
 
+// What is wrong with what stands before the body of a rule.
+fn rule_faults(file: &[u8], variables: usize, form: u8, rule: RuleHeader, divisor: &[u8]) -> Faults
+    requires { ⌜ (8 * variables ≤ length (now file)) × (length (now divisor) / 4 ≤ 1) ⌝ }
+    ensures { λ r. ⌜ RuleFaults (variablesAt (now (file .entry)) variables) form (rule .head) (rule .c) (termsOf (now (divisor .entry))) r ⌝ }
+{
+    let of_divisor = divisors::divisor_faults(divisor);
+    Faults {
+        form: is_unknown_form(form) | of_divisor.form,
+        range: format::is_number_beyond(rule.c) | of_divisor.range,
+        variable: is_wrong_head(file, variables, rule.head),
+        repeated: false,
+        negative: false,
+    }
+}
+
 // A rule of a right length.
 pub fn check_rule_parts(file: &[u8], variables: usize, value: &[u8]) -> Checked
     requires { ⌜ (8 * variables ≤ length (now file)) × (ruleHeader ≤ length (now value)) ⌝ }
     ensures { λ r. ⌜ checkedNumber r ≡ itemRefusal (variablesAt (now (file .entry)) variables) (Item.rule (ruleOf (now (value .entry)))) ⌝ }
 {
     let rule = rules::header(value);
+    let divisor = rules::divisor_part(value);
     let body = rules::body(value);
-    let form = rule.form;
-    let own = Faults {
-        form: is_unknown_form(form),
-        range: format::is_number_beyond(rule.c),
-        variable: is_wrong_head(file, variables, rule.head),
-        repeated: false,
-        negative: false,
-    };
-    let all = own.with(faults::body_faults(file, variables, body, form));
-    all.first(is_wrong_count(form, body.len() / 4))
+    let own = rule_faults(file, variables, value[0], rule, divisor);
+    let all = own.with(faults::body_faults(file, variables, body, rule.form));
+    let divided = divisor.len() / 4 != rules::divisor_terms(value[0]);
+    all.first(divided | is_wrong_count(rule.form, body.len() / 4))
 }
 
 pub fn check_rule(file: &[u8], variables: usize, value: &[u8]) -> Checked
     requires { ⌜ 8 * variables ≤ length (now file) ⌝ }
     ensures { λ r. ⌜ checkedNumber r ≡ lengthRefusal (variablesAt (now (file .entry)) variables) 2 (now (value .entry)) ⌝ }
 {
-    if is_not_terms(value.len(), 4) {
+    if value.len() < 4 {
+        return Checked::Bad(Refusal::WrongLength);
+    }
+    let most = rules::divisor_terms(value[0]) + Format::MAX_TERMS;
+    if is_not_terms(value.len(), 4, most) {
         return Checked::Bad(Refusal::WrongLength);
     }
     check_rule_parts(file, variables, value)
@@ -214,7 +230,7 @@ pub fn check_constraint(file: &[u8], variables: usize, value: &[u8]) -> Checked
     requires { ⌜ 8 * variables ≤ length (now file) ⌝ }
     ensures { λ r. ⌜ checkedNumber r ≡ lengthRefusal (variablesAt (now (file .entry)) variables) 3 (now (value .entry)) ⌝ }
 {
-    if is_not_terms(value.len(), 3) {
+    if is_not_terms(value.len(), 3, Format::MAX_TERMS) {
         return Checked::Bad(Refusal::WrongLength);
     }
     check_constraint_parts(file, variables, value)

@@ -13,7 +13,7 @@ returns : tie.Need-returns
 returns c = constraint-length _ _ 0 (sym (c .before .is-not-terms .ensures) ∙ c .if1 .taken)
 
 check-constraint-parts-requires : tie.Need-check-constraint-parts-requires
-check-constraint-parts-requires c κs = let h = terms-header 3 _ (sym (c .before .is-not-terms .ensures) ∙ c .if1 .left) in omega arith
+check-constraint-parts-requires c κs = let h = terms-header 3 _ _ (sym (c .before .is-not-terms .ensures) ∙ c .if1 .left) in omega arith
 
 returns-2 : tie.Need-returns-2
 returns-2 c = constraint-rest _ _ _ (sym (c .before .before .is-not-terms .ensures) ∙ c .before .if1 .left) (c .check-constraint-parts .ensures)

@@ -5,7 +5,7 @@ use mir.Syntax.{w64}
 use mir.Val.{toZ, ofZ}
 use Rattle.format.specs.Limits.{maxNumber}
 use Rattle.format.specs.Numbers.{beyond}
-use Rattle.program.specs.Refusals.{bodyForm, wrongConstraint}
+use Rattle.program.specs.Refusals.{wrongCountOf, bodyForm, wrongConstraint}
 use Rattle.values.proofs.ValueLaws.{constraint-refusal, body-refusal}
 use borrow.Author.Needs.{needs}
 use Rattle.values.proofs.check_constraint_parts.Statement.{statement}
@@ -46,7 +46,8 @@ returns c =
     constraint-refusal _ v _ _ (c .before .before .before .before .before .before .before .before .body-form .ensures ∙ ap bodyForm (h .ensures .0))
     (c .first .ensures ∙ body-refusal _ (c .before .before .before .before .before .before .before .before .before .body .ensures) _ _ _ _ _ {c = false} (c .before .before .before .body-faults .ensures)
     (c .before .before .before .before .before .before .is-wrong-constraint .ensures ∙ ap₂ wrongConstraint (h .ensures .0) (z ∙ h .ensures .1))
-    (c .before .before .before .before .is-number-beyond .ensures ∙ ap (beyond maxNumber) (z ∙ h .ensures .1)) refl refl refl (c .before .before .with .ensures) (c .before .is-wrong-count .ensures))
+    (c .before .before .before .before .is-number-beyond .ensures ∙ ap (beyond maxNumber) (z ∙ h .ensures .1)) refl refl refl (c .before .before .with .ensures)
+    (c .before .is-wrong-count .ensures ∙ ap (wrongCountOf _) (c .before .before .before .before .before .before .before .before .before .body .ensures .many)))
 
 pub check-constraint-parts-spec : {M : Type 1} → statement M
 check-constraint-parts-spec =

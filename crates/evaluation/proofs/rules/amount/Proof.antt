@@ -7,11 +7,13 @@ use lib.ListN.{length}
 use mir.Syntax.{w64}
 use mir.Val.{toZ, ofZ}
 use Rattle.format.specs.Limits.{maxNumber}
+use Rattle.format.proofs.Ints.{abs-add}
 use Rattle.program.specs.Program.{termsOf}
+use Rattle.program.specs.Evaluate.{sumBelow, overUp}
 use Rattle.program.proofs.Bodies.{terms-length}
 use Rattle.program.proofs.Gives.{seven, enough-of, amount-sum, amount-largest, amount-smallest, amount-product, amount-size, amount-literals, amount-carried}
-use Rattle.bodies.specs.Readings.{readingOf}
-use Rattle.bodies.proofs.Loops.{reading-small, product-small, largest-small, smallest-small}
+use Rattle.bodies.specs.Readings.{readingOf, weighted}
+use Rattle.bodies.proofs.Loops.{reading-small, total-small, product-small, largest-small, smallest-small}
 use borrow.Author.Needs.{needs}
 use Rattle.evaluation.proofs.rules.amount.Statement.{statement}
 use Rattle.evaluation.proofs.rules.amount.Tie as tie
@@ -19,9 +21,12 @@ use Rattle.evaluation.proofs.rules.amount.Tie as tie
 abbrev at : tie.Start → ℕ → ℤ
 at s = readingOf (s .args .kept) (s .args .first .now) (s .args .second .now) (termsOf (s .args .body .now))
 
--- c as the machine has it
+-- c and the divisor as the machine has them
 same-c : (s : tie.Start) → toZ w64 (ofZ w64 (s .args .rule .c)) ≡ s .args .rule .c
 same-c s = search needs
+
+same-divisor : (s : tie.Start) → toZ w64 (ofZ w64 (s .args .rule .divisor)) ≡ s .args .rule .divisor
+same-divisor s = search needs
 
 near : (s : tie.Start) → natAbs (toZ w64 (ofZ w64 (s .args .rule .c))) ≤ maxNumber
 near s = rw (same-c s) (s .pre .0 .near)
@@ -33,6 +38,17 @@ sum-requires : tie.Need-sum-requires
 sum-requires c κs =
     let s = c .before .before .before in
     ((near s, omega (arith, s .pre .0 .few, terms-length (s .args .body .now))), (s .pre .0 .weights (c .match .keys1), s .pre .1))
+
+over-up-requires : tie.Need-over-up-requires
+over-up-requires c κs =
+    let s = c .before .before .before .before .before in
+    let a = s .args in
+    let e = s .pre .0 in
+    let ts = termsOf (a .body .now) in
+    let v : toZ w64 (ofZ w64 (c .before .sum .result)) ≡ c .before .sum .result = search needs in
+    let w = total-small (a .kept) (a .first .now) (a .second .now) ts (e .weights (c .before .before .match .keys1)) (s .pre .1 .0) (s .pre .1 .1) (length ts) (omega arith) in
+    let b = abs-add (toZ w64 (ofZ w64 (a .rule .c))) (sumBelow (weighted ts (at s)) (length ts)) in
+    rw (same-divisor s) (e .divisor-least, omega (arith, near s, e .few, e .divisor-near, ap natAbs (v ∙ c .before .sum .ensures), w, b))
 
 largest-requires : tie.Need-largest-requires
 largest-requires c κs =
@@ -105,30 +121,31 @@ module _ (s : tie.Start) {r a b : ℤ} (p : r ≡ toZ w64 (ofZ w64 (s .args .rul
 
 returns : tie.Need-returns
 returns c =
-    let s = c .before .before .before .before in
-    let v : toZ w64 (ofZ w64 (c .sum .result)) ≡ c .sum .result = search needs in
-    total s (v ∙ c .sum .ensures) refl ∙ sym (amount-sum _ _ (c .before .match .keys1))
+    let s = c .before .before .before .before .before .before in
+    let v : toZ w64 (ofZ w64 (c .before .before .sum .result)) ≡ c .before .before .sum .result = search needs in
+    let z : toZ w64 (ofZ w64 (c .over-up .result)) ≡ c .over-up .result = search needs in
+    z ∙ c .over-up .ensures ∙ ap₂ overUp (same-divisor s) (total s (v ∙ c .before .before .sum .ensures) refl) ∙ sym (amount-sum _ _ _ _ (c .before .before .before .match .keys1))
 
 returns-2 : tie.Need-returns-2
 returns-2 c =
     let s = c .before .before .before .before .before in
     let z : toZ w64 (ofZ w64 (c .plus .result)) ≡ c .plus .result = search needs in
     let v : toZ w64 (ofZ w64 (c .before .largest .result)) ≡ c .before .largest .result = search needs in
-    total s (z ∙ c .plus .ensures) (v ∙ c .before .largest .ensures) ∙ sym (amount-largest _ _ (c .before .before .match .keys2))
+    total s (z ∙ c .plus .ensures) (v ∙ c .before .largest .ensures) ∙ sym (amount-largest _ _ _ _ (c .before .before .match .keys2))
 
 returns-3 : tie.Need-returns-3
 returns-3 c =
     let s = c .before .before .before .before .before in
     let z : toZ w64 (ofZ w64 (c .plus2 .result)) ≡ c .plus2 .result = search needs in
     let v : toZ w64 (ofZ w64 (c .before .smallest .result)) ≡ c .before .smallest .result = search needs in
-    total s (z ∙ c .plus2 .ensures) (v ∙ c .before .smallest .ensures) ∙ sym (amount-smallest _ _ (c .before .before .match .keys3))
+    total s (z ∙ c .plus2 .ensures) (v ∙ c .before .smallest .ensures) ∙ sym (amount-smallest _ _ _ _ (c .before .before .match .keys3))
 
 returns-4 : tie.Need-returns-4
 returns-4 c =
     let s = c .before .before .before .before .before in
     let z : toZ w64 (ofZ w64 (c .plus3 .result)) ≡ c .plus3 .result = search needs in
     let v : toZ w64 (ofZ w64 (c .before .product .result)) ≡ c .before .product .result = search needs in
-    total s (z ∙ c .plus3 .ensures) (v ∙ c .before .product .ensures) ∙ sym (amount-product _ _ (c .before .before .match .keys4))
+    total s (z ∙ c .plus3 .ensures) (v ∙ c .before .product .ensures) ∙ sym (amount-product _ _ _ _ (c .before .before .match .keys4))
 
 returns-5 : tie.Need-returns-5
 returns-5 c =
@@ -137,17 +154,17 @@ returns-5 c =
     let w : toZ w64 (ofZ w64 (c .before .size .result)) ≡ c .before .size .result = search needs in
     let v : toZ w64 (ofZ w64 (c .before .before .read-position .result)) ≡ c .before .before .read-position .result = search needs in
     total s (z ∙ c .plus4 .ensures) (w ∙ c .before .size .ensures ∙ ap (λ (x : ℤ). pos (natAbs x)) (v ∙ c .before .before .read-position .ensures))
-    ∙ sym (amount-size _ _ (c .before .before .before .match .keys5))
+    ∙ sym (amount-size _ _ _ _ (c .before .before .before .match .keys5))
 
 returns-6 : tie.Need-returns-6
-returns-6 c = same-c (c .before .before .before) ∙ sym (amount-literals _ _ (c .match .keys6))
+returns-6 c = same-c (c .before .before .before) ∙ sym (amount-literals _ _ _ _ (c .match .keys6))
 
 returns-7 : tie.Need-returns-7
 returns-7 c =
     let s = c .before .before .before .before .before in
     let z : toZ w64 (ofZ w64 (c .plus5 .result)) ≡ c .plus5 .result = search needs in
     let v : toZ w64 (ofZ w64 (c .before .read-position2 .result)) ≡ c .before .read-position2 .result = search needs in
-    total s (z ∙ c .plus5 .ensures) (v ∙ c .before .read-position2 .ensures) ∙ sym (amount-carried _ _ (c .before .before .match .keys7))
+    total s (z ∙ c .plus5 .ensures) (v ∙ c .before .read-position2 .ensures) ∙ sym (amount-carried _ _ _ _ (c .before .before .match .keys7))
 
 returns-8 : tie.Need-returns-8
 returns-8 c = let e = c .before .before .before .pre .0 in absurd (omega (arith, e .from))
@@ -167,6 +184,7 @@ amount-spec =
     tie.close
     (tie.spec
     sum-requires
+    over-up-requires
     largest-requires
     plus-requires
     smallest-requires
