@@ -2,7 +2,7 @@
 
 use crate::graph;
 use crate::meaning::Direction;
-use crate::program::{signed, Program};
+use crate::program::{signed, Program, QUOTIENT};
 use crate::reader::{parse, Refusal};
 use crate::wrong::Wrong;
 
@@ -176,6 +176,9 @@ fn conditions(program: &Program, assigned: &[i64], bounds: &[Entry]) -> Vec<Entr
     let mut at_most = vec![0; assigned.len()];
     let mut at_least = vec![0; assigned.len()];
     for rule in program.rules.iter().filter(|rule| in_set(rule.head)) {
+        if rule.form == QUOTIENT && program.wrong == Wrong::DivisorIsCondition && !in_set(0) {
+            at_most[0] += 1;
+        }
         for position in 0..rule.terms.len() {
             let v = rule.terms[position].variable;
             if in_set(v) && (program.kept(rule, position) || program.wrong == Wrong::DropsAllOfSet) {

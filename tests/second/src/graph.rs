@@ -1,13 +1,16 @@
 //! The dependency graph and the search for a rule that makes a file invalid.
 
 use crate::meaning::Direction;
-use crate::program::Program;
+use crate::program::{Program, QUOTIENT};
 use crate::wrong::Wrong;
 
 /// For each variable, the variables an edge runs to.
 pub fn edges(program: &Program) -> Vec<Vec<usize>> {
     let mut edges = vec![Vec::new(); program.variables.len()];
     for rule in &program.rules {
+        if rule.form == QUOTIENT && program.wrong == Wrong::DivisorDrawsEdge {
+            edges[rule.head].push(0);
+        }
         for (position, term) in rule.terms.iter().enumerate() {
             let falling = program.direction(rule, position) == Direction::Falling;
             let drawn = !falling || program.wrong == Wrong::DrawsFalling;

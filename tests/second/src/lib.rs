@@ -1,5 +1,5 @@
-//! A second checker for founded cover files, written from document 01, the
-//! papers and the settled points alone. Clarity comes before speed: plain
+//! A second checker for founded cover files, written from documents 01 and 02,
+//! the papers and the settled points alone. Clarity comes before speed: plain
 //! structures, plain searches, naive iteration.
 //!
 //! The four calls are `read`, `least`, `check` and `print`. Each has a twin
@@ -14,6 +14,7 @@ pub mod meaning;
 pub mod printing;
 pub mod program;
 pub mod reader;
+pub mod refused;
 pub mod tally;
 pub mod wrong;
 

@@ -20,7 +20,8 @@ impl Program {
         match (rule.form, term.op) {
             (_, AT_LEAST) => Direction::Rising,
             (_, BELOW) => Direction::Falling,
-            (SUM, _) if term.number < 0 => Direction::Falling,
+            (QUOTIENT, _) if self.wrong == Wrong::QuotientRises => Direction::Rising,
+            (SUM | QUOTIENT, _) if term.number < 0 => Direction::Falling,
             (SIZE, _) if variable.low <= mixed_low && variable.high > 0 => Direction::Mixed,
             (SIZE, _) if variable.low < 0 => Direction::Falling,
             _ => Direction::Rising,
@@ -52,6 +53,17 @@ impl Program {
         }
     }
 
+    /// The smallest whole number not below `sum` over `divisor`: `div_euclid`
+    /// rounds down, which is up between two turns of the sign.
+    fn over(&self, sum: i64, divisor: i64) -> i64 {
+        match self.wrong {
+            Wrong::RoundsDown => sum.div_euclid(divisor),
+            Wrong::RoundsToZero => sum / divisor,
+            Wrong::RoundsAway if sum < 0 => sum.div_euclid(divisor),
+            _ => -(-sum).div_euclid(divisor.max(1)),
+        }
+    }
+
     /// What a rule gives when its positions have these values.
     pub fn gives(&self, rule: &Rule, value: impl Fn(usize) -> i64) -> Option<i64> {
         let count = rule.terms.len();
@@ -66,11 +78,12 @@ impl Program {
         };
         let nothing = if self.wrong == Wrong::NothingIsZero { Some(0) } else { None };
         match rule.form {
-            SUM => {
+            SUM | QUOTIENT => {
                 let sum: i64 = (0..count).map(|i| rule.terms[i].number * value(i)).sum();
                 match self.wrong {
-                    Wrong::ShortSums => Some(i64::from((rule.c + sum) as i16)),
-                    _ => Some(rule.c + sum),
+                    Wrong::ShortSums => Some(self.over(i64::from((rule.c + sum) as i16), rule.divisor)),
+                    Wrong::ConstantLate => Some(rule.c + self.over(sum, rule.divisor)),
+                    _ => Some(self.over(rule.c + sum, rule.divisor)),
                 }
             }
             MAX => (0..count).map(&value).max().map(|m| rule.c + m),

@@ -9,6 +9,7 @@ pub const CONSTRAINTS: usize = 512;
 pub const TERMS: usize = 16;
 pub const VALUE: i64 = 30_000;
 pub const COEFFICIENT: i64 = 1_000;
+pub const DIVISOR: i64 = 1_000;
 
 pub const SUM: u8 = 1;
 pub const MAX: u8 = 2;
@@ -17,6 +18,7 @@ pub const PRODUCT: u8 = 4;
 pub const SIZE: u8 = 5;
 pub const IF: u8 = 6;
 pub const CARRY: u8 = 7;
+pub const QUOTIENT: u8 = 8;
 
 pub const AT_MOST_ZERO: u8 = 1;
 pub const ONE_HOLDS: u8 = 2;
@@ -24,6 +26,8 @@ pub const ONE_HOLDS: u8 = 2;
 pub const PLAIN: u8 = 0;
 pub const AT_LEAST: u8 = 1;
 pub const BELOW: u8 = 2;
+/// The op of a divisor, which is no term.
+pub const OVER: u8 = 3;
 
 #[derive(Clone, Debug)]
 pub struct Variable {
@@ -46,6 +50,8 @@ pub struct Rule {
     pub form: u8,
     pub head: usize,
     pub c: i64,
+    /// 1 in every form but 8.
+    pub divisor: i64,
     pub terms: Vec<Term>,
 }
 

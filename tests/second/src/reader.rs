@@ -68,7 +68,7 @@ fn refuses(number: usize, program: &Program, previous_tag: u8, rest: &[u8]) -> b
         3 => !(VARIABLE..=CONSTRAINT).contains(&rest[0]),
         4 => rest[0] < previous_tag,
         5 => full(program, rest[0]),
-        6 => !length_fits(rest[0], unsigned(rest, 1), program.wrong),
+        6 => !length_fits(rest, program.wrong),
         _ => {
             let value = &rest[3..3 + unsigned(rest, 1)];
             if rest[0] == VARIABLE {
@@ -88,13 +88,28 @@ fn full(program: &Program, tag: u8) -> bool {
     }
 }
 
-fn length_fits(tag: u8, length: usize, wrong: Wrong) -> bool {
-    let most = if wrong == Wrong::SeventeenIsTen { TERMS + 1 } else { TERMS };
+fn length_fits(rest: &[u8], wrong: Wrong) -> bool {
+    let (tag, length) = (rest[0], unsigned(rest, 1));
+    // No length below 3 fits, so that a form is asked for only where one is.
+    let most = if length < 3 { 0 } else { most_groups(tag, rest[3], wrong) };
     match tag {
         VARIABLE => length == 5,
         RULE => (0..=most).any(|n| length == 4 + 4 * n),
         _ => (0..=most).any(|n| length == 3 + 4 * n),
     }
+}
+
+/// The most groups of four bytes: a divisor stands beside the 16 terms.
+fn most_groups(tag: u8, form: u8, wrong: Wrong) -> usize {
+    let one_more = match wrong {
+        Wrong::SeventeenIsTen => true,
+        Wrong::SeventeenPass if form == SUM => tag == RULE,
+        Wrong::EightLikeOthers => false,
+        Wrong::UnknownLikeEight => tag == RULE && form >= QUOTIENT,
+        Wrong::ConstraintLikeEight => form == QUOTIENT,
+        _ => tag == RULE && form == QUOTIENT,
+    };
+    TERMS + usize::from(one_more)
 }
 
 fn refuses_variable(number: usize, value: &[u8]) -> bool {
@@ -113,6 +128,8 @@ struct Body {
     /// Only a rule has one.
     head: Option<usize>,
     c: i64,
+    /// The first group of a rule of form 8, as it stands.
+    divisor: Option<Term>,
     terms: Vec<Term>,
 }
 
@@ -124,17 +141,20 @@ impl Body {
             op: bytes[1],
             number: signed(bytes, 2),
         };
+        let mut terms: Vec<Term> = value[start..].chunks(4).map(term).collect();
+        let divided = tag == RULE && value[0] == QUOTIENT && !terms.is_empty();
         Body {
             tag,
             form: value[0],
             head: if tag == RULE { Some(usize::from(value[1])) } else { None },
             c: signed(value, start - 2),
-            terms: value[start..].chunks(4).map(term).collect(),
+            divisor: if divided { Some(terms.remove(0)) } else { None },
+            terms,
         }
     }
 
     fn form_known(&self) -> bool {
-        (1..=if self.tag == RULE { 7 } else { 2 }).contains(&self.form)
+        (1..=if self.tag == RULE { QUOTIENT } else { ONE_HOLDS }).contains(&self.form)
     }
 
     /// May a term at this position have this op?
@@ -149,15 +169,20 @@ impl Body {
 
     /// Do plain terms of this form carry a coefficient?
     fn has_coefficients(&self) -> bool {
-        self.form == if self.tag == RULE { SUM } else { AT_MOST_ZERO }
+        match self.tag {
+            RULE => self.form == SUM || self.form == QUOTIENT,
+            _ => self.form == AT_MOST_ZERO,
+        }
     }
 
-    fn count_allowed(&self) -> bool {
+    fn count_allowed(&self, wrong: Wrong) -> bool {
         let count = self.terms.len();
-        if count > TERMS {
+        if count > TERMS && wrong != Wrong::SeventeenPass {
             return false;
         }
         match (self.tag, self.form) {
+            (RULE, QUOTIENT) if wrong == Wrong::AloneIsTen => count >= 1,
+            (RULE, QUOTIENT) => self.divisor.is_some(),
             (RULE, SUM) | (CONSTRAINT, AT_MOST_ZERO) => true,
             (RULE, MAX) | (RULE, MIN) | (RULE, IF) | (CONSTRAINT, ONE_HOLDS) => count >= 1,
             (RULE, PRODUCT) => count == 2,
@@ -171,7 +196,12 @@ impl Body {
 fn refuses_body(number: usize, program: &Program, body: &Body) -> bool {
     match number {
         7 => refuses_seven(program, body),
-        8 => body.c.abs() > VALUE || body.terms.iter().any(|t| number_outside(program, body, t)),
+        8 => {
+            let bad_c = body.c.abs() > VALUE;
+            bad_c
+                || divisor_outside(body, program.wrong)
+                || body.terms.iter().any(|t| number_outside(program, body, t))
+        }
         9 => {
             let bad_head = match body.head {
                 Some(head) => !program.variables.get(head).is_some_and(|v| v.founded),
@@ -179,11 +209,14 @@ fn refuses_body(number: usize, program: &Program, body: &Body) -> bool {
             };
             bad_head || body.terms.iter().any(|t| t.variable >= program.variables.len())
         }
-        10 => !body.count_allowed(),
+        10 => !body.count_allowed(program.wrong),
         11 => {
             let mut names: Vec<usize> = body.terms.iter().map(|t| t.variable).collect();
             if program.wrong == Wrong::HeadCountsTwice {
                 names.extend(body.head);
+            }
+            if program.wrong == Wrong::DivisorRepeats {
+                names.extend(body.divisor.iter().map(|d| d.variable));
             }
             (0..names.len()).any(|i| names[..i].contains(&names[i]))
         }
@@ -205,6 +238,8 @@ fn refuses_seven(program: &Program, body: &Body) -> bool {
         !body.op_allowed(*i, term.op) || plain_zero && must_be_zero(term.number)
     };
     let bad_c = body.tag == CONSTRAINT && body.form == ONE_HOLDS && must_be_zero(body.c);
+    let names_none = |d: &Term| d.variable == 0 || wrong == Wrong::DivisorNamesAny;
+    let bad_divisor = body.divisor.iter().any(|d| d.op != OVER || !names_none(d));
     let first_bad = (0..body.terms.len()).find(bad_term);
     if wrong == Wrong::CarryOneIsSeven
         && body.head.is_some()
@@ -213,10 +248,22 @@ fn refuses_seven(program: &Program, body: &Body) -> bool {
     {
         return true;
     }
-    if let (Wrong::TermByTerm, Some(i)) = (wrong, first_bad) {
-        return !body.terms[..i].iter().any(|t| number_outside(program, body, t));
+    if let (Wrong::TermByTerm, Some(i), false) = (wrong, first_bad, bad_divisor) {
+        let outside = |t: &Term| number_outside(program, body, t);
+        return !divisor_outside(body, wrong) && !body.terms[..i].iter().any(outside);
     }
-    !body.form_known() || bad_c || first_bad.is_some()
+    !body.form_known() || bad_c || bad_divisor || first_bad.is_some()
+}
+
+/// Is there a divisor outside its range?
+fn divisor_outside(body: &Body, wrong: Wrong) -> bool {
+    let (least, most) = match wrong {
+        Wrong::DivisorZeroPasses => (0, DIVISOR),
+        Wrong::DivisorOverPasses => (1, DIVISOR + 1),
+        _ => (1, DIVISOR),
+    };
+    let missing = wrong == Wrong::NoGroupIsEight && body.tag == RULE && body.form == QUOTIENT;
+    body.divisor.as_ref().map_or(missing, |d| !(least..=most).contains(&d.number))
 }
 
 /// Is the number of this term outside its range?
@@ -237,9 +284,10 @@ fn take(program: &mut Program, field: &[u8], place: usize) {
         program.variables.push(Variable { founded, low: signed(value, 1), high: signed(value, 3) });
         return;
     }
-    let Body { form, head, c, terms, .. } = Body::of(field[0], value);
+    let Body { form, head, c, divisor, terms, .. } = Body::of(field[0], value);
+    let divisor = divisor.map_or(1, |d| d.number);
     match head {
-        Some(head) => program.rules.push(Rule { place, form, head, c, terms }),
+        Some(head) => program.rules.push(Rule { place, form, head, c, divisor, terms }),
         None => program.constraints.push(Constraint { form, c, terms }),
     }
 }

@@ -8,6 +8,7 @@ use crate::graph;
 use crate::meaning::Direction;
 use crate::program::*;
 use crate::reader::parse;
+use crate::refused;
 use crate::wrong::Wrong;
 
 /// The answers of all calls, with all bytes of the lent buffers.
@@ -61,12 +62,18 @@ impl Tally {
         if let Verdict::Refused { number, place } = seen.verdict {
             self.hit(format!("refusal {number:02}"));
             self.places.entry(number).or_default().insert(place);
+            for name in refused::names(number, &input.file[place..]) {
+                self.hit(name);
+            }
         }
         if let Solved::Refused { number: 15, .. } = seen.solved {
             self.hit("refusal 15 of least");
         }
         let Ok(program) = parse(&input.file, Wrong::Nothing) else { return };
         self.add_program(input, &program);
+        if input.assignment.len() == 2 * program.variables.len() {
+            self.add_quotients(input, &program);
+        }
         if input.buffer == 12 * program.variables.len() && input.buffer > 0 {
             self.hit("buffer: at its least size for check");
         }
@@ -89,6 +96,16 @@ impl Tally {
             if rule.terms.len() == TERMS {
                 names.insert("limit: 16 terms".to_string());
             }
+            let divided = [
+                ("divisor 1", rule.divisor == 1),
+                ("divisor 1,000", rule.divisor == DIVISOR),
+                ("divisor alone", rule.terms.is_empty()),
+                ("16 terms", rule.terms.len() == TERMS),
+                ("a term of variable 0", rule.terms.iter().any(|t| t.variable == 0)),
+            ];
+            for (name, _) in divided.iter().filter(|d| rule.form == QUOTIENT && d.1) {
+                names.insert(format!("form 8: {name}"));
+            }
         }
         for constraint in &program.constraints {
             names.insert(format!("constraint form {}", constraint.form));
@@ -110,15 +127,40 @@ impl Tally {
         }
     }
 
+    /// What the divisors above 1 make of the assigned values.
+    fn add_quotients(&mut self, input: &Input, program: &Program) {
+        let mut names = BTreeSet::new();
+        for rule in program.rules.iter().filter(|rule| rule.divisor > 1) {
+            let term = |t: &Term| t.number * signed(&input.assignment, 2 * t.variable);
+            let sum = rule.c + rule.terms.iter().map(term).sum::<i64>();
+            let sign = if sum < 0 { "negative sum" } else { "sum of 0 or more" };
+            let rest = if sum % rule.divisor == 0 { "no remainder" } else { "a remainder" };
+            names.insert(format!("form 8: {sign}, {rest}"));
+        }
+        for name in names {
+            self.hit(name);
+        }
+    }
+
     fn add_verdict(&mut self, input: &Input, program: &Program, seen: &Seen) {
         let edges = graph::edges(program);
         let on_circle = |v: usize| graph::reached(&edges, v)[v];
+        // A head on a circle that goes through a rule of form 8.
+        let through_eight = |v: usize| {
+            let back =
+                |t: &Term| t.number > 0 && (t.variable == v || graph::reached(&edges, t.variable)[v]);
+            let mut rules = program.rules.iter().filter(|r| r.form == QUOTIENT && r.head == v);
+            rules.any(|r| r.terms.iter().any(back))
+        };
         let value = |v: usize| signed(&input.assignment, 2 * v);
         let Verdict::Unfounded(bounds, conditions) = seen.verdict else {
             let lifted = |v: usize| program.variables[v].founded && value(v) > program.variables[v].low;
             let count = program.variables.len();
             if seen.verdict == Verdict::Stable && (0..count).any(|v| lifted(v) && on_circle(v)) {
                 self.hit("circle: sound, stable");
+            }
+            if seen.verdict == Verdict::Stable && (0..count).any(|v| lifted(v) && through_eight(v)) {
+                self.hit("form 8: circle, sound, stable");
             }
             if seen.verdict == Verdict::Stable && (0..count).any(lifted) {
                 self.hit("stable with something lifted");
@@ -148,6 +190,9 @@ impl Tally {
         }
         if set.iter().any(|&v| on_circle(v)) {
             names.insert("circle: unsound, unfounded".to_string());
+        }
+        if set.iter().any(|&v| through_eight(v)) {
+            names.insert("form 8: circle, unsound, unfounded".to_string());
         }
         if entries[..bounds].iter().any(|e| signed(e, 2) > program.variables[usize::from(e[0])].low) {
             names.insert("bound above low".to_string());
@@ -198,9 +243,9 @@ fn required() -> Vec<(String, usize)> {
     }
     names.extend((1..=16).map(|number| (format!("refusal {number:02}"), 1)));
     names.push(("refusal 15 of least".to_string(), 1));
-    names.extend((1..=7).map(|form| (format!("rule form {form}"), 1)));
+    names.extend((1..=8).map(|form| (format!("rule form {form}"), 1)));
     names.extend((1..=2).map(|form| (format!("constraint form {form}"), 1)));
-    names.extend((1..=7).map(|form| (format!("head in its own body, form {form}"), 1)));
+    names.extend((1..=8).map(|form| (format!("head in its own body, form {form}"), 1)));
     let directions = [
         "1 plain rising",
         "1 plain falling",
@@ -215,6 +260,8 @@ fn required() -> Vec<(String, usize)> {
         "7 plain rising",
         "7 literal rising",
         "7 literal falling",
+        "8 plain rising",
+        "8 plain falling",
     ];
     for name in directions {
         names.push((format!("direction: form {name}"), 1));
@@ -229,6 +276,22 @@ fn required() -> Vec<(String, usize)> {
         }
     }
     names.push(("report: one entry short of full".to_string(), 5));
+    names.extend(refused::CASES.iter().map(|case| (refused::name(case), 5)));
+    names.push(("form 8: 16 terms".to_string(), 5));
+    for name in [
+        "divisor 1",
+        "divisor 1,000",
+        "divisor alone",
+        "a term of variable 0",
+        "sum of 0 or more, no remainder",
+        "sum of 0 or more, a remainder",
+        "negative sum, no remainder",
+        "negative sum, a remainder",
+        "circle, sound, stable",
+        "circle, unsound, unfounded",
+    ] {
+        names.push((format!("form 8: {name}"), 1));
+    }
     for name in ["60,000 bytes", "2,048 rules", "512 constraints"] {
         names.push((format!("limit: {name}"), 10));
     }

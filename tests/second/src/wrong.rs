@@ -86,10 +86,44 @@ pub enum Wrong {
     KeepsOwnComponent,
     /// A head in its own body is kept though it is falling.
     HeadAlwaysKept,
+    /// A sum over a divisor is rounded down.
+    RoundsDown,
+    /// A sum over a divisor is rounded towards 0.
+    RoundsToZero,
+    /// A negative sum over a divisor is rounded away from 0.
+    RoundsAway,
+    /// c is added after dividing.
+    ConstantLate,
+    /// All terms of form 8 are rising.
+    QuotientRises,
+    /// A divisor of 0 passes.
+    DivisorZeroPasses,
+    /// A divisor of 1,001 passes.
+    DivisorOverPasses,
+    /// A divisor may have any variable byte.
+    DivisorNamesAny,
+    /// The divisor and a term of variable 0 are called a repeat.
+    DivisorRepeats,
+    /// The divisor draws an edge to variable 0.
+    DivisorDrawsEdge,
+    /// The divisor makes variable 0 a condition.
+    DivisorIsCondition,
+    /// 17 groups pass in form 1.
+    SeventeenPass,
+    /// 17 groups are called 6 in form 8 too.
+    EightLikeOthers,
+    /// An unknown form may have 17 groups, and is called 7.
+    UnknownLikeEight,
+    /// A constraint of form 8 may have 17 groups, and is called 7.
+    ConstraintLikeEight,
+    /// Form 8 without a group is called 8.
+    NoGroupIsEight,
+    /// Form 8 with the divisor alone is called 10.
+    AloneIsTen,
 }
 
 impl Wrong {
-    pub const ALL: [Wrong; 41] = [
+    pub const ALL: [Wrong; 58] = [
         Wrong::KeepsStandard,
         Wrong::StartsAtZero,
         Wrong::DropsAllOfSet,
@@ -131,5 +165,22 @@ impl Wrong {
         Wrong::LeastAsksTwelve,
         Wrong::KeepsOwnComponent,
         Wrong::HeadAlwaysKept,
+        Wrong::RoundsDown,
+        Wrong::RoundsToZero,
+        Wrong::RoundsAway,
+        Wrong::ConstantLate,
+        Wrong::QuotientRises,
+        Wrong::DivisorZeroPasses,
+        Wrong::DivisorOverPasses,
+        Wrong::DivisorNamesAny,
+        Wrong::DivisorRepeats,
+        Wrong::DivisorDrawsEdge,
+        Wrong::DivisorIsCondition,
+        Wrong::SeventeenPass,
+        Wrong::EightLikeOthers,
+        Wrong::UnknownLikeEight,
+        Wrong::ConstraintLikeEight,
+        Wrong::NoGroupIsEight,
+        Wrong::AloneIsTen,
     ];
 }

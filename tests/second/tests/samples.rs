@@ -1,6 +1,7 @@
-//! The sample plans and the small refusal examples of document 01.
+//! The sample plans and the small refusal examples of document 01, and those
+//! of form 8.
 
-use second::gen::fields::{assignment, bytes, constraint, rule, variable, Field};
+use second::gen::fields::{assignment, bytes, constraint, quotient, rule, variable, Field, Piece};
 use second::{check, least, print, read, Reading, Solved, Verdict};
 
 fn refused(file: &[u8]) -> (usize, usize) {
@@ -148,4 +149,163 @@ fn endless_climb() {
     let mut buffer = [7; 4];
     assert_eq!(least(&bytes(&fields), &assignment(&[5, 5]), &mut buffer), Solved::None);
     assert_eq!(buffer, [7; 4]);
+}
+
+#[test]
+fn quotients() {
+    let alone = |c, divisor| [variable(1, -30_000, 30_000), quotient(0, c, divisor, &[])];
+    for (c, divisor, given) in [
+        (-7, 2, -3),
+        (7, 2, 4),
+        (-8, 2, -4),
+        (8, 2, 4),
+        (0, 5, 0),
+        (1, 1_000, 1),
+        (-1, 1_000, 0),
+        (-999, 1_000, 0),
+        (-1_000, 1_000, -1),
+        (1_001, 1_000, 2),
+        (-30_000, 7, -4_285),
+        (30_000, 7, 4_286),
+        (-30, 1, -30),
+    ] {
+        let over = alone(c, divisor);
+        assert_eq!(says(&over, &[given - 1]), "rule 0\n");
+        assert_eq!(says(&over, &[given]), "stable\n");
+        assert_eq!(says(&over, &[given + 1]), format!("unfounded 1 0\nmost 0 {given}\n"));
+    }
+    assert_eq!(says(&alone(30_000, 1), &[30_000]), "stable\n");
+    assert_eq!(says(&alone(-30_000, 1), &[-30_000]), "stable\n");
+    // c is divided with the sum: 1 + 1 over 2 is 1.
+    let one = [variable(0, 1, 1), variable(1, 0, 9), quotient(1, 1, 2, &[(0, 0, 1)])];
+    assert_eq!(says(&one, &[1, 1]), "stable\n");
+    // 999 * 30,000 - 1,000 * 30,000 is -30,000; from there to -30,999 it is -30.
+    let wide = |kind| variable(kind, -30_000, 30_000);
+    let terms = [(0, 0, 999), (1, 0, 1_000)];
+    for c in [0, -1, -999] {
+        let far = [wide(0), wide(0), wide(1), quotient(2, c, 1_000, &terms)];
+        assert_eq!(says(&far, &[30_000, -30_000, -31]), "rule 0\n");
+        assert_eq!(says(&far, &[30_000, -30_000, -30]), "stable\n");
+    }
+}
+
+#[test]
+fn divisor_refusals() {
+    let two = [variable(1, 0, 9), variable(0, 0, 9)];
+    let with = |field: Field| refused(&bytes(&[two[0].clone(), two[1].clone(), field]));
+    let eight = |groups: &[Piece]| with(rule(8, 0, 0, groups));
+    assert_eq!(eight(&[(0, 3, 1)]), (0, 0));
+    assert_eq!(eight(&[(0, 3, 1_000)]), (0, 0));
+    assert_eq!(eight(&[(0, 3, 2), (0, 0, 1), (1, 0, -1_000)]), (0, 0));
+    // 6
+    assert_eq!(eight(&[(0, 3, 2); 18]), (6, 16));
+    assert_eq!(eight(&[(0, 3, 2); 17]), (7, 16));
+    for form in [0, 1, 2, 4, 6, 7, 9, 255] {
+        assert_eq!(with(rule(form, 0, 0, &[(0, 3, 2); 17])), (6, 16));
+    }
+    assert_eq!(with(rule(9, 0, 0, &[(0, 3, 2); 16])), (7, 16));
+    assert_eq!(with(constraint(8, 0, &[(0, 3, 2); 17])), (6, 16));
+    // 7
+    assert_eq!(with(constraint(8, 0, &[(0, 3, 2); 16])), (7, 16));
+    assert_eq!(with(constraint(8, 0, &[(0, 3, 2), (1, 0, 1)])), (7, 16));
+    assert_eq!(with(constraint(8, 0, &[])), (7, 16));
+    assert_eq!(eight(&[(1, 3, 2)]), (7, 16));
+    assert_eq!(eight(&[(255, 3, 2), (1, 0, 1)]), (7, 16));
+    for op in [0, 1, 2, 4, 255] {
+        assert_eq!(eight(&[(0, op, 2), (1, 0, 1)]), (7, 16));
+    }
+    for op in [1, 2, 3, 4] {
+        assert_eq!(eight(&[(0, 3, 2), (1, op, 1)]), (7, 16));
+        assert_eq!(eight(&[(0, 3, 0), (1, op, 1)]), (7, 16));
+    }
+    assert_eq!(eight(&[(1, 3, 2), (1, 0, 0)]), (7, 16));
+    assert_eq!(eight(&[(1, 3, 0)]), (7, 16));
+    for form in 1..=7 {
+        assert_eq!(with(rule(form, 0, 0, &[(0, 3, 1)])), (7, 16));
+        assert_eq!(with(rule(form, 0, 0, &[(0, 3, 1), (1, 0, 1)])), (7, 16));
+    }
+    for form in 1..=2 {
+        assert_eq!(with(constraint(form, 0, &[(0, 3, 1)])), (7, 16));
+    }
+    // 8
+    for divisor in [0, -1, -1_000, 1_001, 30_000, 32_767, -32_768] {
+        assert_eq!(eight(&[(0, 3, divisor)]), (8, 16));
+        assert_eq!(eight(&[(0, 3, divisor), (9, 0, 1), (9, 0, 1)]), (8, 16));
+    }
+    for coefficient in [0, 1_001, -1_001] {
+        assert_eq!(eight(&[(0, 3, 2), (1, 0, coefficient)]), (8, 16));
+    }
+    assert_eq!(with(rule(8, 0, 30_001, &[(0, 3, 2)])), (8, 16));
+    // Without a group: 8, 9, 10 in turn.
+    assert_eq!(with(rule(8, 1, 30_001, &[])), (8, 16));
+    assert_eq!(with(rule(8, 1, 0, &[])), (9, 16));
+    assert_eq!(with(rule(8, 9, 0, &[])), (9, 16));
+    assert_eq!(with(rule(8, 0, 0, &[])), (10, 16));
+    // 9 and 11
+    assert_eq!(with(rule(8, 1, 0, &[(0, 3, 2)])), (9, 16));
+    assert_eq!(eight(&[(0, 3, 2), (2, 0, 1), (2, 0, 1)]), (9, 16));
+    assert_eq!(eight(&[(0, 3, 2), (0, 0, 1), (0, 0, 1)]), (11, 16));
+    assert_eq!(refused(&bytes(&[rule(8, 0, 0, &[(0, 3, 2)])])), (9, 0));
+    // 16 terms beside the divisor, and one more.
+    let mut many: Vec<Field> = vec![variable(1, 0, 9); 17];
+    let terms: Vec<Piece> = (0..17).map(|v| (v, 0, 1)).collect();
+    many.push(quotient(0, 0, 3, &terms[..16]));
+    assert_eq!(refused(&bytes(&many)), (0, 0));
+    many[17] = quotient(0, 0, 3, &terms);
+    assert_eq!(refused(&bytes(&many)), (6, 136));
+}
+
+#[test]
+fn divisor_and_validity() {
+    // a >= |b|, and b over a divisor with or without a.
+    let file = |terms: &[Piece]| {
+        let rules = vec![rule(5, 0, 0, &[(1, 0, 0)]), quotient(1, 0, 2, terms)];
+        bytes(&[vec![variable(1, 0, 10), variable(1, -10, 10)], rules].concat())
+    };
+    assert_eq!(refused(&file(&[])), (0, 0));
+    assert_eq!(refused(&file(&[(0, 0, 1)])), (13, 16));
+    assert_eq!(refused(&file(&[(0, 0, -1)])), (0, 0));
+    assert_eq!(refused(&file(&[(1, 0, 1)])), (0, 0));
+}
+
+#[test]
+fn third_of_a_sum() {
+    // Three guards share a walk, the desk needs a third: 3 + 4 + 3 over 3 is 4.
+    let guards = vec![variable(0, 0, 9); 3];
+    let third = vec![variable(1, 0, 9), quotient(3, 0, 3, &[(0, 0, 1), (1, 0, 1), (2, 0, 1)])];
+    let plan = [guards, third].concat();
+    assert_eq!(says(&plan, &[3, 4, 3, 3]), "rule 0\n");
+    assert_eq!(says(&plan, &[3, 4, 3, 4]), "stable\n");
+    let shown = "unfounded 1 3\nmost 3 4\nwhen 0 <= 3\nwhen 1 <= 4\nwhen 2 <= 3\n";
+    assert_eq!(says(&plan, &[3, 4, 3, 5]), shown);
+    assert_eq!(says(&plan, &[3, 3, 3, 3]), "stable\n");
+    assert_eq!(says(&plan, &[0, 0, 0, 0]), "stable\n");
+    assert_eq!(says(&plan, &[0, 0, 1, 1]), "stable\n");
+    // One guard less: variable 0 is in no body, though the divisor's byte is 0.
+    let mut less = plan.clone();
+    less[4] = quotient(3, 0, 3, &[(1, 0, 1), (2, 0, -1)]);
+    assert_eq!(says(&less, &[3, 9, 1, 3]), "stable\n");
+    assert_eq!(says(&less, &[3, 9, 1, 4]), "unfounded 1 2\nmost 3 3\nwhen 1 <= 9\nwhen 2 >= 1\n");
+    assert_eq!(says(&less, &[3, 1, 9, 0]), "stable\n");
+    assert_eq!(says(&less, &[3, 1, 9, 1]), "unfounded 1 2\nmost 3 0\nwhen 1 <= 1\nwhen 2 >= 9\n");
+}
+
+#[test]
+fn circles_over_a_divisor() {
+    // 000 example 1: y >= 4 + x, 2x >= y; its minimal solution is 4, 8.
+    let ten = vec![variable(1, 0, 10); 2];
+    let rules = vec![rule(1, 1, 4, &[(0, 0, 1)]), quotient(0, 0, 2, &[(1, 0, 1)])];
+    let one = [ten, rules].concat();
+    assert_eq!(says(&one, &[4, 8]), "stable\n");
+    assert_eq!(says(&one, &[3, 7]), "rule 1\n");
+    assert_eq!(says(&one, &[5, 9]), "unfounded 2 0\nmost 0 4\nmost 1 8\n");
+    // A head in its own body: kept when rising, a condition when falling.
+    let own = |number: i64, c| [variable(1, 0, 5), quotient(0, c, 2, &[(0, 0, number)])];
+    assert_eq!(says(&own(1, 1), &[0]), "rule 0\n");
+    assert_eq!(says(&own(1, 1), &[1]), "stable\n");
+    assert_eq!(says(&own(1, 1), &[2]), "unfounded 1 0\nmost 0 1\n");
+    assert_eq!(says(&own(1, 0), &[1]), "unfounded 1 0\nmost 0 0\n");
+    assert_eq!(says(&own(-1, 5), &[1]), "rule 0\n");
+    assert_eq!(says(&own(-1, 5), &[2]), "stable\n");
+    assert_eq!(says(&own(-1, 5), &[3]), "unfounded 1 1\nmost 0 1\nwhen 0 >= 3\n");
 }

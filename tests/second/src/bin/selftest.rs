@@ -72,29 +72,25 @@ fn brute_force(programs: u64, failures: &mut Vec<String>) {
         }
     }
     println!("brute force {tried:?}");
-    let each = [tried.invalid, tried.stable, tried.unfounded, tried.kept_below, tried.no_model];
-    if programs >= 1_000 && each.iter().any(|&n| n < 50) {
+    if programs >= 1_000 && tried.each().iter().any(|&n| n < 50) {
         failures.push("brute force tried too little".to_string());
     }
 }
 
 fn variants(bound: u64, failures: &mut Vec<String>) {
-    for wrong in Wrong::ALL {
-        let mut first = None;
-        let mut differing = 0;
-        for seed in 0..bound {
-            let input = gen::input(seed);
-            if see(&input, 0xA5, wrong) != see(&input, 0xA5, Wrong::Nothing) {
-                first = first.or(Some(seed));
-                differing += 1;
+    let mut unseen = Wrong::ALL.to_vec();
+    for seed in 0..bound {
+        let input = gen::input(seed);
+        let right = see(&input, 0xA5, Wrong::Nothing);
+        unseen.retain(|&wrong| {
+            let same = see(&input, 0xA5, wrong) == right;
+            if !same {
+                println!("wrong variant {wrong:?}: first differs on input {seed}");
             }
-            if differing == 5 {
-                break;
-            }
-        }
-        match first {
-            Some(seed) => println!("wrong variant {wrong:?}: first differs on input {seed}"),
-            None => failures.push(format!("wrong variant {wrong:?} not found in {bound} inputs")),
-        }
+            same
+        });
+    }
+    for wrong in unseen {
+        failures.push(format!("wrong variant {wrong:?} not found in {bound} inputs"));
     }
 }

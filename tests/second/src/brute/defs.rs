@@ -20,7 +20,7 @@ fn push(program: &Program, rule: &Rule, i: usize) -> i32 {
             0
         };
     }
-    if rule.form == SUM {
+    if rule.form == SUM || rule.form == QUOTIENT {
         return term.number.signum() as i32;
     }
     if term.op == BELOW {
@@ -47,6 +47,10 @@ fn given(rule: &Rule, values: &[i64]) -> i64 {
     let mut result = rule.c;
     match rule.form {
         SUM => rule.terms.iter().zip(&plain).for_each(|(t, v)| result += t.number * v),
+        QUOTIENT => {
+            rule.terms.iter().zip(&plain).for_each(|(t, v)| result += t.number * v);
+            result = not_below(result, rule.divisor);
+        }
         MAX => result += plain.iter().fold(i64::from(i16::MIN), |a, &b| a.max(b)),
         MIN => result += plain.iter().fold(i64::from(i16::MAX), |a, &b| a.min(b)),
         PRODUCT => result += plain.iter().product::<i64>(),
@@ -55,6 +59,20 @@ fn given(rule: &Rule, values: &[i64]) -> i64 {
         _ => {}
     }
     result
+}
+
+/// The smallest whole number that, taken `divisor` times, is not below `sum`.
+/// Any number may be the first one tried.
+fn not_below(sum: i64, divisor: i64) -> i64 {
+    let enough = |n: i64| n * divisor >= sum;
+    let mut number = sum / divisor;
+    while !enough(number) {
+        number += 1;
+    }
+    while enough(number - 1) {
+        number -= 1;
+    }
+    number
 }
 
 pub fn constraint_met(constraint: &Constraint, values: &[i64]) -> bool {
@@ -107,6 +125,17 @@ impl Small {
         let rules = &self.program.rules;
         (0..rules.len())
             .find(|&r| !self.within(&rules[r], a[rules[r].head], |i| a[rules[r].terms[i].variable]))
+    }
+
+    /// For every rule with a divisor above 1, its sum by `a`, and whether the
+    /// divisor leaves a remainder of it.
+    pub fn quotients(&self, a: &[i64]) -> Vec<(i64, bool)> {
+        let quotient = |rule: &Rule| {
+            let terms = rule.terms.iter().map(|t| t.number * a[t.variable]);
+            let sum = terms.fold(rule.c, |sum, term| sum + term);
+            (sum, not_below(sum, rule.divisor) * rule.divisor != sum)
+        };
+        self.program.rules.iter().filter(|r| r.divisor > 1).map(quotient).collect()
     }
 
     /// All valuations in the ranges that meet the reduct by `a`.

@@ -33,6 +33,33 @@ pub struct Tried {
     pub no_model: usize,
     /// Assignments outside their ranges.
     pub outside: usize,
+    /// Assignments by which a divisor above 1 divides a sum evenly, leaves a
+    /// remainder, and leaves one of a negative sum.
+    pub even: usize,
+    pub uneven: usize,
+    pub uneven_below: usize,
+    /// Stable and unfounded ones among those with a remainder.
+    pub uneven_stable: usize,
+    pub uneven_unfounded: usize,
+}
+
+impl Tried {
+    /// What has to be tried often enough.
+    pub fn each(&self) -> [usize; 11] {
+        [
+            self.invalid,
+            self.stable,
+            self.unfounded,
+            self.kept_below,
+            self.no_model,
+            self.outside,
+            self.even,
+            self.uneven,
+            self.uneven_below,
+            self.uneven_stable,
+            self.uneven_unfounded,
+        ]
+    }
 }
 
 fn bytes(values: &[i64]) -> Vec<u8> {
@@ -62,11 +89,19 @@ pub fn try_file(calls: &Calls, file: &[u8], tried: &mut Tried) -> Result<(), Str
     let stable: Vec<&Vec<i64>> = all.iter().filter(|a| is_stable(&small, a)).collect();
     for a in &all {
         tried.assignments += 1;
+        let quotients = small.quotients(a);
+        let uneven = quotients.iter().any(|q| q.1);
+        tried.even += usize::from(quotients.iter().any(|q| !q.1));
+        tried.uneven += usize::from(uneven);
+        tried.uneven_below += usize::from(quotients.iter().any(|q| q.1 && q.0 < 0));
+        let before = (tried.stable, tried.unfounded);
         if !small.moves_as_said(a) {
             return Err(format!("{a:?}: a rule does not move as its directions say"));
         }
         try_least(calls, &small, file, a, tried).map_err(|e| format!("{a:?}: {e}"))?;
         try_check(calls, &small, file, a, &stable, tried).map_err(|e| format!("{a:?}: {e}"))?;
+        tried.uneven_stable += usize::from(uneven && tried.stable > before.0);
+        tried.uneven_unfounded += usize::from(uneven && tried.unfounded > before.1);
     }
     Ok(())
 }

@@ -12,7 +12,7 @@ pub fn damage(random: &mut Random, file: &mut Vec<u8>) {
         let at = random.below(n);
         match random.below(11) {
             0..=2 => file[at] ^= 1 << random.below(8),
-            3 => file[at] = random.pick(&[0, 1, 2, 3, 7, 127, 128, 255]),
+            3 => file[at] = random.pick(&[0, 1, 2, 3, 7, 8, 127, 128, 255]),
             4 => file.truncate(at),
             5 => file.swap(at, (at + 1 + random.below(8)) % n),
             6 => file.insert(at, random.byte()),

@@ -27,6 +27,11 @@ pub fn rule(form: u8, head: u8, c: i64, terms: &[Piece]) -> Field {
     Field { tag: 2, value }
 }
 
+/// A rule of form 8: the divisor's group, then the terms.
+pub fn quotient(head: u8, c: i64, divisor: i64, terms: &[Piece]) -> Field {
+    rule(8, head, c, &[&[(0, 3, divisor)], terms].concat())
+}
+
 pub fn constraint(form: u8, c: i64, terms: &[Piece]) -> Field {
     let mut value = vec![form];
     value.extend(number(c));

@@ -28,21 +28,35 @@ fn filler(random: &mut Random, tag: u8, terms: usize) -> Field {
     }
 }
 
+/// A rule of form 8 with so many groups, the divisor's among them.
+fn divided(random: &mut Random, groups: usize) -> Field {
+    let names = random.distinct(256, groups - 1);
+    let terms: Vec<Piece> =
+        names.iter().map(|&v| (v as u8, 0, random.pick(&[1, 1_000, -1_000]))).collect();
+    let divisor = random.pick(&[1, 2, 3, 999, 1_000]);
+    fields::quotient(random.byte(), random.pick(&[-30_000, -1, 0, 1]), divisor, &terms)
+}
+
 fn variables(count: usize) -> Vec<Field> {
     (0..count).map(|_| fields::variable(1, 0, 1)).collect()
 }
 
 /// Exactly 60,000 bytes of sound fields: 256 variables, r rules and k
-/// constraints, and as many terms as are needed to fill the rest.
+/// constraints, and as many groups as are needed to fill the rest.
 fn brimful(random: &mut Random) -> Vec<Field> {
     let mut out = variables(256);
     let (rules, constraints) = (4 * (200 + random.below(10)), 2 * (20 + random.below(5)));
-    let mut terms = (60_000 - 2_048 - 7 * rules - 6 * constraints) / 4;
+    let mut groups = (60_000 - 2_048 - 7 * rules - 6 * constraints) / 4;
+    let divides = random.percent(50);
     for i in 0..rules + constraints {
         let left = rules + constraints - i;
-        let here = terms.div_ceil(left).min(16);
-        terms -= here;
-        out.push(filler(random, if i < rules { 2 } else { 3 }, here));
+        let here = groups.div_ceil(left).min(16);
+        groups -= here;
+        out.push(match i < rules {
+            true if divides && here > 0 && random.percent(30) => divided(random, here),
+            true => filler(random, 2, here),
+            false => filler(random, 3, here),
+        });
     }
     out
 }
@@ -50,7 +64,7 @@ fn brimful(random: &mut Random) -> Vec<Field> {
 /// A file at a limit, or one beyond it, with what is due.
 pub fn at_limit(random: &mut Random) -> (Vec<u8>, usize, Due) {
     let founded = |n: usize| variables(n);
-    match random.below(9) {
+    match random.below(12) {
         0 => (fields::bytes(&brimful(random)), 256, None),
         1 => {
             let mut file = fields::bytes(&brimful(random));
@@ -94,13 +108,37 @@ pub fn at_limit(random: &mut Random) -> (Vec<u8>, usize, Due) {
             out.push(filler(random, tag, 16));
             (fields::bytes(&out), 256, None)
         }
+        8 | 9 => {
+            // 16 terms beside a divisor, or one more.
+            let mut out = founded(256);
+            let more = random.below(2);
+            out.push(divided(random, 17 + more));
+            (fields::bytes(&out), 256, if more == 0 { None } else { Some((6, 2_048)) })
+        }
+        10 => {
+            // 17 groups that only form 8 of a rule may have.
+            let mut out = founded(256);
+            let mut field = divided(random, 17);
+            if random.percent(50) {
+                field.value[0] = random.pick(&[0, 1, 2, 6, 7, 9, 9, 9, 128, 255]);
+            } else {
+                field.tag = 3;
+                field.value.remove(1);
+            }
+            out.push(field);
+            (fields::bytes(&out), 256, Some((6, 2_048)))
+        }
         _ => {
-            // 17 terms; for a product too, and with a wrong op.
+            // 17 terms, sound ones too; also for a product and with a wrong op.
             let mut out = founded(256);
             let tag = 2 + random.below(2) as u8;
-            let mut field = filler(random, tag, 16);
-            field.value.extend(fields::pieces(&[(random.byte(), random.byte() % 4, 0)]));
-            if random.percent(40) {
+            let mut field = filler(random, tag, 17);
+            if random.percent(50) {
+                let last = field.value.len() - 4;
+                field.value.truncate(last);
+                field.value.extend(fields::pieces(&[(random.byte(), random.byte() % 4, 0)]));
+            }
+            if random.percent(20) {
                 field.value[0] = 4;
             }
             out.push(field);

@@ -2,6 +2,7 @@
 
 pub mod assignments;
 pub mod damage;
+pub mod divisors;
 pub mod fields;
 pub mod limits;
 pub mod prng;
@@ -56,7 +57,8 @@ pub fn input(seed: u64) -> Input {
             let buffer = 12 * variables;
             Input { file, assignment: fields::assignment(&values), buffer, label: "limit", due }
         }
-        70..=94 => {
+        70..=72 => misdivided(random),
+        73..=94 => {
             let shape = random.pick(&[programs::SMALL, programs::MIDDLE]);
             let mut input = plan(random, "damaged", shape);
             damage::damage(random, &mut input.file);
@@ -125,6 +127,16 @@ fn spoilt(random: &mut Random) -> Input {
     }
     let file = file.unwrap_or_else(|| fields::bytes(&list));
     Input { file, assignment, buffer: 0, label: "spoilt", due }
+}
+
+/// A file with a fault that has to do with a divisor.
+fn misdivided(random: &mut Random) -> Input {
+    let shape = random.pick(&[programs::SMALL, programs::MIDDLE]);
+    let (mut list, witness) = programs::program(random, shape);
+    let accepted = matches!(crate::read(&fields::bytes(&list)), crate::Reading::Accepted { .. });
+    let due = if accepted { divisors::spoil(random, &mut list) } else { None };
+    let (file, assignment) = (fields::bytes(&list), fields::assignment(&witness));
+    Input { file, assignment, buffer: 0, label: "divisor", due }
 }
 
 /// A small program for the brute force: few variables, short ranges.

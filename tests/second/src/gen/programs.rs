@@ -46,6 +46,7 @@ pub fn program(random: &mut Random, shape: Shape) -> (Vec<Field>, Vec<i64>) {
         let manner = Manner {
             only_up: random.percent(40),
             no_circle: straddling && random.percent(80) || random.percent(25),
+            divides: random.percent(20),
         };
         for _ in 0..random.below(shape.rules + 1) {
             let head = random.pick(&heads);
@@ -73,6 +74,8 @@ struct Manner {
     only_up: bool,
     /// Bodies use higher numbers than their heads, so that size may be mixed.
     no_circle: bool,
+    /// A part of the rules has a divisor.
+    divides: bool,
 }
 
 /// The numbers of the founded variables.
@@ -106,6 +109,17 @@ fn coefficient(random: &mut Random, only_up: bool) -> i64 {
     }
 }
 
+/// Mostly a small one.
+pub fn divisor(random: &mut Random) -> i64 {
+    match random.below(12) {
+        0 => 1,
+        1 => 1_000,
+        2 => random.between(1, 1_000),
+        3 => random.between(6, 12),
+        _ => random.between(2, 5),
+    }
+}
+
 /// A rule met by the witness wherever the constant's range allows it.
 fn rule(
     random: &mut Random,
@@ -132,11 +146,15 @@ fn rule(
     if body.is_empty() {
         form = 1;
     }
+    if manner.divides && random.percent(40) {
+        form = 8;
+    }
     let at = |v: usize| witness[v];
     let plain = |v: &usize| (*v as u8, 0, 0);
     let (terms, value): (Vec<Piece>, Option<i64>) = match form {
-        1 => {
-            body.truncate(random.below(body.len() + 1));
+        1 | 8 => {
+            let least = usize::from(form == 8 && !body.is_empty() && random.percent(80));
+            body.truncate(random.between(least as i64, body.len() as i64) as usize);
             let terms: Vec<Piece> =
                 body.iter().map(|&v| (v as u8, 0, coefficient(random, only_up))).collect();
             let sum = terms.iter().map(|t| t.2 * at(usize::from(t.0))).sum();
@@ -167,6 +185,17 @@ fn rule(
         }
     };
     let head_value = witness[usize::from(head)];
+    if form == 8 {
+        // Any rest below the divisor is rounded away.
+        let divisor = divisor(random);
+        let wanted = head_value - random.pick(&[0, 0, 0, 1, 2, shape.span / 2]);
+        let rest = if random.percent(25) { 0 } else { random.between(0, divisor - 1) };
+        let c = match value {
+            Some(sum) if random.percent(97) => divisor * wanted - rest - sum,
+            _ => random.between(-5, 5),
+        };
+        return fields::quotient(head, c.clamp(-30_000, 30_000), divisor, &terms);
+    }
     let c = match value {
         _ if random.percent(3) => random.between(-5, 5),
         Some(value) => head_value - value - random.pick(&[0, 0, 0, 1, 2, shape.span / 2]),
@@ -200,37 +229,55 @@ fn constraint(
     fields::constraint(2, 0, &terms)
 }
 
-/// Posts in a ring, each covered through the one before it; with or without
-/// a guard behind it. With a step the cover loses a little on the way, so
-/// that the circle is sound though it is a circle.
+/// Heads in a ring, each lifted through the one before it; with or without
+/// a standard variable that lifts one of them. With a step a little is lost
+/// on the way, so that the circle is sound though it is a circle.
 pub fn ring(random: &mut Random) -> (Vec<Field>, Vec<i64>) {
-    let posts = 2 + random.below(38);
+    let heads = 2 + random.below(38);
     let high = random.between(1, 30);
-    let guard = posts as u8;
-    let gained = random.percent(15) && posts < 6;
-    let mut out: Vec<Field> = (0..posts).map(|_| fields::variable(1, 0, high)).collect();
+    let outside = heads as u8;
+    let gained = random.percent(15) && heads < 6;
+    let divides = random.percent(30);
+    let mut out: Vec<Field> = (0..heads).map(|_| fields::variable(1, 0, high)).collect();
     out.push(fields::variable(0, 0, 1));
-    for post in random.distinct(posts, posts) {
-        let before = ((post + posts - 1) % posts) as u8;
+    for head in random.distinct(heads, heads) {
+        let before = ((head + heads - 1) % heads) as u8;
+        let head = head as u8;
         let step = if gained { 1 } else { random.pick(&[0, 0, 0, -1]) };
-        let made = match random.below(6) {
-            0 => fields::rule(1, post as u8, step, &[(before, 0, 1)]),
-            1 => fields::rule(2, post as u8, step, &[(before, 0, 0)]),
-            2 => fields::rule(3, post as u8, step, &[(before, 0, 0)]),
-            3 => fields::rule(5, post as u8, step, &[(before, 0, 0)]),
-            4 => fields::rule(7, post as u8, step, &[(before, 0, 0), (guard, 2, 2)]),
-            _ => fields::rule(6, post as u8, high.min(2), &[(before, 1, high.min(2))]),
+        let made = match random.below(if divides { 10 } else { 6 }) {
+            0 => fields::rule(1, head, step, &[(before, 0, 1)]),
+            1 => fields::rule(2, head, step, &[(before, 0, 0)]),
+            2 => fields::rule(3, head, step, &[(before, 0, 0)]),
+            3 => fields::rule(5, head, step, &[(before, 0, 0)]),
+            4 => fields::rule(7, head, step, &[(before, 0, 0), (outside, 2, 2)]),
+            5 => fields::rule(6, head, high.min(2), &[(before, 1, high.min(2))]),
+            _ => divided(random, head, before, high, step),
         };
         out.push(made);
     }
-    let start = random.below(posts) as u8;
+    let start = random.below(heads) as u8;
     if random.percent(70) {
-        out.push(fields::rule(6, start, high, &[(guard, 1, 1)]));
+        out.push(fields::rule(6, start, high, &[(outside, 1, 1)]));
     }
     let level = random.pick(&[high, 0, high / 2]);
-    let mut witness = vec![level; posts];
+    let mut witness = vec![level; heads];
     witness.push(random.between(0, 1));
     (out, witness)
+}
+
+/// A step of the ring with a divisor: the whole of the one before, a share of
+/// it that comes to rest at 0, 1 or high, or a share of it and the head.
+fn divided(random: &mut Random, head: u8, before: u8, high: i64, step: i64) -> Field {
+    let d = divisor(random);
+    let whole = d * step - random.between(0, d - 1);
+    match random.below(4) {
+        0 | 1 => fields::quotient(head, whole, d, &[(before, 0, d)]),
+        2 => {
+            let c = random.pick(&[0, d - 1, (d - 1) * high]);
+            fields::quotient(head, c, d, &[(before, 0, 1)])
+        }
+        _ => fields::quotient(head, 2 * step, 2, &[(before, 0, 1), (head, 0, 1)]),
+    }
 }
 
 /// Two or three variables that climb a long way by small steps.

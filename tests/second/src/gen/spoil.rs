@@ -2,6 +2,7 @@
 
 use super::fields::{self, Field, Piece};
 use super::prng::Random;
+use super::programs::divisor;
 
 /// Puts a fault of this number (3, 6 to 12) into field `i`. It brings no
 /// refusal of a lower number with it. False when the field cannot have it.
@@ -15,13 +16,14 @@ fn spoil(random: &mut Random, fields: &mut [Field], i: usize, number: usize) -> 
         6 => {
             let start = [5, 4, 3][usize::from(tag - 1)];
             let step = if tag == 1 { 1_000 } else { 4 };
+            let most = if tag == 2 && fields[i].value[0] == 8 { 17 } else { 16 };
             let wanted = loop {
                 let length = match random.below(3) {
                     0 => random.below(start + 3),
-                    1 => start + 4 * random.below(18),
+                    1 => start + 4 * random.below(20),
                     _ => random.below(90),
                 };
-                let fits = length >= start && (length - start) % step == 0 && length <= start + 64;
+                let fits = length >= start && (length - start) % step == 0 && length <= start + 4 * most;
                 if !fits {
                     break length;
                 }
@@ -55,8 +57,14 @@ fn start(field: &Field) -> usize {
     }
 }
 
-fn term_count(field: &Field) -> usize {
+/// How many groups of four bytes there are.
+fn group_count(field: &Field) -> usize {
     (field.value.len() - start(field)) / 4
+}
+
+/// A rule of form 8, whose first group is no term.
+fn divides(field: &Field) -> bool {
+    field.tag == 2 && field.value[0] == 8
 }
 
 fn seven(random: &mut Random, field: &mut Field) {
@@ -66,24 +74,32 @@ fn seven(random: &mut Random, field: &mut Field) {
         return;
     }
     let form = field.value[0];
-    let count = term_count(field);
-    if count == 0 || random.percent(30) {
+    let count = group_count(field);
+    if count == 0 || count <= 16 && random.percent(30) {
         field.value[0] = match tag {
-            2 => random.pick(&[0, 8, 9, 200, 255]),
-            _ => random.pick(&[0, 3, 7, 200, 255]),
+            // The first group of another form is no divisor.
+            2 if count > 0 && form != 8 => random.pick(&[0, 8, 9, 200, 255]),
+            2 => random.pick(&[0, 9, 200, 255]),
+            _ => random.pick(&[0, 3, 7, 8, 200, 255]),
         };
         return;
     }
     if tag == 3 && form == 2 && random.percent(40) {
-        let c = random.pick(&[1, -1, 30_001, -32_768]);
+        let c = random.pick(&[1, -1, 30_001, -30_001, 32_767, -32_768]);
         set(&mut field.value, 1, c);
         return;
     }
     let position = if random.percent(40) { count - 1 } else { random.below(count) };
     let at = start(field) + 4 * position;
     let plain = field.value[at + 1] == 0;
-    if plain && form != 1 && random.percent(50) {
-        let n = random.pick(&[1, -1, 1_001, 30_001, -32_768]);
+    if divides(field) && position == 0 {
+        if random.percent(50) {
+            field.value[at] = random.pick(&[1, 2, 255]);
+        } else {
+            field.value[at + 1] = random.pick(&[0, 1, 2, 4, 255]);
+        }
+    } else if plain && form != 1 && form != 8 && random.percent(50) {
+        let n = random.pick(&[1, -1, 1_001, 30_001, -30_001, 32_767, -32_768]);
         set(&mut field.value, at + 2, n);
     } else if plain {
         field.value[at + 1] = random.pick(&[1, 2, 3, 255]);
@@ -107,7 +123,7 @@ fn eight(random: &mut Random, field: &mut Field) -> bool {
         }
         return true;
     }
-    let (form, count) = (field.value[0], term_count(field));
+    let (form, count) = (field.value[0], group_count(field));
     let must_be_zero = field.tag == 3 && form == 2;
     if count == 0 || !must_be_zero && random.percent(40) {
         if must_be_zero {
@@ -119,8 +135,9 @@ fn eight(random: &mut Random, field: &mut Field) -> bool {
     }
     let at = start(field) + 4 * random.below(count);
     let n = match field.value[at + 1] {
-        0 if form == 1 => random.pick(&[0, 1_001, -1_001, 30_001, -32_768]),
+        0 if form == 1 || form == 8 => random.pick(&[0, 1_001, -1_001, 30_001, -32_768]),
         0 => return false,
+        3 => random.pick(&[0, -1, 1_001, -1_000, 30_001, -32_768]),
         _ => beyond,
     };
     set(&mut field.value, at + 2, n);
@@ -130,7 +147,9 @@ fn eight(random: &mut Random, field: &mut Field) -> bool {
 fn nine(random: &mut Random, fields: &mut [Field], i: usize) -> bool {
     let all = fields::variables(fields);
     let standard: Vec<u8> = (0..all.len()).filter(|&v| all[v].0 == 0).map(|v| v as u8).collect();
-    let count = term_count(&fields[i]);
+    // The first group of form 8 names no variable.
+    let first = usize::from(divides(&fields[i]));
+    let count = group_count(&fields[i]).saturating_sub(first);
     let unknown = random.between(all.len() as i64, 256.max(all.len() as i64 + 3)) as usize;
     let unknown = if random.percent(40) { all.len() } else { unknown };
     if fields[i].tag == 2 && (count == 0 || random.percent(50)) {
@@ -146,18 +165,20 @@ fn nine(random: &mut Random, fields: &mut [Field], i: usize) -> bool {
     if count == 0 || unknown > 255 {
         return false;
     }
-    let at = start(&fields[i]) + 4 * random.below(count);
+    let at = start(&fields[i]) + 4 * (first + random.below(count));
     fields[i].value[at] = unknown as u8;
     true
 }
 
-/// A term that passes 7, 8 and 9 at this position of this form.
+/// A group that passes 7, 8 and 9 at this position of this form.
 fn fitting(random: &mut Random, rule: bool, form: u8, position: usize, variables: usize) -> Piece {
     let variable = random.below(variables) as u8;
     let literal = if rule { form == 6 || form == 7 && position > 0 } else { form == 2 };
     if literal {
         (variable, 1 + random.below(2) as u8, random.between(-3, 3))
-    } else if form == 1 {
+    } else if rule && form == 8 && position == 0 {
+        (0, 3, divisor(random))
+    } else if form == 1 || form == 8 {
         (variable, 0, 1)
     } else {
         (variable, 0, 0)
@@ -189,6 +210,7 @@ fn ten(random: &mut Random, fields: &mut [Field], i: usize) -> bool {
             (6, 0),
             (7, 0),
             (7, 1),
+            (8, 0),
         ])
     } else {
         (2, 0)
@@ -207,11 +229,12 @@ fn eleven(random: &mut Random, fields: &mut [Field], i: usize) -> bool {
     if variables == 0 {
         return false;
     }
-    let form = if rule { random.pick(&[1, 2, 3, 4, 6, 7]) } else { random.pick(&[1, 2]) };
-    let count = if form == 4 { 2 } else { 2 + random.below(15) };
+    let form = if rule { random.pick(&[1, 2, 3, 4, 6, 7, 8]) } else { random.pick(&[1, 2]) };
+    let first = usize::from(form == 8);
+    let count = if form == 4 { 2 } else { first + 2 + random.below(15) };
     let mut terms: Vec<Piece> = (0..count).map(|p| fitting(random, rule, form, p, variables)).collect();
-    let two = random.distinct(count, 2);
-    terms[two[0]].0 = terms[two[1]].0;
+    let two = random.distinct(count - first, 2);
+    terms[first + two[0]].0 = terms[first + two[1]].0;
     replace(&mut fields[i], form, &terms);
     true
 }

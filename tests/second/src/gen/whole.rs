@@ -61,7 +61,11 @@ pub fn knot(random: &mut Random, fields: &mut Vec<Field>) -> Option<(usize, usiz
     for &to in &chain {
         // A falling edge breaks the circle.
         let number = if turns && random.percent(50) { -1 } else { 1 };
-        fields.insert(at, fields::rule(1, from, -50, &[(to, 0, number)]));
+        let link = match random.percent(20) {
+            true => fields::quotient(from, -50, 1 + random.below(4) as i64, &[(to, 0, number)]),
+            false => fields::rule(1, from, -50, &[(to, 0, number)]),
+        };
+        fields.insert(at, link);
         from = to;
         at += 1;
     }
