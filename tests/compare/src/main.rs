@@ -115,8 +115,7 @@ fn brute_force(first: u64, programs: u64, failures: &mut Vec<String>) {
         }
     }
     println!("brute force {tried:?}");
-    let each = [tried.invalid, tried.stable, tried.unfounded, tried.kept_below, tried.no_model, tried.outside];
-    if programs >= 1_000 && each.iter().any(|&n| n < 20) {
+    if programs >= 1_000 && tried.each().iter().any(|&n| n < 20) {
         failures.push("brute force tried too little".to_string());
     }
 }
