@@ -276,7 +276,7 @@ fn required() -> Vec<(String, usize)> {
         }
     }
     names.push(("report: one entry short of full".to_string(), 5));
-    names.extend(refused::CASES.iter().map(|case| (refused::name(case), 5)));
+    names.extend(refused::CASES.iter().map(|case| (refused::name(case), 6)));
     names.push(("form 8: 16 terms".to_string(), 5));
     for name in [
         "divisor 1",

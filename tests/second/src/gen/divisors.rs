@@ -120,7 +120,7 @@ fn in_number_of_groups(random: &mut Random, parts: &mut Parts) -> usize {
 /// The groups after the divisor, and a divisor before another form's terms.
 fn in_terms(random: &mut Random, parts: &mut Parts, variables: usize) -> usize {
     let later = 1 + random.below(parts.groups.len() - 1);
-    match random.below(6) {
+    match random.below(8) {
         0 => {
             parts.groups[later].1 = random.pick(&[1, 2, 3, 3, 255]);
             7
@@ -129,21 +129,21 @@ fn in_terms(random: &mut Random, parts: &mut Parts, variables: usize) -> usize {
             parts.groups[later] = parts.groups[0];
             7
         }
-        2 => {
-            parts.form = random.pick(&[1, 1, 2, 3, 4, 5, 6, 7]);
+        2 | 3 => {
+            parts.form = random.pick(&[1, 1, 1, 1, 2, 3, 4, 5, 6, 7]);
             parts.groups.truncate(16);
             7
         }
-        3 if variables < 256 => {
+        4 if variables < 256 => {
             parts.groups[later].0 = random.between(variables as i64, 255) as u8;
             9
         }
-        4 if parts.groups.len() < 17 => {
+        5 if parts.groups.len() < 17 => {
             parts.groups.push(parts.groups[later]);
             11
         }
         _ => {
-            parts.groups[later].2 = random.pick(&[0, 0, 1_001, -1_001]);
+            parts.groups[later].2 = random.pick(&[0, 0, 0, 1_001, -1_001]);
             8
         }
     }

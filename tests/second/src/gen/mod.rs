@@ -132,9 +132,15 @@ fn spoilt(random: &mut Random) -> Input {
 /// A file with a fault that has to do with a divisor.
 fn misdivided(random: &mut Random) -> Input {
     let shape = random.pick(&[programs::SMALL, programs::MIDDLE]);
-    let (mut list, witness) = programs::program(random, shape);
-    let accepted = matches!(crate::read(&fields::bytes(&list)), crate::Reading::Accepted { .. });
-    let due = if accepted { divisors::spoil(random, &mut list) } else { None };
+    let accepted =
+        |list: &[Field]| matches!(crate::read(&fields::bytes(list)), crate::Reading::Accepted { .. });
+    let (mut list, witness) = loop {
+        let made = programs::program(random, shape);
+        if fields::count(&made.0, 2) > 0 && accepted(&made.0) {
+            break made;
+        }
+    };
+    let due = divisors::spoil(random, &mut list);
     let (file, assignment) = (fields::bytes(&list), fields::assignment(&witness));
     Input { file, assignment, buffer: 0, label: "divisor", due }
 }
