@@ -7,29 +7,30 @@ use second::gen::prng::Random;
 /// Founded variables in a ring, each lifted through the one before it, and a
 /// few rules that lift them from outside or against one another.
 pub fn circle(random: &mut Random) -> Vec<Field> {
-    let posts = 2 + random.below(3);
+    let heads = 2 + random.below(3);
     let low = random.pick(&[-3, -2, -1, 0, 0, 0, 1]);
     let high = low + random.between(1, 3);
-    let mut out: Vec<Field> = (0..posts).map(|_| fields::variable(1, low, high)).collect();
-    let (guard, outside) = (posts as u8, posts as u8 + 1);
+    let mut out: Vec<Field> = (0..heads).map(|_| fields::variable(1, low, high)).collect();
+    let (guard, outside) = (heads as u8, heads as u8 + 1);
     out.push(fields::variable(0, 0, 1));
     out.push(fields::variable(u8::from(random.percent(50)), random.pick(&[-2, -1, 0]), 2));
-    for post in 0..posts {
-        let before = ((post + posts - 1) % posts) as u8;
+    for head in 0..heads {
+        let before = ((head + heads - 1) % heads) as u8;
         let step = random.pick(&[0, 0, 0, 0, -1, 1]);
-        let made = through(random, post as u8, before, (low, high), step, (guard, outside));
+        let made = through(random, head as u8, before, (low, high), step, (guard, outside));
         out.push(made);
     }
     for _ in 0..random.below(3) {
-        let post = random.below(posts) as u8;
-        let other = random.below(posts) as u8;
+        let head = random.below(heads) as u8;
+        let other = random.below(heads) as u8;
         let level = random.between(low, high);
-        out.push(match random.below(6) {
-            0 | 1 => fields::rule(6, post, level, &[(guard, 1, 1)]),
-            2 => fields::rule(1, post, level, &[]),
-            3 => fields::rule(1, post, low + high, &[(other, 0, -1)]),
-            4 => fields::rule(6, post, level, &[(other, 2, level)]),
-            _ => fields::rule(5, post, low, &[(outside, 0, 0)]),
+        out.push(match random.below(7) {
+            0 | 1 => fields::rule(6, head, level, &[(guard, 1, 1)]),
+            2 => fields::rule(1, head, level, &[]),
+            3 => fields::rule(1, head, low + high, &[(other, 0, -1)]),
+            4 => fields::rule(6, head, level, &[(other, 2, level)]),
+            5 => fields::quotient(head, 2 * level, 3, &[(outside, 0, random.pick(&[-2, -1, 1, 2]))]),
+            _ => fields::rule(5, head, low, &[(outside, 0, 0)]),
         });
     }
     if random.percent(40) {
@@ -40,7 +41,7 @@ pub fn circle(random: &mut Random) -> Vec<Field> {
         out.push(fields::constraint(2, 0, &[(guard, 1, 1), (0, 1, high)]));
     }
     // A standard variable heads no rule.
-    let standard = out[posts + 1].value[0] == 0;
+    let standard = out[heads + 1].value[0] == 0;
     out.retain(|f| !(standard && f.tag == 2 && f.value[1] == outside));
     out
 }
@@ -48,7 +49,7 @@ pub fn circle(random: &mut Random) -> Vec<Field> {
 /// One step of the ring, in any form that can take it.
 fn through(
     random: &mut Random,
-    post: u8,
+    head: u8,
     before: u8,
     range: (i64, i64),
     step: i64,
@@ -59,14 +60,24 @@ fn through(
     let plain: Piece = (before, 0, 0);
     let level = random.between(low + 1, high);
     let door = (guard, 1 + random.below(2) as u8, 1);
-    match random.between(1, 7) {
-        2 => fields::rule(2, post, step, &[plain, (outside, 0, 0)]),
-        3 => fields::rule(3, post, step, &[plain, (outside, 0, 0)]),
-        4 if low >= 0 => fields::rule(4, post, step, &[plain, (guard, 0, 0)]),
-        5 if low >= 0 || high <= 0 => fields::rule(5, post, step, &[plain]),
-        6 => fields::rule(6, post, level, &[(before, 1, level), door]),
-        7 => fields::rule(7, post, step, &[plain, door]),
-        _ => fields::rule(1, post, step, &[(before, 0, 1)]),
+    match random.between(1, 8) {
+        2 => fields::rule(2, head, step, &[plain, (outside, 0, 0)]),
+        3 => fields::rule(3, head, step, &[plain, (outside, 0, 0)]),
+        4 if low >= 0 => fields::rule(4, head, step, &[plain, (guard, 0, 0)]),
+        5 if low >= 0 || high <= 0 => fields::rule(5, head, step, &[plain]),
+        6 => fields::rule(6, head, level, &[(before, 1, level), door]),
+        7 => fields::rule(7, head, step, &[plain, door]),
+        8 => {
+            let divisor = random.between(2, 3);
+            let rest = random.between(0, divisor - 1);
+            let others = [(before, 0, 1), (outside, 0, random.pick(&[-1, 1]))];
+            match random.below(3) {
+                0 => fields::quotient(head, divisor * step - rest, divisor, &[(before, 0, divisor)]),
+                1 => fields::quotient(head, step, 2, &[(before, 0, 1), (head, 0, 1)]),
+                _ => fields::quotient(head, (divisor - 1) * level, divisor, &others),
+            }
+        }
+        _ => fields::rule(1, head, step, &[(before, 0, 1)]),
     }
 }
 
@@ -91,12 +102,17 @@ pub fn layers(random: &mut Random) -> Vec<Field> {
         }
         let deeper = random.between(head as i64 + 1, count as i64 - 1) as u8;
         let falling = (anywhere != deeper).then_some(anywhere);
-        let made = match random.below(8) {
+        let made = match random.below(9) {
             0..=3 => fields::rule(5, head as u8, c, &[(deeper, 0, 0)]),
             4 | 5 => {
                 let mut terms: Vec<Piece> = vec![(deeper, 0, random.pick(&[-2, -1, 1, 1]))];
                 terms.extend(falling.map(|x| (x, 0, -1)));
                 fields::rule(1, head as u8, c, &terms)
+            }
+            8 => {
+                let mut terms: Vec<Piece> = vec![(deeper, 0, random.pick(&[-2, -1, 1, 1, 3]))];
+                terms.extend(falling.map(|x| (x, 0, -1)));
+                fields::quotient(head as u8, c, random.between(2, 4), &terms)
             }
             6 => fields::rule(6, head as u8, c + 1, &[(anywhere, 2, random.between(-1, 2))]),
             _ => {

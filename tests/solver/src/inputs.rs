@@ -41,6 +41,36 @@ pub fn samples() -> Vec<(String, Vec<u8>)> {
             ],
         ),
         (
+            "000 example 1, 2x >= y",
+            vec![
+                founded(0, 10),
+                founded(0, 10),
+                sum(1, 4, &[(0, 0, 1)]),
+                fields::quotient(0, 0, 2, &[(1, 0, 1)]),
+            ],
+        ),
+        (
+            "a third of a sum of three",
+            vec![
+                standard(0, 3),
+                standard(0, 3),
+                standard(0, 3),
+                founded(0, 4),
+                fields::quotient(3, 0, 3, &[(0, 0, 1), (1, 0, 1), (2, 0, 1)]),
+            ],
+        ),
+        (
+            "-7 over 2, -8 over 2, 7 over 2",
+            vec![
+                founded(-5, 5),
+                founded(-5, 5),
+                founded(-5, 5),
+                fields::quotient(0, -7, 2, &[]),
+                fields::quotient(1, -8, 2, &[]),
+                fields::quotient(2, 7, 2, &[]),
+            ],
+        ),
+        (
             "000 example 2",
             vec![
                 founded(-10, 10),
@@ -76,6 +106,7 @@ pub fn samples() -> Vec<(String, Vec<u8>)> {
             ],
         ),
         ("a >= 1 if a < 1", vec![founded(0, 1), when(0, 1, &[(0, 2, 1)])]),
+        ("2a >= 5 - a", vec![founded(0, 5), fields::quotient(0, 5, 2, &[(0, 0, -1)])]),
         (
             "a >= b + 1, b >= a",
             vec![founded(0, 5), founded(0, 5), sum(0, 1, &[(1, 0, 1)]), sum(1, 0, &[(0, 0, 1)])],

@@ -29,7 +29,7 @@ use tally::Tally;
 const PRINTED: usize = 3;
 
 /// Mistakes of the second checker that change what is stable.
-const WRONG_CHECKERS: [Wrong; 9] = [
+const WRONG_CHECKERS: [Wrong; 14] = [
     Wrong::KeepsStandard,
     Wrong::StartsAtZero,
     Wrong::BelowOrEqual,
@@ -39,6 +39,11 @@ const WRONG_CHECKERS: [Wrong; 9] = [
     Wrong::OneRound,
     Wrong::NothingIsZero,
     Wrong::HeadAlwaysKept,
+    Wrong::RoundsDown,
+    Wrong::RoundsToZero,
+    Wrong::RoundsAway,
+    Wrong::ConstantLate,
+    Wrong::QuotientRises,
 ];
 
 /// A program to compare, taken apart, with the check's words.

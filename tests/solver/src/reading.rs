@@ -1,6 +1,6 @@
 //! How occurrences are read: the right way, and ways that are wrong on purpose.
 
-use second::program::{Program, Rule, AT_LEAST, BELOW, SIZE, SUM};
+use second::program::{Program, Rule, AT_LEAST, BELOW, QUOTIENT, SIZE, SUM};
 
 #[derive(Clone, Copy, Debug, PartialEq, Eq, PartialOrd, Ord)]
 pub enum Direction {
@@ -16,7 +16,7 @@ pub fn direction(program: &Program, rule: &Rule, position: usize) -> Direction {
     match term.op {
         AT_LEAST => Direction::Rising,
         BELOW => Direction::Falling,
-        _ if rule.form == SUM && term.number < 0 => Direction::Falling,
+        _ if [SUM, QUOTIENT].contains(&rule.form) && term.number < 0 => Direction::Falling,
         _ if rule.form == SIZE && low < 0 && 0 < high => Direction::Mixed,
         _ if rule.form == SIZE && low < 0 => Direction::Falling,
         _ => Direction::Rising,
@@ -45,6 +45,10 @@ pub enum Reading {
     NoCeiling,
     /// Wrong: op 2 also holds at the number itself.
     BelowOrEqual,
+    /// Wrong: a sum over a divisor is rounded down.
+    RoundsDown,
+    /// Wrong: c is added after dividing.
+    ConstantLate,
     /// Another right one: the value of a mixed occurrence must be supported.
     /// A valid file has no mixed variable in its head's component (000), so
     /// the support never comes back to the head and nothing changes.
@@ -52,7 +56,7 @@ pub enum Reading {
 }
 
 impl Reading {
-    pub const WRONG: [Reading; 9] = [
+    pub const WRONG: [Reading; 11] = [
         Reading::StandardFounded,
         Reading::FallingSupports,
         Reading::FallingKept,
@@ -62,6 +66,8 @@ impl Reading {
         Reading::FromZero,
         Reading::NoCeiling,
         Reading::BelowOrEqual,
+        Reading::RoundsDown,
+        Reading::ConstantLate,
     ];
 
     pub fn named(name: &str) -> Option<Reading> {

@@ -24,6 +24,7 @@ fn body(rule: &Rule) -> String {
     let (c, terms) = (rule.c, &rule.terms);
     match rule.form {
         SUM => sum(c, terms),
+        QUOTIENT => format!("({}) over {}", sum(c, terms), rule.divisor),
         MAX => format!("{c} + max({})", names(terms, ", ")),
         MIN => format!("{c} + min({})", names(terms, ", ")),
         PRODUCT => format!("{c} + {}", names(terms, " * ")),

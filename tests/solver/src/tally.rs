@@ -57,18 +57,30 @@ impl Tally {
         let edges = graph::edges(program);
         let on_circle: Vec<bool> =
             (0..program.variables.len()).map(|x| graph::reached(&edges, x)[x]).collect();
+        // A head on a circle that goes through a rule of form 8.
+        let through_eight = |x: usize| {
+            let back = |t: &Term| t.number > 0 && graph::reached(&edges, t.variable)[x];
+            let mut rules = program.rules.iter().filter(|r| r.form == QUOTIENT && r.head == x);
+            rules.any(|r| r.terms.iter().any(back))
+        };
         let mut stable = 0;
         for (values, word) in words {
             let lifted = |x: usize| program.variables[x].founded && values[x] > program.variables[x].low;
             match word {
                 Word::Stable => {
                     stable += 1;
+                    if (0..values.len()).any(|x| through_eight(x) && lifted(x)) {
+                        names.insert("form 8: circle, lifted and stable".to_string());
+                    }
                     if (0..values.len()).any(|x| on_circle[x] && lifted(x)) {
                         names.insert("circle, sound: lifted and stable".to_string());
                     }
                 }
                 Word::Unfounded(set) => {
                     names.insert("some assignment unfounded".to_string());
+                    if set.iter().any(|&x| through_eight(x)) {
+                        names.insert("form 8: circle, in an unfounded set".to_string());
+                    }
                     if set.iter().any(|&x| on_circle[x]) {
                         names.insert("circle, unsound: in an unfounded set".to_string());
                     }
@@ -78,6 +90,18 @@ impl Tally {
                 }
                 _ => {
                     names.insert("some assignment against a rule".to_string());
+                }
+            }
+        }
+        for (values, word) in words {
+            for rule in program.rules.iter().filter(|rule| rule.divisor > 1) {
+                let terms = rule.terms.iter().map(|t| t.number * values[t.variable]);
+                let sum = rule.c + terms.sum::<i64>();
+                let sign = if sum < 0 { "negative sum" } else { "sum of 0 or more" };
+                let rest = if sum % rule.divisor == 0 { "no remainder" } else { "a remainder" };
+                names.insert(format!("form 8: {sign}, {rest}"));
+                if *word == Word::Stable {
+                    names.insert(format!("form 8: stable, {sign}, {rest}"));
                 }
             }
         }
@@ -105,11 +129,12 @@ impl Tally {
 /// Every name that must be met, and in how many of a hundred programs.
 fn required() -> Vec<(String, usize)> {
     let mut names: Vec<(String, usize)> = Vec::new();
-    names.extend((1..=7).map(|form| (format!("rule form {form}"), 10)));
+    names.extend((1..=8).map(|form| (format!("rule form {form}"), 10)));
     names.extend((1..=2).map(|form| (format!("constraint form {form}"), 10)));
     for founded in [false, true] {
         let mut ways = vec![(SUM, PLAIN, Direction::Falling), (SIZE, PLAIN, Direction::Falling)];
         ways.push((SIZE, PLAIN, Direction::Mixed));
+        ways.extend([Direction::Rising, Direction::Falling].map(|way| (QUOTIENT, PLAIN, way)));
         ways.extend([SUM, MAX, MIN, PRODUCT, SIZE, CARRY].map(|f| (f, PLAIN, Direction::Rising)));
         ways.extend([IF, CARRY].map(|f| (f, AT_LEAST, Direction::Rising)));
         ways.extend([IF, CARRY].map(|f| (f, BELOW, Direction::Falling)));
@@ -125,6 +150,14 @@ fn required() -> Vec<(String, usize)> {
         ("head in its own body, falling", 3),
         ("circle, sound: lifted and stable", 10),
         ("circle, unsound: in an unfounded set", 10),
+        ("form 8: sum of 0 or more, no remainder", 5),
+        ("form 8: sum of 0 or more, a remainder", 5),
+        ("form 8: negative sum, no remainder", 5),
+        ("form 8: negative sum, a remainder", 5),
+        ("form 8: stable, sum of 0 or more, a remainder", 2),
+        ("form 8: stable, negative sum, a remainder", 2),
+        ("form 8: circle, lifted and stable", 2),
+        ("form 8: circle, in an unfounded set", 2),
         ("some assignment unfounded", 30),
         ("some assignment against a constraint", 10),
         ("some assignment against a rule", 30),

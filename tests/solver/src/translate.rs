@@ -105,6 +105,9 @@ impl Translation<'_> {
     fn rule(&self, rule: &Rule) -> String {
         let Variable { low, high, .. } = self.program.variables[rule.head];
         let mut body: Vec<String> = (0..rule.terms.len()).map(|i| self.bound(rule, i)).collect();
+        if rule.form == QUOTIENT {
+            return self.quotient(rule, body);
+        }
         body.extend(self.given(rule));
         let body = body.join(", ");
         // [head >= V] for V up to low is there already.
@@ -116,13 +119,36 @@ impl Translation<'_> {
         out
     }
 
+    /// 02, wish 1: "the smallest whole number not below the sum, c included,
+    /// over the divisor". 000 states such rules without dividing, as "2x >= y"
+    /// in example 1: [head >= V] follows where V - 1, taken divisor times, is
+    /// below the sum.
+    fn quotient(&self, rule: &Rule, mut body: Vec<String>) -> String {
+        let Variable { low, high, .. } = self.program.variables[rule.head];
+        let (c, divisor) = (rule.c, rule.divisor);
+        let too_little = |n: String| match self.reading {
+            Reading::RoundsDown => format!("({n} + 1) * {divisor} <= S"),
+            Reading::ConstantLate => format!("({n} - ({c})) * {divisor} < S - ({c})"),
+            _ => format!("({n}) * {divisor} < S"),
+        };
+        body.push(sum("S", c, &rule.terms));
+        let body = body.join(", ");
+        let below = too_little("V - 1".to_string());
+        let mut out = format!("ge({},V) :- {body}, V = {}..{high}, {below}.\n", rule.head, low + 1);
+        // 000: "<- [x >= U + 1]", as for every rule.
+        if self.reading != Reading::NoCeiling {
+            let _ = writeln!(out, ":- {body}, {}.", too_little(high.to_string()));
+        }
+        out
+    }
+
     /// What the rule gives, as `V`, and when it gives anything (01, rule forms).
     fn given(&self, rule: &Rule) -> Vec<String> {
         let c = rule.c;
         let all: Vec<String> = (0..rule.terms.len()).map(|i| format!("X{i}")).collect();
         let holds = |i: usize| self.literal(&rule.terms[i], i, true);
         match rule.form {
-            SUM => vec![sum(c, &rule.terms)],
+            SUM => vec![sum("V", c, &rule.terms)],
             MAX => vec![format!("M = #max {{ {} }}", all.join("; ")), format!("V = {c} + M")],
             MIN => vec![format!("M = #min {{ {} }}", all.join("; ")), format!("V = {c} + M")],
             PRODUCT => vec![format!("V = {c} + X0 * X1")],
@@ -139,7 +165,7 @@ impl Translation<'_> {
         let mut body: Vec<String> =
             terms.iter().enumerate().map(|(i, t)| self.assigned(t.variable, i)).collect();
         if constraint.form == AT_MOST_ZERO {
-            body.push(sum(constraint.c, terms));
+            body.push(sum("V", constraint.c, terms));
             body.push("V > 0".to_string());
         } else {
             body.extend(terms.iter().enumerate().map(|(i, t)| self.literal(t, i, false)));
@@ -148,8 +174,8 @@ impl Translation<'_> {
     }
 }
 
-fn sum(c: i64, terms: &[Term]) -> String {
-    let mut out = format!("V = {c}");
+fn sum(name: &str, c: i64, terms: &[Term]) -> String {
+    let mut out = format!("{name} = {c}");
     for (i, term) in terms.iter().enumerate() {
         let _ = write!(out, " + ({}) * X{i}", term.number);
     }
