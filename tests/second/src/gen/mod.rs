@@ -49,7 +49,7 @@ pub fn input(seed: u64) -> Input {
             dress(random, "crowded", &made)
         }
         50..=68 => spoilt(random),
-        69 => {
+        69 | 70 => {
             let (file, variables, due) = limits::at_limit(random);
             let top = random.between(0, 1);
             let values: Vec<i64> =
@@ -57,8 +57,8 @@ pub fn input(seed: u64) -> Input {
             let buffer = 12 * variables;
             Input { file, assignment: fields::assignment(&values), buffer, label: "limit", due }
         }
-        70..=72 => misdivided(random),
-        73..=94 => {
+        71..=73 => misdivided(random),
+        74..=94 => {
             let shape = random.pick(&[programs::SMALL, programs::MIDDLE]);
             let mut input = plan(random, "damaged", shape);
             damage::damage(random, &mut input.file);
