@@ -2,8 +2,7 @@
 ghost use mathlib.Core.Path.{_≡_};
 ghost use Prim.Native.Nat.{_+_, _*_, _^_, _<_};
 ghost use lib.IntN.{pos, natAbs, _+ℤ_, _*ℤ_};
-ghost use lib.Signed.{_≤ℤ_};
-ghost use Rattle.program.specs.Evaluate.{holds, overUp};
+ghost use Rattle.program.specs.Evaluate.{holds};
 ghost use Rattle.bodies.specs.Readings.{extreme};
 use program::Term;
 
@@ -36,17 +35,6 @@ pub fn size(a: i64) -> i64
     ensures { λ r. ⌜ r ≡ pos (natAbs a) ⌝ }
 {
     if a < 0 { 0 - a } else { a }
-}
-
-// a over d, rounded up.
-pub fn over_up(a: i64, d: i64) -> i64
-    requires { ⌜ (pos 1 ≤ℤ d) × (natAbs a + natAbs d < 2 ^ 63) ⌝ }
-    ensures { λ r. ⌜ r ≡ overUp d a ⌝ }
-{
-    if d == 1 {
-        return a;
-    }
-    if a < 0 { a / d } else { (a + (d - 1)) / d }
 }
 
 // Whether a literal holds at a value; a plain term asks nothing.

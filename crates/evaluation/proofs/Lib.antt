@@ -1,2 +1,3 @@
 pub mod Gives
 pub mod Asks
+pub mod Rounding

@@ -10,6 +10,7 @@ ghost use Rattle.program.specs.Evaluable.{Small, Plain, hasLiterals, EvaluableA
 ghost use Rattle.parts.specs.Values.{ruleHeader};
 ghost use Rattle.bodies.specs.Readings.{readingOf};
 use bodies::numbers;
+use crate::quotients;
 use format::Format;
 use parts::rules;
 use parts::rules::RuleHeader;
@@ -49,7 +50,7 @@ fn amount(
     let form = rule.form;
     let c = rule.c;
     match form {
-        1 => numbers::over_up(bodies::sum(c, body, kept, first, second), rule.divisor),
+        1 => quotients::over_up(bodies::sum(c, body, kept, first, second), rule.divisor),
         2 => numbers::plus(c, bodies::largest(body, kept, first, second)),
         3 => numbers::plus(c, bodies::smallest(body, kept, first, second)),
         4 => numbers::plus(c, bodies::product(body, kept, first, second)),

@@ -1,5 +1,6 @@
 pub mod Starred
 pub mod StarredChecks
+pub mod Shared
 pub mod WrongCalls
 pub mod WrongChecks
 pub mod WrongLeast

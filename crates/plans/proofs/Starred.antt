@@ -59,7 +59,7 @@ unfoldable pub unmet-in : Program → Valuation → ℕ → Bool
 unmet-in P θ n = anyBelow n (λ i. not (rule-met P θ i))
 
 -- one of the variables is past m
-unfoldable above-in : Program → Valuation → Valuation → Bool
+unfoldable pub above-in : Program → Valuation → Valuation → Bool
 above-in P θ m = anyBelow (length (P .variables)) (λ v. not (notPast (variableIn (P .variables) v) (θ v) (m v)))
 
 -- unfolding these unfolds the reading of a file
@@ -149,7 +149,7 @@ module _ {s a : List ℕ} {P : Program} (p : Plan s a P) where
     constraints = λ i h. let z : ⊥ = omega arith in absurd z;
   }
 
-  stable-plan : (k : ℕ) (m : List ℤ) → search k P (assigned a) ≡ found m → above-in P (assigned a) (valued m) ≡ false
+  pub stable-plan : (k : ℕ) (m : List ℤ) → search k P (assigned a) ≡ found m → above-in P (assigned a) (valued m) ≡ false
       → unmet-in P (assigned a) (length (P .rules)) ≡ false → length (P .constraints) ≡ 0 → StablePlan s a
   stable-plan k m e f r c = record {
     means = P;

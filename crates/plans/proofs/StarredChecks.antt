@@ -32,7 +32,7 @@ computes = tt
 plan-called : (b : List ℕ) {s a : List ℕ} {P : Program} → Plan s a P → (n : ℕ) → length a ≡ 2 * n → checkBytes * n ≤ length b → Called (lengths checkBytes a b) s P
 plan-called b {a = a} p n e h = called checkBytes a b (p .accepts) (p .long) (omega (arith, p .long))
 
-stable-checked : {s a : List ℕ} → StablePlan s a → (n : ℕ) → length a ≡ 2 * n → Checked s a n stable []
+pub stable-checked : {s a : List ℕ} → StablePlan s a → (n : ℕ) → length a ≡ 2 * n → Checked s a n stable []
 stable-checked u n e b h = judged (plan-called b (u .plan) n e h) (is-stable (u .stable))
 
 pub unmet-checked : {s a : List ℕ} {i : ℕ} → UnmetPlan s a i → (n : ℕ) → length a ≡ 2 * n → Checked s a n (rule i) []

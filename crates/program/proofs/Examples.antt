@@ -21,15 +21,15 @@ use Rattle.program.proofs.Places.{passed-none, passed-more}
 use Rattle.program.proofs.Unique.{reads-unique}
 
 -- unfolding this unfolds the specification
-computes : Unit {0}
+unfoldable pub computes : Unit {0}
 unfolding beyond anyBelow place tagBefore program divisorTerms termForm termsOf cutShort unknownTag tagBelow oneTooMany notTerms wrongLength literalPosition wrongOp mustBeZero wrongTerm unknownForm wrongDivisor wrongConstraint wrongForm outsideTerm outsideDivisor outsideRange undeclaredTerm wrongHead undeclared wrongCountOf wrongDivisors wrongCount repeatedTerm variableTwice negativeTerm negativeProduct itemRefusal valueRefusal fieldRefusal plainDirection termDirection direction draws edge
 computes = tt
 
 -- rule i has a mixed place, and some of the first n rules has
-unfoldable mixed-rule : Program → ℕ → Bool
+unfoldable pub mixed-rule : Program → ℕ → Bool
 mixed-rule P i = anyBelow (length (ruleIn (P .rules) i .terms)) (λ j. isMixed (direction (P .variables) (ruleIn (P .rules) i) j))
 
-unfoldable mixed-in : Program → ℕ → Bool
+unfoldable pub mixed-in : Program → ℕ → Bool
 mixed-in P n = anyBelow n (mixed-rule P)
 
 -- none of them offends where none has
@@ -37,10 +37,10 @@ none-offends : (P : Program) (n : ℕ) → mixed-in P n ≡ false → (i : ℕ) 
 unfolding mixed-in mixed-rule
 none-offends P n e i h o = never (o .pushes) (none-below _ _ (none-below n (mixed-rule P) e i h) (o .at) (o .inside))
 
-none-mixed : (P : Program) → mixed-in P (length (P .rules)) ≡ false → Valid P
+pub none-mixed : (P : Program) → mixed-in P (length (P .rules)) ≡ false → Valid P
 none-mixed P e i o = none-offends P _ e i (o .among) o
 
-abbrev variable : ℕ → List ℕ → List ℕ
+abbrev pub variable : ℕ → List ℕ → List ℕ
 variable kind rest = 0x01 ∷ 0x00 ∷ 0x05 ∷ kind ∷ 0x00 ∷ 0x00 ∷ 0x00 ∷ 0x01 ∷ rest
 
 pub empty : Reads [] (accepted 0 0 0)
@@ -194,7 +194,7 @@ row-13-own =
 -- ---- a reader whose every answer is the specification's
 
 -- a wrong answer, beside the specification's
-accepted-not : (a b c n at : ℕ) → accepted a b c ≡ refused n at → ⊥
+pub accepted-not : (a b c n at : ℕ) → accepted a b c ≡ refused n at → ⊥
 accepted-not a b c n at e = let z : _≡_ {A = ℕ} 0 1 = cc in omega arith
 
 abbrev place-of : Answer → ℕ
@@ -202,7 +202,7 @@ place-of (accepted a b c) = 0
 place-of (refused n at) = at
 
 module _ (read : List ℕ → Answer) (right : (s : List ℕ) → Reads s (read s)) where
-  answers : (s : List ℕ) {r r′ : Answer} → Reads s r → read s ≡ r′ → r ≡ r′
+  pub answers : (s : List ℕ) {r r′ : Answer} → Reads s r → read s ≡ r′ → r ≡ r′
   answers s h e = reads-unique h (right s) ∙ e
 
   -- it turns some file down and accepts some file

@@ -15,6 +15,8 @@ pub mod Variables
 pub mod Pushes
 pub mod Quotients
 pub mod Gives
+pub mod DividedSums
 pub mod Monotone
 pub mod Examples
+pub mod Divisors
 pub mod WrongForms

@@ -11,9 +11,10 @@ use mir.Val.{SFits, toZ, ofZ}
 use Rattle.format.proofs.Ints.{sfits-abs, abs-add}
 use Rattle.program.proofs.Quotients.{over-one}
 use Rattle.program.specs.Evaluate.{overUp}
-use Rattle.bodies.proofs.Sizes.{sum-fits, quotient-fits, divisor-bits, less-one, over-up-below, over-up-natural}
-use Rattle.bodies.proofs.numbers.over_up.Statement.{statement}
-use Rattle.bodies.proofs.numbers.over_up.Tie as tie
+use Rattle.bodies.proofs.Sizes.{sum-fits}
+use Rattle.evaluation.proofs.Rounding.{quotient-fits, divisor-bits, less-one, over-up-below, over-up-natural}
+use Rattle.evaluation.proofs.quotients.over_up.Statement.{statement}
+use Rattle.evaluation.proofs.quotients.over_up.Tie as tie
 
 module _ (s : tie.Start) where
   a-is : toZ w64 (ofZ w64 (s .args .a)) ≡ s .args .a
