@@ -1,7 +1,7 @@
 /*
  * Founded cover for C: reads a rule file, finds the least model for an assignment, checks an assignment. Link with libfounded.a (x86-64
  * Linux); it needs memset of the C library and nothing else. The calls are proved: each returns, for every input that is passed as said
- * here, and answers and writes what document 01 defines (crates/founded).
+ * here, and answers and writes what document 01 and document 02's first wish define (crates/founded).
  *
  * What a caller passes:
  * - Each buffer is a pointer and its length in bytes. So many bytes can be read there, and written where the pointer is not const.
@@ -29,9 +29,10 @@ extern "C" {
 #define FOUNDED_MAX_VARIABLES 256u
 #define FOUNDED_MAX_RULES 2048u
 #define FOUNDED_MAX_CONSTRAINTS 512u
-#define FOUNDED_MAX_TERMS 16u
+#define FOUNDED_MAX_TERMS 16u /* of a body; the divisor of rule form 8 stands beside them */
 #define FOUNDED_MAX_NUMBER 30000
 #define FOUNDED_MAX_COEFFICIENT 1000
+#define FOUNDED_MAX_DIVISOR 1000 /* of rule form 8; the least is 1 */
 
 /* ---- bytes for each variable of the file */
 

@@ -238,8 +238,8 @@ static void term(unsigned v, unsigned op, int n)
     put_number(n);
 }
 
-enum { STANDARD, FOUNDED, SUM = 1, MAX, MIN, PRODUCT, SIZE, IF, CARRY };
-enum { PLAIN, OVER, UNDER };
+enum { STANDARD, FOUNDED, SUM = 1, MAX, MIN, PRODUCT, SIZE, IF, CARRY, DIVIDED };
+enum { PLAIN, OVER, UNDER, DIVISOR };
 
 static void variables(size_t n, unsigned kind, int low, int high)
 {
@@ -353,6 +353,18 @@ static void some_terms(unsigned n, const char *name)
     try_read(name);
 }
 
+/* a sum over a divisor, with so many terms */
+static void divided(int divisor, unsigned n, const char *name)
+{
+    fresh();
+    variables(20, FOUNDED, 0, 10);
+    rule(DIVIDED, 0, 0);
+    term(0, DIVISOR, divisor);
+    for (unsigned i = 0; i < n; i++)
+        term(i, PLAIN, 1);
+    try_read(name);
+}
+
 static void a_number(int number, int coefficient, const char *name)
 {
     fresh();
@@ -389,6 +401,11 @@ static void limits(void)
     some_constraints(FOUNDED_MAX_CONSTRAINTS + 1, "a constraint too many");
     some_terms(FOUNDED_MAX_TERMS, "most terms");
     some_terms(FOUNDED_MAX_TERMS + 1, "a term too many");
+    divided(FOUNDED_MAX_DIVISOR, FOUNDED_MAX_TERMS, "largest divisor, most terms");
+    divided(FOUNDED_MAX_DIVISOR + 1, 0, "a divisor too large");
+    divided(1, 0, "smallest divisor");
+    divided(0, 0, "a divisor too small");
+    divided(1, FOUNDED_MAX_TERMS + 1, "a term too many over a divisor");
     a_number(FOUNDED_MAX_NUMBER, 1, "largest number");
     a_number(FOUNDED_MAX_NUMBER + 1, 1, "a number too large");
     a_number(FOUNDED_MAX_NUMBER, -FOUNDED_MAX_COEFFICIENT, "largest coefficient");
@@ -447,6 +464,18 @@ static void plans(void)
     rule(SUM, 1, 0);
     term(0, PLAIN, 1);
     both("a >= b + 1, b >= a: 5 5", VALUES(5, 5), 4, 24);
+    fresh();
+    variable(FOUNDED, -10, 10);
+    variables(3, STANDARD, -10, 10);
+    rule(DIVIDED, 0, 0);
+    term(0, DIVISOR, 3);
+    for (unsigned v = 1; v <= 3; v++)
+        term(v, PLAIN, 1);
+    both("a >= (x + y + z) / 3: 3 4 1 2", VALUES(3, 4, 1, 2), 8, 48);
+    both("a >= (x + y + z) / 3: 4 4 1 2", VALUES(4, 4, 1, 2), 8, 48);
+    both("a >= (x + y + z) / 3: -2 -4 -1 -2", VALUES(-2, -4, -1, -2), 8, 48);
+    both("a >= (x + y + z) / 3: -3 -4 -1 -2", VALUES(-3, -4, -1, -2), 8, 48);
+    both("a >= (x + y + z) / 3: -1 -4 -1 -2", VALUES(-1, -4, -1, -2), 8, 48);
     size_circle(-10);
     both("row 13", VALUES(0, 0), 4, 24);
     size_circle(0);
