@@ -109,7 +109,8 @@ fn extreme(
     second: &[i64; Format::MAX_VARIABLES],
 ) -> i64
     requires { ⌜ (4 ≤ length (now body)) × (length (now body) / 4 ≤ maxTerms) ⌝ }
-    ensures { λ r. ⌜ r ≡ pickTo (extreme most) (readingOf kept (now (first .entry)) (now (second .entry)) (termsOf (now (body .entry)))) (length (termsOf (now (body .entry))) - 1) ⌝ }
+    ensures { λ r. ⌜ r ≡ pickTo (extreme most) (readingOf kept (now (first .entry)) (now (second .entry)) (termsOf (now (body .entry))))
+        (length (termsOf (now (body .entry))) - 1) ⌝ }
 {
     let n = body.len() / 4;
     let mut found = read_position(body, 0, kept, first, second);

@@ -15,7 +15,8 @@ use Rattle.bodies.proofs.extreme.Statement.{statement}
 use Rattle.bodies.proofs.extreme.Tie as tie
 
 abbrev Inv-loop : tie.InvT-loop
-Inv-loop most body kept first second n found₀ i₀ found i = (1 ≤ i) × (i ≤ n) × (n ≡ length body / 4) × (toZ w64 found ≡ pickTo (extreme most) (readingOf kept first second (termsOf body)) (i - 1))
+Inv-loop most body kept first second n found₀ i₀ found i =
+    (1 ≤ i) × (i ≤ n) × (n ≡ length body / 4) × (toZ w64 found ≡ pickTo (extreme most) (readingOf kept first second (termsOf body)) (i - 1))
 
 abbrev μ-loop : tie.MeasureT-loop
 μ-loop most body kept first second n found₀ i₀ found i = n - i
