@@ -90,7 +90,8 @@ pub fn sum(
     requires { ⌜ (natAbs c ≤ maxNumber) × (length (now body) / 4 ≤ maxTerms) ⌝ }
     requires { ⌜ Coefficients (termsOf (now body)) ⌝ }
     requires { ⌜ Small (now first) × Small (now second) ⌝ }
-    ensures { λ r. ⌜ r ≡ c +ℤ sumBelow (weighted (termsOf (now (body .entry))) (readingOf kept (now (first .entry)) (now (second .entry)) (termsOf (now (body .entry))))) (length (termsOf (now (body .entry)))) ⌝ }
+    ensures { λ r. ⌜ r ≡ c +ℤ sumBelow (weighted (termsOf (now (body .entry)))
+        (readingOf kept (now (first .entry)) (now (second .entry)) (termsOf (now (body .entry))))) (length (termsOf (now (body .entry)))) ⌝ }
 {
     let terms = body.len() / 4;
     let mut total: i64 = 0;
@@ -155,7 +156,8 @@ pub fn product(
 ) -> i64
     requires { ⌜ 8 ≤ length (now body) ⌝ }
     requires { ⌜ Small (now first) × Small (now second) ⌝ }
-    ensures { λ r. ⌜ r ≡ readingOf kept (now (first .entry)) (now (second .entry)) (termsOf (now (body .entry))) 0 *ℤ readingOf kept (now (first .entry)) (now (second .entry)) (termsOf (now (body .entry))) 1 ⌝ }
+    ensures { λ r. ⌜ r ≡ readingOf kept (now (first .entry)) (now (second .entry)) (termsOf (now (body .entry))) 0
+        *ℤ readingOf kept (now (first .entry)) (now (second .entry)) (termsOf (now (body .entry))) 1 ⌝ }
 {
     numbers::times(
         read_position(body, 0, kept, first, second),
@@ -171,7 +173,8 @@ pub fn all_hold(
     second: &[i64; Format::MAX_VARIABLES],
 ) -> bool
     requires { ⌜ length (now body) / 4 ≤ maxTerms ⌝ }
-    ensures { λ r. ⌜ r ≡ allHold (termsOf (now (body .entry))) (readingOf kept (now (first .entry)) (now (second .entry)) (termsOf (now (body .entry)))) (length (termsOf (now (body .entry)))) ⌝ }
+    ensures { λ r. ⌜ r ≡ allHold (termsOf (now (body .entry)))
+        (readingOf kept (now (first .entry)) (now (second .entry)) (termsOf (now (body .entry)))) (length (termsOf (now (body .entry)))) ⌝ }
 {
     let n = body.len() / 4;
     let mut all = true;
@@ -189,7 +192,8 @@ pub fn any_holds(
     second: &[i64; Format::MAX_VARIABLES],
 ) -> bool
     requires { ⌜ length (now body) / 4 ≤ maxTerms ⌝ }
-    ensures { λ r. ⌜ r ≡ anyBelow (length (termsOf (now (body .entry)))) (λ i. holds (termIn (termsOf (now (body .entry))) i) (readingOf kept (now (first .entry)) (now (second .entry)) (termsOf (now (body .entry))) i)) ⌝ }
+    ensures { λ r. ⌜ r ≡ anyBelow (length (termsOf (now (body .entry))))
+        (λ i. holds (termIn (termsOf (now (body .entry))) i) (readingOf kept (now (first .entry)) (now (second .entry)) (termsOf (now (body .entry))) i)) ⌝ }
 {
     let n = body.len() / 4;
     let mut any = false;

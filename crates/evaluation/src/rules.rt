@@ -9,8 +9,8 @@ ghost use Rattle.program.specs.Evaluate.{allHold, amountOf, evaluate};
 ghost use Rattle.program.specs.Evaluable.{Small, Plain, hasLiterals, EvaluableAs, Evaluable};
 ghost use Rattle.parts.specs.Values.{ruleHeader};
 ghost use Rattle.bodies.specs.Readings.{readingOf};
-use bodies::numbers;
 use crate::quotients;
+use bodies::numbers;
 use format::Format;
 use parts::rules;
 use parts::rules::RuleHeader;
@@ -26,7 +26,8 @@ fn is_met(
 ) -> bool
     requires { ⌜ length (now body) / 4 ≤ maxTerms ⌝ }
     requires { ⌜ (hasLiterals form ≡ false → Plain (termsOf (now body))) ⌝ }
-    ensures { λ r. ⌜ r ≡ allHold (termsOf (now (body .entry))) (readingOf kept (now (first .entry)) (now (second .entry)) (termsOf (now (body .entry)))) (length (termsOf (now (body .entry)))) ⌝ }
+    ensures { λ r. ⌜ r ≡ allHold (termsOf (now (body .entry)))
+        (readingOf kept (now (first .entry)) (now (second .entry)) (termsOf (now (body .entry)))) (length (termsOf (now (body .entry)))) ⌝ }
 {
     match form {
         6 => bodies::all_hold(body, kept, first, second),
@@ -45,7 +46,8 @@ fn amount(
 ) -> i64
     requires { ⌜ EvaluableAs (rule .form) (rule .c) (rule .divisor) (termsOf (now body)) ⌝ }
     requires { ⌜ Small (now first) × Small (now second) ⌝ }
-    ensures { λ r. ⌜ r ≡ amountOf (rule .form) (rule .c) (rule .divisor) (termsOf (now (body .entry))) (readingOf kept (now (first .entry)) (now (second .entry)) (termsOf (now (body .entry)))) ⌝ }
+    ensures { λ r. ⌜ r ≡ amountOf (rule .form) (rule .c) (rule .divisor) (termsOf (now (body .entry)))
+        (readingOf kept (now (first .entry)) (now (second .entry)) (termsOf (now (body .entry)))) ⌝ }
 {
     let form = rule.form;
     let c = rule.c;

@@ -40,7 +40,8 @@ impl Faults {
     }
 
     pub fn with(self, other: Faults) -> Self
-        ensures { λ r. ⌜ (r .form ≡ self .form || other .form) × (r .range ≡ self .range || other .range) × (r .variable ≡ self .variable || other .variable) × (r .repeated ≡ self .repeated || other .repeated) × (r .negative ≡ self .negative || other .negative) ⌝ }
+        ensures { λ r. ⌜ (r .form ≡ self .form || other .form) × (r .range ≡ self .range || other .range)
+            × (r .variable ≡ self .variable || other .variable) × (r .repeated ≡ self .repeated || other .repeated) × (r .negative ≡ self .negative || other .negative) ⌝ }
     {
         Faults {
             form: self.form | other.form,

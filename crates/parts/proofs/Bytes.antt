@@ -96,7 +96,11 @@ module _ (body : List ℕ) (i : ℕ) where
 
   -- the term in the 4 bytes from 4 i on is term i
   pub term-part : {r : Term} → 4 * i + 4 ≤ length body
-      → r ≡ record { variable = getD (take (4 * i + 4 - 4 * i) (drop (4 * i) body)) 0 0; op = getD (take (4 * i + 4 - 4 * i) (drop (4 * i) body)) 1 0; number = signedAt (take (4 * i + 4 - 4 * i) (drop (4 * i) body)) 2 }
+      → r ≡ record {
+        variable = getD (take (4 * i + 4 - 4 * i) (drop (4 * i) body)) 0 0;
+        op = getD (take (4 * i + 4 - 4 * i) (drop (4 * i) body)) 1 0;
+        number = signedAt (take (4 * i + 4 - 4 * i) (drop (4 * i) body)) 2;
+      }
       → r ≡ termIn (termsOf body) i
   term-part {r} h e = e ∙ same ∙ sym (term-at body i (omega arith))
     where

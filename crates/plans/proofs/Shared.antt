@@ -46,17 +46,21 @@ unfolding checks.computes
 shared-checks = record {
   third-stable = stable-checked (stable-plan (plan-of _ third-read refl refl) 9 (pos 3 ∷ pos 4 ∷ pos 1 ∷ pos 2 ∷ []) refl refl refl refl) 4 refl;
   third-unmet = unmet-checked (unmet-plan (plan-of _ third-read refl refl) 0 (lit< tt) refl refl) 4 refl;
-  third-shown = unfounded-checked (unfounded-plan (plan-of _ third-read refl refl) 9 (pos 3 ∷ pos 4 ∷ pos 1 ∷ pos 2 ∷ []) refl refl refl 0 refl) third-read 4 refl 0 tt _ _ refl refl _ refl refl;
+  third-shown = unfounded-checked (unfounded-plan (plan-of _ third-read refl refl) 9 (pos 3 ∷ pos 4 ∷ pos 1 ∷ pos 2 ∷ []) refl refl refl 0 refl)
+      third-read 4 refl 0 tt _ _ refl refl _ refl refl;
   half-of-7 = stable-checked (stable-plan (plan-of _ half-read refl refl) 9 (pos 4 ∷ pos 7 ∷ []) refl refl refl refl) 2 refl;
   half-of-7-unmet = unmet-checked (unmet-plan (plan-of _ half-read refl refl) 0 (lit< tt) refl refl) 2 refl;
   half-below = stable-checked (stable-plan (plan-of _ half-read refl refl) 9 (negℤ (pos 3) ∷ negℤ (pos 7) ∷ []) refl refl refl refl) 2 refl;
   half-below-unmet = unmet-checked (unmet-plan (plan-of _ half-read refl refl) 0 (lit< tt) refl refl) 2 refl;
   half-even = stable-checked (stable-plan (plan-of _ half-read refl refl) 9 (negℤ (pos 4) ∷ negℤ (pos 8) ∷ []) refl refl refl refl) 2 refl;
   c-divided = stable-checked (stable-plan (plan-of _ one-read refl refl) 9 (pos 1 ∷ pos 1 ∷ []) refl refl refl refl) 2 refl;
-  c-divided-shown = unfounded-checked (unfounded-plan (plan-of _ one-read refl refl) 9 (pos 1 ∷ pos 1 ∷ []) refl refl refl 0 refl) one-read 2 refl 0 tt _ _ refl refl _ refl refl;
+  c-divided-shown = unfounded-checked (unfounded-plan (plan-of _ one-read refl refl) 9 (pos 1 ∷ pos 1 ∷ []) refl refl refl 0 refl)
+      one-read 2 refl 0 tt _ _ refl refl _ refl refl;
   circle-stable = stable-checked (stable-plan (plan-of _ circle-read refl refl) 19 (pos 5 ∷ pos 5 ∷ []) refl refl refl refl) 2 refl;
-  circle-shown = unfounded-checked (unfounded-plan (plan-of _ circle-read refl refl) 19 (pos 5 ∷ pos 5 ∷ []) refl refl refl 0 refl) circle-read 2 refl 0 tt _ _ refl refl _ refl refl;
-  beside-shown = unfounded-checked (unfounded-plan (plan-of _ beside-read refl refl) 9 (pos 5 ∷ pos 3 ∷ pos 6 ∷ []) refl refl refl 1 refl) beside-read 3 refl 1 tt _ _ refl refl _ refl refl;
+  circle-shown = unfounded-checked (unfounded-plan (plan-of _ circle-read refl refl) 19 (pos 5 ∷ pos 5 ∷ []) refl refl refl 0 refl)
+      circle-read 2 refl 0 tt _ _ refl refl _ refl refl;
+  beside-shown = unfounded-checked (unfounded-plan (plan-of _ beside-read refl refl) 9 (pos 5 ∷ pos 3 ∷ pos 6 ∷ []) refl refl refl 1 refl)
+      beside-read 3 refl 1 tt _ _ refl refl _ refl refl;
 }
 
 -- ---- wrong checks

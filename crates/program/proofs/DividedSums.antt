@@ -29,7 +29,10 @@ module _ {vs : List Variable} {r : Rule} (p : RulePromise vs r) (at : ℕ → �
 
   -- "Form 1 is read as divisor 1.": it gives its sum
   pub sum-gives : r .form ≡ 1 → evaluate r at ≡ Value (total r at)
-  sum-gives h = sum-given (sym (read-as-itself (r .form) (omega arith)) ∙ h) ∙ ap Value (ap (λ (d : ℤ). overUp d (total r at)) (undivided (r .divisor) (p .divided ∙ sym (divisor-none (r .form) (omega arith)))) ∙ over-one (total r at))
+  sum-gives h =
+      let none = p .divided ∙ sym (divisor-none (r .form) (omega arith)) in
+      sum-given (sym (read-as-itself (r .form) (omega arith)) ∙ h)
+      ∙ ap Value (ap (λ (d : ℤ). overUp d (total r at)) (undivided (r .divisor) none) ∙ over-one (total r at))
     where
       undivided : (ts : List Term) → length ts ≡ 0 → divisorOf (record { form = r .form; head = r .head; c = r .c; divisor = ts; terms = r .terms }) ≡ pos 1
       undivided [] e = refl

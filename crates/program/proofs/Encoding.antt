@@ -142,13 +142,15 @@ variable-read x h l = rw (read-back (x .low) h, read-back (x .high) l)
 
 -- the divisor's bytes and those of the terms, cut where the one ends
 parted-read : (form : ℕ) (ds ts : List Term) → length ds ≡ divisorTerms form → SmallTerms ds → SmallTerms ts
-    → (termsOf (take (4 * divisorTerms form) (each termBytes ds ++ each termBytes ts)) ≡ ds) × (termsOf (drop (4 * divisorTerms form) (each termBytes ds ++ each termBytes ts)) ≡ ts)
+    → (termsOf (take (4 * divisorTerms form) (each termBytes ds ++ each termBytes ts)) ≡ ds)
+    × (termsOf (drop (4 * divisorTerms form) (each termBytes ds ++ each termBytes ts)) ≡ ts)
 parted-read form ds ts e h l =
     let a = each termBytes ds in
     let b = each termBytes ts in
-    let k : 4 * divisorTerms form ≡ length a = omega (arith, terms-size ds) in
-    (ap (λ (n : ℕ). termsOf (take n (a ++ b))) k ∙ ap termsOf (take-append-seam a b) ∙ terms-read ds h,
-    ap (λ (n : ℕ). termsOf (drop n (a ++ b))) k ∙ ap termsOf (drop-append-seam a b) ∙ terms-read ts l)
+    let k : 4 * divisorTerms form ≡ length a = omega (arith, terms-size ds) in (
+      ap (λ (n : ℕ). termsOf (take n (a ++ b))) k ∙ ap termsOf (take-append-seam a b) ∙ terms-read ds h,
+      ap (λ (n : ℕ). termsOf (drop n (a ++ b))) k ∙ ap termsOf (drop-append-seam a b) ∙ terms-read ts l,
+    )
 
 pub rule-read : (r : Rule) → Small (r .c) → length (r .divisor) ≡ divisorTerms (r .form) → SmallTerms (r .divisor) → SmallTerms (r .terms) → ruleOf (ruleValue r) ≡ r
 unfolding bytesOf

@@ -12,7 +12,10 @@ use Rattle.walks.specs.Walk as walk
 use Rattle.program.specs.Tables.{anyBelow}
 use Rattle.program.specs.Fields.{place, tagBefore}
 use Rattle.program.specs.Program.{Program, program, divisorTerms, termForm, termsOf, ruleIn}
-use Rattle.program.specs.Refusals.{cutShort, unknownTag, tagBelow, oneTooMany, notTerms, wrongLength, literalPosition, wrongOp, mustBeZero, wrongTerm, unknownForm, wrongDivisor, wrongConstraint, wrongForm, outsideTerm, outsideDivisor, outsideRange, undeclaredTerm, wrongHead, undeclared, wrongCountOf, wrongDivisors, wrongCount, repeatedTerm, variableTwice, negativeTerm, negativeProduct, itemRefusal, valueRefusal, fieldRefusal}
+use Rattle.program.specs.Refusals.{cutShort, unknownTag, tagBelow, oneTooMany, notTerms, wrongLength, literalPosition, wrongOp, mustBeZero, wrongTerm, unknownForm}
+use Rattle.program.specs.Refusals.{wrongDivisor, wrongConstraint, wrongForm, outsideTerm, outsideDivisor, outsideRange, undeclaredTerm, wrongHead, undeclared}
+use Rattle.program.specs.Refusals.{wrongCountOf, wrongDivisors, wrongCount, repeatedTerm, variableTwice, negativeTerm, negativeProduct, itemRefusal, valueRefusal}
+use Rattle.program.specs.Refusals.{fieldRefusal}
 use Rattle.program.specs.Directions.{plainDirection, termDirection, direction, isMixed}
 use Rattle.program.specs.Components.{draws, edge, Offends, Valid}
 use Rattle.program.specs.Reading.{Answer, accepted, refused, Reads, bad-field, not-valid, whole}
@@ -21,11 +24,23 @@ use Rattle.program.proofs.Places.{passed-none, passed-more}
 use Rattle.program.proofs.Unique.{reads-unique}
 
 -- unfolding this unfolds the specification
+fields-compute : Unit {0}
+unfolding beyond anyBelow place tagBefore program divisorTerms termForm termsOf cutShort unknownTag tagBelow oneTooMany notTerms wrongLength valueRefusal fieldRefusal
+fields-compute = tt
+
+terms-compute : Unit {0}
+unfolding literalPosition wrongOp mustBeZero wrongTerm wrongDivisor outsideTerm outsideDivisor undeclaredTerm repeatedTerm negativeTerm
+terms-compute = tt
+
+items-compute : Unit {0}
+unfolding unknownForm wrongConstraint wrongForm outsideRange wrongHead undeclared wrongCountOf wrongDivisors wrongCount variableTwice negativeProduct itemRefusal
+items-compute = tt
+
 unfoldable pub computes : Unit {0}
-unfolding beyond anyBelow place tagBefore program divisorTerms termForm termsOf cutShort unknownTag tagBelow oneTooMany notTerms wrongLength literalPosition wrongOp mustBeZero wrongTerm unknownForm wrongDivisor wrongConstraint wrongForm outsideTerm outsideDivisor outsideRange undeclaredTerm wrongHead undeclared wrongCountOf wrongDivisors wrongCount repeatedTerm variableTwice negativeTerm negativeProduct itemRefusal valueRefusal fieldRefusal plainDirection termDirection direction draws edge
+unfolding fields-compute terms-compute items-compute plainDirection termDirection direction draws edge
 computes = tt
 
--- rule i has a mixed place, and some of the first n rules has
+-- rule i has a mixed position, and some of the first n rules has
 unfoldable pub mixed-rule : Program → ℕ → Bool
 mixed-rule P i = anyBelow (length (ruleIn (P .rules) i .terms)) (λ j. isMixed (direction (P .variables) (ruleIn (P .rules) i) j))
 
@@ -105,7 +120,10 @@ pub row-13 : Reads (sized 255 246) (refused 13 16)
 unfolding computes
 row-13 =
     not-valid {k = 4} {j = 2} {i = 0}
-    (record { passed = passed-more (passed-more (passed-more (passed-more (passed-none _ (lit≤ tt)) (lit< tt) refl) (lit< tt) refl) (lit< tt) refl) (lit< tt) refl; ended = lit≤ tt })
+    (record {
+      passed = passed-more (passed-more (passed-more (passed-more (passed-none _ (lit≤ tt)) (lit< tt) refl) (lit< tt) refl) (lit< tt) refl) (lit< tt) refl;
+      ended = lit≤ tt;
+    })
     (lit< tt)
     (record { tagged = refl; number = refl })
     (record {
@@ -121,7 +139,10 @@ pub row-13-last : Reads other-order (refused 13 27)
 unfolding computes mixed-in mixed-rule
 row-13-last =
     not-valid {k = 4} {j = 3} {i = 1}
-    (record { passed = passed-more (passed-more (passed-more (passed-more (passed-none _ (lit≤ tt)) (lit< tt) refl) (lit< tt) refl) (lit< tt) refl) (lit< tt) refl; ended = lit≤ tt })
+    (record {
+      passed = passed-more (passed-more (passed-more (passed-more (passed-none _ (lit≤ tt)) (lit< tt) refl) (lit< tt) refl) (lit< tt) refl) (lit< tt) refl;
+      ended = lit≤ tt;
+    })
     (lit< tt)
     (record { tagged = refl; number = refl })
     (record {
@@ -134,7 +155,10 @@ pub row-13-from-zero : Reads (sized 0 0) (accepted 2 2 0)
 unfolding computes mixed-in mixed-rule
 row-13-from-zero =
     whole {k = 4}
-    (record { passed = passed-more (passed-more (passed-more (passed-more (passed-none _ (lit≤ tt)) (lit< tt) refl) (lit< tt) refl) (lit< tt) refl) (lit< tt) refl; ended = lit≤ tt })
+    (record {
+      passed = passed-more (passed-more (passed-more (passed-more (passed-none _ (lit≤ tt)) (lit< tt) refl) (lit< tt) refl) (lit< tt) refl) (lit< tt) refl;
+      ended = lit≤ tt;
+    })
     (none-mixed _ refl)
 
 -- a ≥ b × d, all in 0..1
@@ -213,8 +237,8 @@ module _ (read : List ℕ → Answer) (right : (s : List ℕ) → Reads s (read 
   not-accepting a b c e = accepted-not a b c 2 0 (sym (answers _ cut-header e))
 
   -- it compares a variable with that at the first position of the body: one that leaves this position out accepts `a ≥ 2·b - b`
-  pub not-first-place-left-out : (a b c : ℕ) → read repeated ≡ accepted a b c → ⊥
-  not-first-place-left-out a b c e = accepted-not a b c 11 16 (sym (answers _ row-11 e))
+  pub not-first-position-left-out : (a b c : ℕ) → read repeated ≡ accepted a b c → ⊥
+  not-first-position-left-out a b c e = accepted-not a b c 11 16 (sym (answers _ row-11 e))
 
   -- it looks at the first rule and at the last one: one that passes either over accepts row 13's file, or that with its rules in the other order
   pub not-first-rule-passed-over : (a b c : ℕ) → read (sized 255 246) ≡ accepted a b c → ⊥

@@ -95,7 +95,8 @@ enough-of e k h = rw h at (e .enough)
 amount-same : (r : Rule) (f g : ℕ → ℤ) → ((i : ℕ) → i < length (r .terms) → f i ≡ g i) → Evaluable r → amount r f ≡ amount r g
 amount-same r f g h e =
     seven (λ k. termForm (r .form) ≡ k → amount r f ≡ amount r g)
-    (λ q. amount-sum c d ts f q ∙ ap (λ (z : ℤ). overUp d (total z)) (sum-same (weighted f) (weighted g) n (λ i l. ap (λ (z : ℤ). termIn ts i .number *ℤ z) (h i l))) ∙ sym (amount-sum c d ts g q))
+    (λ q. amount-sum c d ts f q ∙ ap (λ (z : ℤ). overUp d (total z)) (sum-same (weighted f) (weighted g) n (λ i l. ap (λ (z : ℤ). termIn ts i .number *ℤ z) (h i l)))
+    ∙ sym (amount-sum c d ts g q))
     (λ q. amount-largest c d ts f q ∙ ap total (pick-same f g larger (n - 1) (first (enough-of e 2 q))) ∙ sym (amount-largest c d ts g q))
     (λ q. amount-smallest c d ts f q ∙ ap total (pick-same f g smaller (n - 1) (first (enough-of e 3 q))) ∙ sym (amount-smallest c d ts g q))
     (λ q. amount-product c d ts f q ∙ ap total (ap₂ _*ℤ_ (h 0 (omega (arith, enough-of e 4 q))) (h 1 (omega (arith, enough-of e 4 q)))) ∙ sym (amount-product c d ts g q))

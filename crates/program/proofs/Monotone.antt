@@ -136,9 +136,12 @@ module _ {vs : List Variable} {r : Rule} (p : RulePromise vs r) (at to : ℕ →
   pub amount-up : ((i : ℕ) → i < length (r .terms) → Ranged i) → PlainMoved → amount r at ≤ℤ amount r to
   amount-up w m =
       seven (λ k. termForm (r .form) ≡ k → amount r at ≤ℤ amount r to)
-      (λ q. rw (amount-sum c d ts at q, amount-sum c d ts to q) (over-up-rises (divisor-least p) (total (sum-up (λ i. termIn ts i .number *ℤ at i) (λ i. termIn ts i .number *ℤ to i) n (weighed q)))))
-      (λ q. rw (amount-largest c d ts at q, amount-largest c d ts to q) (total (pick-up at to larger-up (n - 1) (first (omega arith) (omega arith) (p .body .count .max-least q)))))
-      (λ q. rw (amount-smallest c d ts at q, amount-smallest c d ts to q) (total (pick-up at to smaller-up (n - 1) (first (omega arith) (omega arith) (p .body .count .min-least q)))))
+      (λ q. rw (amount-sum c d ts at q, amount-sum c d ts to q)
+      (over-up-rises (divisor-least p) (total (sum-up (λ i. termIn ts i .number *ℤ at i) (λ i. termIn ts i .number *ℤ to i) n (weighed q)))))
+      (λ q. rw (amount-largest c d ts at q, amount-largest c d ts to q)
+      (total (pick-up at to larger-up (n - 1) (first (omega arith) (omega arith) (p .body .count .max-least q)))))
+      (λ q. rw (amount-smallest c d ts at q, amount-smallest c d ts to q)
+      (total (pick-up at to smaller-up (n - 1) (first (omega arith) (omega arith) (p .body .count .min-least q)))))
       (λ q. rw (amount-product c d ts at q, amount-product c d ts to q) (total (product q (omega (arith, p .body .count .product-two q)))))
       (λ q. rw (amount-size c d ts at q, amount-size c d ts to q) (total (sized q)))
       (λ q. rw (amount-literals c d ts at q, amount-literals c d ts to q) (≤ℤ-refl (r .c)))
@@ -168,7 +171,8 @@ module _ {vs : List Variable} {r : Rule} (p : RulePromise vs r) (at to : ℕ →
       moved h i l = m i l (p .body .terms i l .plain-op (plain-position (termForm (r .form)) i h))
 
       weighed : termForm (r .form) ≡ 1 → (i : ℕ) → i < n → (termIn ts i .number *ℤ at i) ≤ℤ (termIn ts i .number *ℤ to i)
-      weighed q i l = weight-up (termIn ts i .number) (at i) (to i) (rw (← plain-sum (termForm (r .form)) (variableIn vs (bodyVariable r i)) (termIn ts i .number) q) at (moved (omega arith) i l))
+      weighed q i l = weight-up (termIn ts i .number) (at i) (to i)
+          (rw (← plain-sum (termForm (r .form)) (variableIn vs (bodyVariable r i)) (termIn ts i .number) q) at (moved (omega arith) i l))
 
       rising : 2 ≤ termForm (r .form) → termForm (r .form) ≤ 4 → (i : ℕ) → i < n → at i ≤ℤ to i
       rising h k i l = rw (← plain-rising (termForm (r .form)) (variableIn vs (bodyVariable r i)) (termIn ts i .number) h k) at (moved (omega arith) i l)

@@ -12,7 +12,8 @@ use borrow.Author.Tests.{ltb-false, leb-true, leb-false, eqb-true, not-false}
 use Rattle.format.specs.Limits.{maxFile, maxVariables, maxRules, maxConstraints, maxTerms}
 use Rattle.program.specs.Tables.{Condition, _when_, firstOf}
 use Rattle.program.specs.Fields.{tagAt, lengthAt, valueAt, nextAt, place, tagBefore}
-use Rattle.program.specs.Program.{Program, Item, variable, rule, constraint, none, variableOf, ruleOf, constraintOf, with, itemOf, item, program, divisorTerms, variableIn, ruleIn, constraintIn, noVariable, noRule, noConstraint, variablesAt}
+use Rattle.program.specs.Program.{Program, Item, variable, rule, constraint, none, variableOf, ruleOf, constraintOf, with, itemOf, item, program, divisorTerms}
+use Rattle.program.specs.Program.{variableIn, ruleIn, constraintIn, noVariable, noRule, noConstraint, variablesAt}
 use Rattle.program.specs.Refusals.{cutShort, unknownTag, tagBelow, oneTooMany, notTerms, wrongLength, undeclared, negativeProduct, itemRefusal, valueRefusal, fieldRefusal}
 use Rattle.program.specs.Reading.{Passed, RuleField}
 use Rattle.program.proofs.Conditions.{neither, both, none-first, some-below, last-or}
@@ -462,7 +463,7 @@ pub record Extends {A : Type 0} (xs ys : List A) : Type 0 where
 pub extends-length : {A : Type 0} {xs ys : List A} → Extends xs ys → length xs ≤ length ys
 extends-length {xs = xs} e = omega (arith, ap length (e .are), length-append xs (e .more))
 
-pub extends-at : {A : Type 0} {xs ys : List A} → Extends xs ys → (i : ℕ) (d : A) → i < length xs → getD ys i d ≡ getD xs i d
+extends-at : {A : Type 0} {xs ys : List A} → Extends xs ys → (i : ℕ) (d : A) → i < length xs → getD ys i d ≡ getD xs i d
 extends-at {xs = xs} e i d h = rw (e .are) (List·getD-append xs (e .more) d i h)
 
 extends-same : {A : Type 0} (xs : List A) → Extends xs xs

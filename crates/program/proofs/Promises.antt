@@ -14,8 +14,11 @@ use Rattle.format.specs.Limits.{maxTerms, maxNumber, maxCoefficient, maxDivisor
 use Rattle.format.specs.Numbers.{beyond}
 use Rattle.format.proofs.Int.{int, abs-is, not-negative}
 use Rattle.format.proofs.Ints.{within-small}
-use Rattle.program.specs.Program.{Rule, Constraint, Program, Item, variable, rule, constraint, constraintIn, program, divisorTerms, termForm, byOne, divisorOf, variableIn, ruleIn, termIn}
-use Rattle.program.specs.Refusals.{bodyForm, anyTerm, literalPosition, wrongOp, mustBeZero, wrongTerm, unknownForm, wrongDivisor, wrongConstraint, wrongForm, outsideTerm, outsideDivisor, outsideRange, undeclaredTerm, wrongHead, undeclared, notFrom, wrongCountOf, wrongDivisors, wrongCount, repeatedTerm, variableTwice, negativeTerm, negativeProduct, itemConditions, itemRefusal}
+use Rattle.program.specs.Program.{Rule, Constraint, Program, Item, variable, rule, constraint, constraintIn, program, divisorTerms, termForm, byOne, divisorOf}
+use Rattle.program.specs.Program.{variableIn, ruleIn, termIn}
+use Rattle.program.specs.Refusals.{bodyForm, anyTerm, literalPosition, wrongOp, mustBeZero, wrongTerm, unknownForm, wrongDivisor, wrongConstraint, wrongForm}
+use Rattle.program.specs.Refusals.{outsideTerm, outsideDivisor, outsideRange, undeclaredTerm, wrongHead, undeclared, notFrom, wrongCountOf, wrongDivisors}
+use Rattle.program.specs.Refusals.{wrongCount, repeatedTerm, variableTwice, negativeTerm, negativeProduct, itemConditions, itemRefusal}
 use Rattle.program.specs.Reading.{Passed, Accepts}
 use Rattle.program.proofs.Forms.{read-as-known}
 use Rattle.program.proofs.Conditions.{never, neither, both, none-first, none-below, below-none}
@@ -45,11 +48,6 @@ item-fine vs it e =
     let f = none-first 10 (variableTwice it) (drop 5 cs) (d .1) in
     let g = none-first 11 (negativeProduct vs it) [] (f .1) in
     record { formed = a .0; ranged = b .0; declared = c .0; counted = d .0; once = f .0; product = g .0 }
-
--- and the other way round
-pub fine-item : {vs : List Variable} {it : Item} → ItemFine vs it → itemRefusal vs it ≡ 0
-unfolding itemRefusal
-fine-item f = simp (f .formed, f .ranged, f .declared, f .counted, f .once, f .product)
 
 -- ---- variables
 
@@ -107,7 +105,7 @@ pub record BodyPromise (vs : List Variable) (form : ℕ) (ts : List Term) : Type
   pub terms : (i : ℕ) → i < length ts → TermPromise vs form i (termIn ts i)
   pub distinct : (i j : ℕ) → i < length ts → j < i → termIn ts j .variable ≢ termIn ts i .variable
 
--- the places of literals
+-- the positions of literals
 pub plain-position : (form i : ℕ) → form ≤ 5 → literalPosition form i ≡ false
 unfolding literalPosition
 plain-position form i h = simp (ne-eqb form 6 (omega arith), ne-eqb form 7 (omega arith))

@@ -17,8 +17,12 @@ use Rattle.program.specs.Refusals.{cutShort, unknownTag, tagBelow, oneTo
 use Rattle.program.specs.Components.{Valid}
 use Rattle.program.specs.Reading.{Passed, Whole, Accepts}
 use Rattle.program.specs.Encode.{each, fieldBytes, variableBytes, ruleBytes, constraintBytes, encode, Bytes, All, Proper}
-use Rattle.program.proofs.Places.{Fine, Next, a-variable, a-rule, a-constraint, next-of, alone, length-snoc, place-start, program-start, before-start, place-next, program-next, before-next, place-suc, value-length, passed-less, passed-none, passed-more, passed-fine, counts, variable-stands, rule-at, constraint-at}
-use Rattle.program.proofs.Encoding.{variableValue, ruleValue, constraintValue, front, variable-written, rule-written, constraint-written, divisor-small, body-small, variable-read, rule-read, constraint-read, terms-size, rule-size, value-bytes, bytes-each, bytes-append, all-of, all-map, variable-bytes, rule-bytes, constraint-bytes}
+use Rattle.program.proofs.Places.{Fine, Next, a-variable, a-rule, a-constraint, next-of, alone, length-snoc, place-start, program-start, before-start, place-next}
+use Rattle.program.proofs.Places.{program-next, before-next, place-suc, value-length, passed-less, passed-none, passed-more, passed-fine, counts, variable-stands}
+use Rattle.program.proofs.Places.{rule-at, constraint-at}
+use Rattle.program.proofs.Encoding.{variableValue, ruleValue, constraintValue, front, variable-written, rule-written, constraint-written, divisor-small}
+use Rattle.program.proofs.Encoding.{body-small, variable-read, rule-read, constraint-read, terms-size, rule-size, value-bytes, bytes-each, bytes-append, all-of}
+use Rattle.program.proofs.Encoding.{all-map, variable-bytes, rule-bytes, constraint-bytes}
 use Rattle.program.proofs.Promises.{variable-promised, rule-promised, constraint-promised}
 use Rattle.program.proofs.Conditions.{below-some}
 use Rattle.program.specs.declared.Variable.{Variable}

@@ -10,7 +10,8 @@ use Rattle.program.specs.Program.{Program, program}
 use Rattle.program.specs.Refusals.{fieldRefusal}
 use Rattle.program.specs.Components.{Valid, FirstOffending}
 use Rattle.program.specs.declared.Refusal.{Refusal}
-use Rattle.program.specs.declared.Refusal.the-variants.{FileTooLong, CutShort, UnknownTag, TagBelow, OneTooMany, WrongLength, WrongForm, OutsideRange, Undeclared, WrongCount, VariableTwice, NegativeProduct, NotValid}
+use Rattle.program.specs.declared.Refusal.the-variants.{FileTooLong, CutShort, UnknownTag, TagBelow, OneTooMany, WrongLength, WrongForm, OutsideRange, Undeclared}
+use Rattle.program.specs.declared.Refusal.the-variants.{WrongCount, VariableTwice, NegativeProduct, NotValid}
 use Rattle.program.specs.declared.Counts.{Counts}
 use Rattle.program.specs.declared.Reading.{Reading}
 use Rattle.program.specs.declared.Reading.the-variants.{Accepted, Refused}

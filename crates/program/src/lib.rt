@@ -110,7 +110,7 @@ pub enum Reading {
     Refused(Refusal, usize),
 }
 
-// Which way a place of a rule's body pushes.
+// Which way a position of a rule's body pushes.
 pub enum Direction {
     Rising,
     Falling,

@@ -13,7 +13,9 @@ use Rattle.format.specs.Limits.{maxNumber, maxTerms}
 use Rattle.format.specs.Numbers.{beyond}
 use Rattle.program.specs.Tables.{_when_, firstOf, anyBelow}
 use Rattle.program.specs.Program.{variable, rule, constraint, divisorTerms, termForm, variableOf, ruleDivisor, ruleOf, constraintOf, termsOf, termIn, variableIn, variablesAt}
-use Rattle.program.specs.Refusals.{anyTerm, wrongDivisor, outsideDivisor, wrongDivisors, wrongLength, notTerms, wrongForm, outsideRange, undeclared, wrongCount, variableTwice, negativeProduct, itemRefusal, unknownForm, wrongHead, wrongCountOf, wrongConstraint, bodyForm, wrongTerm, outsideTerm, undeclaredTerm, repeatedTerm, negativeTerm, notFrom}
+use Rattle.program.specs.Refusals.{anyTerm, wrongDivisor, outsideDivisor, wrongDivisors, wrongLength, notTerms, wrongForm, outsideRange, undeclared, wrongCount}
+use Rattle.program.specs.Refusals.{variableTwice, negativeProduct, itemRefusal, unknownForm, wrongHead, wrongCountOf, wrongConstraint, bodyForm, wrongTerm, outsideTerm}
+use Rattle.program.specs.Refusals.{undeclaredTerm, repeatedTerm, negativeTerm, notFrom}
 use Rattle.program.proofs.Forms.{divisor-few}
 use Rattle.program.proofs.Conditions.{below-none, none-below, never}
 use Rattle.program.proofs.Places.{variables-length, sized-terms}

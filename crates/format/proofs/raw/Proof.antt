@@ -13,12 +13,14 @@ use Rattle.format.proofs.raw.Tie as tie
 add-result : tie.Need-add-result
 add-result c = let v = c .before .args .v in
     let s : ofZ w16 v < 65536 = raw-small v (c .before .pre) in
-    rw (toZ-ofZ (c .before .fits .v), raw-negative v (simp (toZ-ofZ (c .before .fits .v)) at (c .if1 .taken)) (c .before .pre)) (sfits-abs (pos (ofZ w16 v)) 65536 (omega arith) (omega arith))
+    rw (toZ-ofZ (c .before .fits .v), raw-negative v (simp (toZ-ofZ (c .before .fits .v)) at (c .if1 .taken)) (c .before .pre))
+    (sfits-abs (pos (ofZ w16 v)) 65536 (omega arith) (omega arith))
 
 cast-result : tie.Need-cast-result
 cast-result c = let v = c .before .args .v in
     let s : ofZ w16 v < 65536 = raw-small v (c .before .pre) in
-    rw (toZ-ofZ (c .before .fits .v), raw-negative v (simp (toZ-ofZ (c .before .fits .v)) at (c .if1 .taken)) (c .before .pre), toZ-pos w64 {n = ofZ w16 v} (omega arith)) (tt, record { fits = omega arith })
+    rw (toZ-ofZ (c .before .fits .v), raw-negative v (simp (toZ-ofZ (c .before .fits .v)) at (c .if1 .taken)) (c .before .pre), toZ-pos w64 {n = ofZ w16 v} (omega arith))
+    (tt, record { fits = omega arith })
 
 cast-result-2 : tie.Need-cast-result-2
 cast-result-2 c = let v = c .before .args .v in
@@ -33,7 +35,8 @@ returns c = let v = c .before .args .v in
 returns-2 : tie.Need-returns-2
 returns-2 c = let v = c .before .args .v in
     let s : ofZ w16 v < 65536 = raw-small v (c .before .pre) in
-    rw (toZ-ofZ (c .before .fits .v)) (ap natAbs (raw-positive v (simp (toZ-ofZ (c .before .fits .v)) at (c .if1 .left))), subst (λ (z : ℤ). natAbs z < 65536) (sym (raw-positive v (simp (toZ-ofZ (c .before .fits .v)) at (c .if1 .left)))) s)
+    let e = raw-positive v (simp (toZ-ofZ (c .before .fits .v)) at (c .if1 .left)) in
+    rw (toZ-ofZ (c .before .fits .v)) (ap natAbs e, subst (λ (z : ℤ). natAbs z < 65536) (sym e) s)
 
 pub raw-spec : {M : Type 1} → statement M
 raw-spec = tie.close (tie.spec add-result cast-result cast-result-2 returns returns-2)

@@ -44,7 +44,8 @@ returns c =
     let h = c .before .before .before .before .before .before .before .before .before .before .header in
     let z : toZ w64 (ofZ w64 (h .result .c)) ≡ h .result .c = search needs in
     constraint-refusal _ v _ _ (c .before .before .before .before .before .before .before .before .body-form .ensures ∙ ap bodyForm (h .ensures .0))
-    (c .first .ensures ∙ body-refusal _ (c .before .before .before .before .before .before .before .before .before .body .ensures) _ _ _ _ _ {c = false} (c .before .before .before .body-faults .ensures)
+    (c .first .ensures ∙ body-refusal _ (c .before .before .before .before .before .before .before .before .before .body .ensures) _ _ _ _ _ {c = false}
+    (c .before .before .before .body-faults .ensures)
     (c .before .before .before .before .before .before .is-wrong-constraint .ensures ∙ ap₂ wrongConstraint (h .ensures .0) (z ∙ h .ensures .1))
     (c .before .before .before .before .is-number-beyond .ensures ∙ ap (beyond maxNumber) (z ∙ h .ensures .1)) refl refl refl (c .before .before .with .ensures)
     (c .before .is-wrong-count .ensures ∙ ap (wrongCountOf _) (c .before .before .before .before .before .before .before .before .before .body .ensures .many)))

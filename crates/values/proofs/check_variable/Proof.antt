@@ -19,10 +19,14 @@ is-range-outside-requires : tie.Need-is-range-outside-requires
 is-range-outside-requires c κs = search needs
 
 returns-3 : tie.Need-returns-3
-returns-3 c = λ vs. variable-range _ vs (omega arith) (omega (arith, kind-of (c .before .before .before .variable-of .ensures))) (range-of (c .before .before .before .variable-of .ensures) (sym (c .before .is-range-outside .ensures) ∙ c .if3 .taken))
+returns-3 c =
+    let x = c .before .before .before .variable-of .ensures in
+    λ vs. variable-range _ vs (omega arith) (omega (arith, kind-of x)) (range-of x (sym (c .before .is-range-outside .ensures) ∙ c .if3 .taken))
 
 returns-4 : tie.Need-returns-4
-returns-4 c = λ vs. variable-fine _ vs (omega arith) (omega (arith, kind-of (c .before .before .before .variable-of .ensures))) (range-of (c .before .before .before .variable-of .ensures) (sym (c .before .is-range-outside .ensures) ∙ c .if3 .left))
+returns-4 c =
+    let x = c .before .before .before .variable-of .ensures in
+    λ vs. variable-fine _ vs (omega arith) (omega (arith, kind-of x)) (range-of x (sym (c .before .is-range-outside .ensures) ∙ c .if3 .left))
 
 pub check-variable-spec : {M : Type 1} → statement M
 check-variable-spec =

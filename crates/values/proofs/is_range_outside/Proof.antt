@@ -24,7 +24,8 @@ returns c =
     let x = c .before .before .before .before .before .args .x in
     let l : toZ w64 (ofZ w64 (x .low)) ≡ x .low = search needs in
     let h : toZ w64 (ofZ w64 (x .high)) ≡ x .high = search needs in
-    range-outside x _ _ _ (c .before .before .is-number-beyond .ensures ∙ ap (beyond maxNumber) l) (c .before .is-number-beyond2 .ensures ∙ ap (beyond maxNumber) h) (c .is-below .ensures ∙ ap₂ ltZ h l)
+    range-outside x _ _ _ (c .before .before .is-number-beyond .ensures ∙ ap (beyond maxNumber) l)
+    (c .before .is-number-beyond2 .ensures ∙ ap (beyond maxNumber) h) (c .is-below .ensures ∙ ap₂ ltZ h l)
 
 pub is-range-outside-spec : {M : Type 1} → statement M
 is-range-outside-spec =

@@ -46,7 +46,10 @@ returns-8 : tie.Need-returns-8
 returns-8 c = count-unknown _ _ (omega arith) (omega arith) (omega arith) (omega arith) (omega arith) (omega arith) (omega arith)
 
 returns-9 : tie.Need-returns-9
-returns-9 c = count-unknown _ _ (c .match .rest .0 .0 .0 .0 .0 .0 .0 .1) (c .match .rest .0 .0 .0 .0 .0 .0 .1) (c .match .rest .0 .0 .0 .0 .0 .1) (c .match .rest .0 .0 .0 .0 .1) (c .match .rest .0 .0 .0 .1) (c .match .rest .0 .0 .1) (c .match .rest .0 .1)
+returns-9 c =
+    let q = c .match .rest .0 in
+    let u = q .0 .0 .0 in
+    count-unknown _ _ (u .0 .0 .0 .1) (u .0 .0 .1) (u .0 .1) (u .1) (q .0 .0 .1) (q .0 .1) (q .1)
 
 pub is-wrong-count-spec : {M : Type 1} → statement M
 is-wrong-count-spec =

@@ -15,7 +15,9 @@ returns : tie.Need-returns
 returns c = head-undeclared _ _ _ (sym (c .before .is-undeclared .ensures) ∙ c .if1 .taken)
 
 variable-requires : tie.Need-variable-requires
-variable-requires c κs = let a = c .before .before .before .args in omega (arith, leb-false (a .variables) (a .head) (sym (c .before .is-undeclared .ensures) ∙ c .if1 .left), c .before .before .before .pre)
+variable-requires c κs =
+    let a = c .before .before .before .args in
+    omega (arith, leb-false (a .variables) (a .head) (sym (c .before .is-undeclared .ensures) ∙ c .if1 .left), c .before .before .before .pre)
 
 is-founded-requires : tie.Need-is-founded-requires
 is-founded-requires c κs = search needs

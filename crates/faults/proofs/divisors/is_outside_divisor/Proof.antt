@@ -8,13 +8,13 @@ use Rattle.faults.proofs.divisors.is_outside_divisor.Statement.{stateme
 use Rattle.faults.proofs.divisors.is_outside_divisor.Tie as tie
 
 returns : tie.Need-returns
-returns c = 
+returns c =
     let t = c .before .before .args .t in
     let z : toZ w64 (ofZ w64 (t .number)) ≡ t .number = search needs in
     divisor-below t (simp z at (c .if1 .taken))
 
 returns-2 : tie.Need-returns-2
-returns-2 c = 
+returns-2 c =
     let t = c .before .before .args .t in
     let z : toZ w64 (ofZ w64 (t .number)) ≡ t .number = search needs in
     rw z (divisor-above t (simp z at (c .if1 .left)))
