@@ -1,46 +1,35 @@
-// The cases of the table of `samples`, line by line.
+// The cases of the table of `samples`.
+use guarding::patterned;
+use parsing::Line;
 use parsing::next;
-use parsing::parsed;
-use telling::note_line;
-use trying::placed;
+use showing::opened;
+use showing::show;
+use trying::tried;
 ghost use Prim.Native.Nat.{_≤_};
 ghost use lib.ListN.{length};
 
-// Tries the line that starts at `at`; answers how many bytes the beginning has after it.
-fn after(
-    room: &mut [u8],
-    bytes: &mut [u8],
-    begun: usize,
-    number: usize,
-    table: &[u8],
-    at: usize,
-) -> usize
-    requires { ⌜ at ≤ length (now table) ⌝ }
+// Tries a line's case in a room of its own, and prints what it answers.
+fn case(bytes: &[u8], line: Line)
+    requires { ⌜ line .file ≤ line .all ⌝ }
+    requires { ⌜ line .all ≤ length (now bytes) ⌝ }
+    requires { ⌜ line .from ≤ line .to ⌝ }
+    requires { ⌜ line .to ≤ 14644 ⌝ }
 {
-    let line = parsed(bytes, begun, table, at);
-    let start = line.start;
-    let colon = line.colon;
-    let name = &table[start..colon];
-    let is_fine = placed(
-        room,
-        bytes,
-        line.letter,
-        name,
-        line.file,
-        line.all,
-        line.lent,
-    );
-    note_line(is_fine, number);
-    line.begun
+    let mut room = patterned();
+    let answer = tried(&mut room, bytes, line);
+    show(&room, line, answer);
 }
 
-pub fn each(table: &[u8], bytes: &mut [u8], room: &mut [u8]) {
+// Tries each line's case; `number` counts the lines, and `begun` how many bytes come before a case's own.
+pub fn each(table: &[u8], bytes: &mut [u8]) {
     let mut begun = 0;
     let mut number = 0;
     let mut at = 0;
     while at < table.len() {
         number += 1;
-        begun = after(room, bytes, begun, number, table, at);
+        let line = opened(bytes, begun, table, at, number);
+        case(bytes, line);
+        begun = line.begun;
         at = next(table, at);
     }
 }

@@ -1,19 +1,34 @@
-// Prints a call's answer, what the call wrote into a part of a larger room, and whether every other byte of the room is as it was.
+// Prints what a call wrote into a part of a larger room, and whether every other byte of the room is as it was.
 use libc::STDOUT_FILENO;
-use packing::Parts;
-use packing::Word;
 use telling::say;
-use telling::tell;
 use telling::text;
+ghost use mathlib.Core.Path.{_≡_};
+ghost use Prim.Native.Nat.{_≤_};
+ghost use lib.ListN.{length};
 
-// The lent part starts here.
-pub const START: usize = 16;
+// Room for what a call is lent and a guard around it, and for the longest text of the printing program.
+pub const ROOM: usize = 14644;
 
-// Whether each byte but those from `start` on and below `end` is the pattern's. If so, all are then.
-pub fn is_kept(room: &mut [u8], start: usize, end: usize) -> bool {
+// The byte of the pattern at a place.
+fn pattern(i: usize) -> u8 {
+    (i % 199 + 50) as u8
+}
+
+// A room that has the pattern.
+pub fn patterned() -> [u8; ROOM]
+    ensures { λ r. ⌜ 14644 ≡ length r ⌝ }
+{
+    let mut room = [0u8; ROOM];
+    for i in 0..ROOM {
+        room[i] = pattern(i);
+    }
+    room
+}
+
+// Whether each byte but those from `start` on and below `end` is the pattern's.
+fn is_kept(room: &[u8], start: usize, end: usize) -> bool {
     for i in 0..room.len() {
-        let x = (i % 199 + 50) as u8;
-        if room[i] != x {
+        if room[i] != pattern(i) {
             if i < start {
                 return false;
             }
@@ -21,7 +36,6 @@ pub fn is_kept(room: &mut [u8], start: usize, end: usize) -> bool {
                 return false;
             }
         }
-        room[i] = x;
     }
     true
 }
@@ -65,42 +79,20 @@ fn written(is_report: bool, bytes: &[u8]) {
     }
 }
 
-// How many bytes are written with an answer: the values of `found`, or the entries of `unfounded`, of which no report has 1,024.
-fn length_of(answer: Parts, values: usize) -> usize {
-    let word = answer.word;
-    match word {
-        Word::FOUND => values,
-        Word::UNFOUNDED => 4 * (answer.first % 1024 + answer.second % 1024),
-        _ => 0,
+// Prints what was written, n bytes from the lent part's start on, and whether the other bytes are as they were.
+pub fn guarded(room: &[u8], is_check: bool, from: usize, to: usize, n: usize)
+    requires { ⌜ from ≤ to ⌝ }
+    requires { ⌜ to ≤ length (now room) ⌝ }
+{
+    if to - from < n {
+        text(b", more than was lent\n");
+        return;
     }
-}
-
-// Prints what was written, n bytes from START on, and whether the other bytes are as they were; answers whether there are so many.
-fn guarded(room: &mut [u8], is_check: bool, n: usize) -> bool {
-    if room.len() < START {
-        return false;
-    }
-    if room.len() - START < n {
-        return false;
-    }
-    let stop = START + n;
-    written(is_check, &room[START..stop]);
-    if is_kept(room, START, stop) {
+    let stop = from + n;
+    written(is_check, &room[from..stop]);
+    if is_kept(room, from, stop) {
         text(b", guard kept\n");
     } else {
         text(b", guard lost\n");
     }
-    true
-}
-
-// Prints a call's word, name and answer, and then as `guarded` does; `values` is how many bytes an assignment has.
-pub fn show(room: &mut [u8], is_check: bool, name: &[u8], answer: Parts, values: usize) -> bool {
-    if is_check {
-        text(b"check of ");
-    } else {
-        text(b"least of ");
-    }
-    text(name);
-    tell(answer);
-    guarded(room, is_check, length_of(answer, values))
 }

@@ -7,8 +7,17 @@ use pieces::decimal;
 ghost use Prim.Native.Nat.{_≤_, _<_};
 ghost use lib.ListN.{length};
 
-// The most bytes that a case lends: more than a call asks for.
+// The part of the room that a call is lent starts here.
+const START: usize = 16;
+
+// The most bytes that a call is lent: more than it asks for.
 const MOST: usize = 3080;
+
+// The most bytes of a case: the longest input of the printing program, and one byte more.
+const BYTES: usize = 61001;
+
+// The bytes of a short output.
+const SHORT: usize = 4;
 
 // A line's letter, 0 where it is written wrongly, where its name starts and ends, and where its case starts.
 struct Head {
@@ -18,21 +27,23 @@ struct Head {
     rest: usize,
 }
 
-// Where the bytes of a case end: those of its file or input, and those of its assignment. How many are lent.
+// Where the bytes of a case end: those of its file or input, and those of its assignment. Where the lent part of the room starts and ends.
 struct Ends {
     file: usize,
     all: usize,
-    lent: usize,
+    from: usize,
+    to: usize,
 }
 
-// A line's letter and name as in `Head`, the bytes of its case as in `Ends`, and how many bytes the beginning has after the line.
+// A line's letter and name as in `Head`, the bytes and the lent part of its case as in `Ends`, and how many bytes the beginning has after the line.
 pub struct Line {
     pub letter: u8,
     pub start: usize,
     pub colon: usize,
     pub file: usize,
     pub all: usize,
-    pub lent: usize,
+    pub from: usize,
+    pub to: usize,
     pub begun: usize,
 }
 
@@ -81,29 +92,36 @@ fn head_of(table: &[u8], at: usize, end: usize) -> Head
     }
 }
 
-// How many bytes are lent: the number after the assignment, or the most.
-fn lent(text: &[u8]) -> usize {
+// Where a call's part ends: it has as many bytes as the number after the assignment says, or the most.
+fn lent_to(text: &[u8]) -> usize
+    ensures { λ r. ⌜ 16 ≤ r ⌝ }
+{
     if text.len() == 0 {
-        return MOST;
+        return START + MOST;
     }
     let n = decimal(&text[1..]);
-    if MOST < n { WRONG } else { n }
+    if MOST < n { WRONG } else { START + n }
 }
 
-// A case that has no assignment.
-fn alone(file: usize) -> Ends {
+// A case that has no assignment, and is lent the room's first bytes.
+fn alone(file: usize, to: usize) -> Ends
+    ensures { λ r. ⌜ r .from ≤ r .to ⌝ }
+{
     Ends {
         file,
         all: file,
-        lent: 0,
+        from: 0,
+        to,
     }
 }
 
 // The file of a call, before a semicolon, its assignment, and the rest.
-fn called(bytes: &mut [u8], begun: usize, text: &[u8]) -> Ends {
+fn called(bytes: &mut [u8], begun: usize, text: &[u8]) -> Ends
+    ensures { λ r. ⌜ r .from ≤ r .to ⌝ }
+{
     let end = find(text, 0, text.len(), b';');
     if end == text.len() {
-        return alone(WRONG);
+        return alone(WRONG, 0);
     }
     let file = appended(bytes, begun, &text[0..end]);
     let start = end + 1;
@@ -111,69 +129,96 @@ fn called(bytes: &mut [u8], begun: usize, text: &[u8]) -> Ends {
     Ends {
         file,
         all: appended(bytes, file, &text[start..stop]),
-        lent: lent(&text[stop..]),
+        from: START,
+        to: lent_to(&text[stop..]),
+    }
+}
+
+// How many bytes an output has: all of the room, or few.
+fn output(letter: u8, room: usize) -> usize {
+    match letter {
+        b'p' => room,
+        b's' => SHORT,
+        _ => 0,
     }
 }
 
 // The bytes of a case, by the letter of its line.
-fn filled(bytes: &mut [u8], begun: usize, letter: u8, text: &[u8]) -> Ends {
+fn filled(bytes: &mut [u8], begun: usize, letter: u8, text: &[u8], room: usize) -> Ends
+    ensures { λ r. ⌜ r .from ≤ r .to ⌝ }
+{
     match letter {
         b'l' | b'c' => called(bytes, begun, text),
-        b'w' => alone(appended(bytes, 0, text)),
-        _ => alone(appended(bytes, begun, text)),
+        b'w' => alone(appended(bytes, 0, text), 0),
+        _ => alone(appended(bytes, begun, text), output(letter, room)),
     }
 }
 
-// The line with its case, where there is room for so many bytes.
-fn fitted(head: Head, ends: Ends, begun: usize, len: usize) -> Line
+// How many bytes a case may have, of so many.
+fn most(len: usize) -> usize
+    ensures { λ r. ⌜ r ≤ len ⌝ }
+{
+    if len < BYTES { len } else { BYTES }
+}
+
+// The line with its case, where there are so many bytes for it, and a room of so many.
+fn fitted(head: Head, ends: Ends, begun: usize, len: usize, room: usize) -> Line
     requires { ⌜ head .start ≤ head .colon ⌝ }
+    requires { ⌜ ends .from ≤ ends .to ⌝ }
     ensures { λ r. ⌜ r .start ≤ r .colon ⌝ }
     ensures { λ r. ⌜ r .colon ≤ head .colon ⌝ }
     ensures { λ r. ⌜ r .file ≤ r .all ⌝ }
     ensures { λ r. ⌜ r .all ≤ len ⌝ }
+    ensures { λ r. ⌜ r .from ≤ r .to ⌝ }
+    ensures { λ r. ⌜ r .to ≤ room ⌝ }
 {
     let letter = head.letter;
     let file = ends.file;
     let all = ends.all;
-    let wrong = Line {
+    let to = ends.to;
+    if all <= len {
+        if file <= all {
+            if to <= room {
+                return Line {
+                    letter,
+                    start: head.start,
+                    colon: head.colon,
+                    file,
+                    all,
+                    from: ends.from,
+                    to,
+                    begun: if letter == b'w' { all } else { begun },
+                };
+            }
+        }
+    }
+    Line {
         letter: 0,
         start: 0,
         colon: 0,
         file: 0,
         all: 0,
-        lent: 0,
+        from: 0,
+        to: 0,
         begun,
-    };
-    if len < all {
-        return wrong;
-    }
-    if all < file {
-        return wrong;
-    }
-    Line {
-        letter,
-        start: head.start,
-        colon: head.colon,
-        file,
-        all,
-        lent: ends.lent,
-        begun: if letter == b'w' { all } else { begun },
     }
 }
 
 // The line that starts at `at`, taken apart.
-pub fn parsed(bytes: &mut [u8], begun: usize, table: &[u8], at: usize) -> Line
+pub fn parsed(bytes: &mut [u8], begun: usize, table: &[u8], at: usize, room: usize) -> Line
     requires { ⌜ at ≤ length (now table) ⌝ }
     ensures { λ r. ⌜ r .start ≤ r .colon ⌝ }
     ensures { λ r. ⌜ r .colon ≤ length (now (table .entry)) ⌝ }
     ensures { λ r. ⌜ r .file ≤ r .all ⌝ }
     ensures { λ r. ⌜ r .all ≤ length (now (bytes .exit)) ⌝ }
+    ensures { λ r. ⌜ r .from ≤ r .to ⌝ }
+    ensures { λ r. ⌜ r .to ≤ room ⌝ }
 {
     let end = find(table, at, table.len(), b'\n');
     let head = head_of(table, at, end);
     let rest = head.rest;
-    let ends = filled(bytes, begun, head.letter, &table[rest..end]);
-    fitted(head, ends, begun, bytes.len())
+    let ends = filled(bytes, begun, head.letter, &table[rest..end], room);
+    fitted(head, ends, begun, most(bytes.len()), room)
 }
 
 // Where the line after the one that starts at `at` starts, or the table's end.

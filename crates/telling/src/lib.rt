@@ -1,7 +1,9 @@
-// Prints an answer's word and numbers, the text of the printing program, and the numbers of wrong lines.
+// Reads the table, and prints the head of a case, the numbers of wrong lines, an answer's word and numbers, and the text of the printing program.
+use libc::STDIN_FILENO;
 use libc::STDOUT_FILENO;
 use packing::Parts;
 use packing::Word;
+ghost use Rattle.io.specs.Counts.{Counts};
 
 pub fn text(s: &[u8]) {
     io::write_all(STDOUT_FILENO, s);
@@ -40,17 +42,14 @@ pub fn tell(answer: Parts) {
     }
 }
 
-// A name, an answer and the line's end.
-pub fn tell_line(name: &[u8], answer: Parts) {
-    text(name);
+// An answer and the line's end.
+pub fn tell_line(answer: Parts) {
     tell(answer);
     text(b"\n");
 }
 
-// The name of an input, and the text of n bytes for it; of a text that is longer than the output its length and what the output holds.
-pub fn printed(name: &[u8], output: &[u8], n: usize) {
-    text(b"print of ");
-    text(name);
+// The text of n bytes that an output holds; of a text that is longer than the output its length and what the output holds.
+pub fn printed(output: &[u8], n: usize) {
     if n <= output.len() {
         text(b":\n");
         text(&output[0..n]);
@@ -62,10 +61,35 @@ pub fn printed(name: &[u8], output: &[u8], n: usize) {
     }
 }
 
-// The number of a line, unless it is written as it must be.
-pub fn note_line(is_fine: bool, number: usize) {
-    if !is_fine {
-        say(b"bad line", number);
-        text(b"\n");
+// What is done, and the name of the case.
+fn head(word: &[u8], name: &[u8]) {
+    text(word);
+    text(name);
+}
+
+// The head of a case, by its letter, or the number of a line that is not written as it must be.
+pub fn announce(letter: u8, name: &[u8], number: usize) {
+    match letter {
+        b'r' => text(name),
+        b'l' => head(b"least of ", name),
+        b'c' => head(b"check of ", name),
+        b'p' | b's' => head(b"print of ", name),
+        b'w' | b'#' => {}
+        _ => {
+            say(b"bad line", number);
+            text(b"\n");
+        }
     }
+}
+
+// Reads the table and answers how many bytes it has; of one that does not fit nothing is taken.
+pub fn taken(table: &mut [u8]) -> usize
+    ensures { λ r. ⌜ Counts r (now (table .exit)) ⌝ }
+{
+    let n = io::read_full(STDIN_FILENO, table);
+    if n < table.len() {
+        return n;
+    }
+    text(b"the table is too long\n");
+    0
 }

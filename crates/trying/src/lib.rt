@@ -1,51 +1,38 @@
-// Tries a case of the table of `samples`, by the letter of its line.
-use lending::lend;
-use lending::read;
-use telling::printed;
+// Makes the call for a line's case: those of the C interface by their exported functions, and the printing call.
+use founded::founded_check;
+use founded::founded_least;
+use founded::founded_read;
+use parsing::Line;
+use printing::print;
 ghost use Prim.Native.Nat.{_≤_};
 ghost use lib.ListN.{length};
 
-// The text for an input of the printing program.
-fn print(output: &mut [u8], name: &[u8], input: &[u8]) {
-    let n = printing::print(input, output);
-    printed(name, output, n);
-}
-
-// A case; answers whether it is written as it must be. A short output has 4 bytes.
-fn tried(
-    room: &mut [u8],
-    letter: u8,
-    name: &[u8],
-    file: &[u8],
-    assignment: &[u8],
-    len: usize,
-) -> bool {
-    if room.len() < 4 {
-        return false;
-    }
+// What the call for a letter answers: a packed answer, or how many bytes the text has.
+fn answered(letter: u8, file: &[u8], assignment: &[u8], lent: &mut [u8]) -> u64 {
     match letter {
-        b'r' => read(name, file),
-        b'p' => print(room, name, file),
-        b's' => print(&mut room[0..4], name, file),
-        b'l' | b'c' => return lend(room, letter == b'c', name, file, assignment, len),
-        b'w' | b'#' => {}
-        _ => return false,
+        b'r' => founded_read(file),
+        b'l' => founded_least(file, assignment, lent),
+        b'c' => founded_check(file, assignment, lent),
+        b'p' | b's' => print(file, lent) as u64,
+        _ => 0,
     }
-    true
 }
 
-// A case whose file or input has the bytes below `file`, and its assignment those from there up to `all`.
-pub fn placed(
-    room: &mut [u8],
-    bytes: &[u8],
-    letter: u8,
-    name: &[u8],
-    file: usize,
-    all: usize,
-    len: usize,
-) -> bool
-    requires { ⌜ file ≤ all ⌝ }
-    requires { ⌜ all ≤ length (now bytes) ⌝ }
+// Lends a part of the room; answers as `answered` does.
+pub fn tried(room: &mut [u8], bytes: &[u8], line: Line) -> u64
+    requires { ⌜ line .file ≤ line .all ⌝ }
+    requires { ⌜ line .all ≤ length (now bytes) ⌝ }
+    requires { ⌜ line .from ≤ line .to ⌝ }
+    requires { ⌜ line .to ≤ length (now room) ⌝ }
 {
-    tried(room, letter, name, &bytes[0..file], &bytes[file..all], len)
+    let file = line.file;
+    let all = line.all;
+    let from = line.from;
+    let to = line.to;
+    answered(
+        line.letter,
+        &bytes[0..file],
+        &bytes[file..all],
+        &mut room[from..to],
+    )
 }

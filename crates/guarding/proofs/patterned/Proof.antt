@@ -1,0 +1,48 @@
+-- A store keeps the length.
+use mathlib.Core.Path.{_≡_}
+use Prim.Native.Nat.{_-_}
+use lib.ListN.{length}
+use borrow.Author.Needs.{needs}
+use Rattle.guarding.proofs.patterned.Statement.{statement}
+use Rattle.guarding.proofs.patterned.Tie as tie
+
+abbrev Inv-loop : tie.InvT-loop
+Inv-loop room₀ i₀ room i = length room ≡ 14644
+
+abbrev μ-loop : tie.MeasureT-loop
+μ-loop room₀ i₀ room i = 14644 - i
+
+loop-holds : tie.Need-loop-holds Inv-loop μ-loop
+loop-holds c = search needs
+
+pattern-requires : tie.Need-pattern-requires Inv-loop μ-loop
+pattern-requires c κs = search needs
+
+array-write-room : tie.Need-array-write-room Inv-loop μ-loop
+array-write-room c = search needs
+
+add-i : tie.Need-add-i Inv-loop μ-loop
+add-i c = search needs
+
+loop-less : tie.Need-loop-less Inv-loop μ-loop
+loop-less c = search needs
+
+loop-again : tie.Need-loop-again Inv-loop μ-loop
+loop-again c = search needs
+
+returns : tie.Need-returns Inv-loop μ-loop
+returns c = search needs
+
+pub patterned-spec : {M : Type 1} → statement M
+patterned-spec =
+    tie.close
+    (tie.spec
+    Inv-loop
+    μ-loop
+    loop-holds
+    pattern-requires
+    array-write-room
+    add-i
+    loop-less
+    loop-again
+    returns)

@@ -1,0 +1,80 @@
+// A line's case: its head printed before it is tried, and its answer after.
+use guarding::ROOM;
+use guarding::guarded;
+use packing::Parts;
+use packing::Word;
+use parsing::Line;
+use parsing::parsed;
+use telling::announce;
+use telling::printed;
+use telling::tell;
+use telling::tell_line;
+ghost use Prim.Native.Nat.{_≤_};
+ghost use lib.ListN.{length};
+
+// Takes the line that starts at `at` apart, and prints its head.
+pub fn opened(bytes: &mut [u8], begun: usize, table: &[u8], at: usize, number: usize) -> Line
+    requires { ⌜ at ≤ length (now table) ⌝ }
+    ensures { λ r. ⌜ r .file ≤ r .all ⌝ }
+    ensures { λ r. ⌜ r .all ≤ length (now (bytes .exit)) ⌝ }
+    ensures { λ r. ⌜ r .from ≤ r .to ⌝ }
+    ensures { λ r. ⌜ r .to ≤ 14644 ⌝ }
+{
+    let line = parsed(bytes, begun, table, at, ROOM);
+    let start = line.start;
+    let colon = line.colon;
+    announce(line.letter, &table[start..colon], number);
+    line
+}
+
+// The word and the numbers of an answer that is packed as include/founded.h says.
+fn unpacked(answer: u64) -> Parts {
+    Parts {
+        word: (answer % 256) as usize,
+        first: (answer / 256 % 65536) as usize,
+        second: (answer / 16777216 % 65536) as usize,
+        third: (answer / 1099511627776 % 65536) as usize,
+    }
+}
+
+// How many bytes are written with an answer: the values of `found`, or the entries of `unfounded`, of which no report has 1,024.
+fn length_of(answer: Parts, values: usize) -> usize {
+    let word = answer.word;
+    match word {
+        Word::FOUND => values,
+        Word::UNFOUNDED => 4 * (answer.first % 1024 + answer.second % 1024),
+        _ => 0,
+    }
+}
+
+// Prints the answer of a call, what it wrote and whether the rest of the room is as it was.
+fn called(room: &[u8], line: Line, answer: Parts)
+    requires { ⌜ line .file ≤ line .all ⌝ }
+    requires { ⌜ line .from ≤ line .to ⌝ }
+    requires { ⌜ line .to ≤ length (now room) ⌝ }
+{
+    tell(answer);
+    guarded(
+        room,
+        line.letter == b'c',
+        line.from,
+        line.to,
+        length_of(answer, line.all - line.file),
+    );
+}
+
+// Prints what the call for a line's case answered: a packed answer, or how many bytes the text has.
+pub fn show(room: &[u8], line: Line, answer: u64)
+    requires { ⌜ line .file ≤ line .all ⌝ }
+    requires { ⌜ line .from ≤ line .to ⌝ }
+    requires { ⌜ line .to ≤ length (now room) ⌝ }
+{
+    let letter = line.letter;
+    let to = line.to;
+    match letter {
+        b'r' => tell_line(unpacked(answer)),
+        b'l' | b'c' => called(room, line, unpacked(answer)),
+        b'p' | b's' => printed(&room[0..to], answer as usize),
+        _ => {}
+    }
+}
