@@ -5,12 +5,34 @@ use packing::Parts;
 use packing::Word;
 use parsing::Line;
 use parsing::parsed;
-use telling::announce;
 use telling::printed;
+use telling::say;
 use telling::tell;
 use telling::tell_line;
+use telling::text;
 ghost use Prim.Native.Nat.{_≤_};
 ghost use lib.ListN.{length};
+
+// What is done, and the name of the case.
+fn head(word: &[u8], name: &[u8]) {
+    text(word);
+    text(name);
+}
+
+// The head of a case, by its letter, or the number of a line that is not written as it must be.
+fn announce(letter: u8, name: &[u8], number: usize) {
+    match letter {
+        b'r' => text(name),
+        b'l' => head(b"least of ", name),
+        b'c' => head(b"check of ", name),
+        b'p' | b's' => head(b"print of ", name),
+        b'w' | b'#' => {}
+        _ => {
+            say(b"bad line", number);
+            text(b"\n");
+        }
+    }
+}
 
 // Takes the line that starts at `at` apart, and prints its head.
 pub fn opened(bytes: &mut [u8], begun: usize, table: &[u8], at: usize, number: usize) -> Line

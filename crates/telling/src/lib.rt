@@ -1,4 +1,4 @@
-// Reads the table, and prints the head of a case, the numbers of wrong lines, an answer's word and numbers, and the text of the printing program.
+// Reads the table, and prints an answer's word and numbers, and the text of the printing program.
 use libc::STDIN_FILENO;
 use libc::STDOUT_FILENO;
 use packing::Parts;
@@ -58,27 +58,6 @@ pub fn printed(output: &[u8], n: usize) {
         text(b" ");
         text(output);
         text(b"\n");
-    }
-}
-
-// What is done, and the name of the case.
-fn head(word: &[u8], name: &[u8]) {
-    text(word);
-    text(name);
-}
-
-// The head of a case, by its letter, or the number of a line that is not written as it must be.
-pub fn announce(letter: u8, name: &[u8], number: usize) {
-    match letter {
-        b'r' => text(name),
-        b'l' => head(b"least of ", name),
-        b'c' => head(b"check of ", name),
-        b'p' | b's' => head(b"print of ", name),
-        b'w' | b'#' => {}
-        _ => {
-            say(b"bad line", number);
-            text(b"\n");
-        }
     }
 }
 
