@@ -97,7 +97,7 @@ pub struct Variable {
     pub high: i64,
 }
 
-// A term of a body: op 0 is a plain term, op 1 says variable ≥ number, op 2 variable < number.
+// A term: op 0 is a plain one, op 1 says variable ≥ number, op 2 variable < number; op 3 carries a divisor and names no variable.
 pub struct Term {
     pub variable: u8,
     pub op: u8,
