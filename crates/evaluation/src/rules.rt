@@ -2,6 +2,7 @@
 ghost use mathlib.Core.Path.{_≡_};
 ghost use mathlib.Core.Bool.{false};
 ghost use Prim.Native.Nat.{_/_, _≤_};
+ghost use lib.IntN.{pos};
 ghost use lib.ListN.{length};
 ghost use Rattle.format.specs.Limits.{maxTerms};
 ghost use Rattle.program.specs.Program.{ruleOf, termsOf};
@@ -36,7 +37,7 @@ fn is_met(
     }
 }
 
-// What the rule with this header and body amounts to.
+// What the rule with this header and body amounts to, where it has no divisor.
 fn amount(
     rule: RuleHeader,
     body: &[u8],
@@ -44,15 +45,15 @@ fn amount(
     first: &[i64; Format::MAX_VARIABLES],
     second: &[i64; Format::MAX_VARIABLES],
 ) -> i64
-    requires { ⌜ EvaluableAs (rule .form) (rule .c) (rule .divisor) (termsOf (now body)) ⌝ }
+    requires { ⌜ EvaluableAs (rule .form) (rule .c) (pos 1) (termsOf (now body)) ⌝ }
     requires { ⌜ Small (now first) × Small (now second) ⌝ }
-    ensures { λ r. ⌜ r ≡ amountOf (rule .form) (rule .c) (rule .divisor) (termsOf (now (body .entry)))
+    ensures { λ r. ⌜ r ≡ amountOf (rule .form) (rule .c) (pos 1) (termsOf (now (body .entry)))
         (readingOf kept (now (first .entry)) (now (second .entry)) (termsOf (now (body .entry)))) ⌝ }
 {
     let form = rule.form;
     let c = rule.c;
     match form {
-        1 => quotients::over_up(bodies::sum(c, body, kept, first, second), rule.divisor),
+        1 => bodies::sum(c, body, kept, first, second),
         2 => numbers::plus(c, bodies::largest(body, kept, first, second)),
         3 => numbers::plus(c, bodies::smallest(body, kept, first, second)),
         4 => numbers::plus(c, bodies::product(body, kept, first, second)),
@@ -64,6 +65,23 @@ fn amount(
         7 => numbers::plus(c, bodies::read_position(body, 0, kept, first, second)),
         0 | 8..=255 => c,
     }
+}
+
+// What a sum over a divisor amounts to.
+fn divided(
+    c: i64,
+    divisor: i64,
+    body: &[u8],
+    kept: u32,
+    first: &[i64; Format::MAX_VARIABLES],
+    second: &[i64; Format::MAX_VARIABLES],
+) -> i64
+    requires { ⌜ EvaluableAs 1 c divisor (termsOf (now body)) ⌝ }
+    requires { ⌜ Small (now first) × Small (now second) ⌝ }
+    ensures { λ r. ⌜ r ≡ amountOf 1 c divisor (termsOf (now (body .entry)))
+        (readingOf kept (now (first .entry)) (now (second .entry)) (termsOf (now (body .entry)))) ⌝ }
+{
+    quotients::over_up(bodies::sum(c, body, kept, first, second), divisor)
 }
 
 // The rule in a field's value.
@@ -80,6 +98,10 @@ pub fn gives(
 {
     let rule = rules::header(value);
     let body = rules::body(value);
+    if rule.form == 8 {
+        let divisor = rules::divisor(value);
+        return Given::Value(divided(rule.c, divisor, body, kept, first, second));
+    }
     if !is_met(rule.form, body, kept, first, second) {
         return Given::Nothing;
     }

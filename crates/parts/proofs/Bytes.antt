@@ -13,7 +13,9 @@ use Rattle.program.specs.Fields.{lengthAt, valueAt}
 use Rattle.program.specs.Program.{variableOf, variableIn, variablesAt, divisorTerms, byOne, divisorOf, ruleDivisor, ruleBody, ruleOf, termsOf, termIn, noTerm}
 use Rattle.program.proofs.Bodies.{terms-length, termAt, term-at}
 use Rattle.program.proofs.Places.{variable-at}
-use Rattle.parts.specs.Values.{StartsAt, Handed}
+use Rattle.program.proofs.Forms as forms
+use Rattle.program.proofs.Forms.{divisor-own}
+use Rattle.parts.specs.Values.{Handed}
 use Rattle.program.specs.declared.Variable.{Variable}
 use Rattle.program.specs.declared.Term.{Term}
 
@@ -25,28 +27,30 @@ handed-as {body} e = record { is = e; many = ap (λ (b : List ℕ). length b / 4
 pub handed : (h : ℕ) (v : List ℕ) → h ≤ length v → Handed (drop h v) (take (length v - h) (drop h v))
 handed h v l = handed-as (take-all (length v - h) (drop h v) (simp length-drop (omega arith)))
 
--- ---- where the body of a rule starts
+-- ---- the body of a rule
 
 module _ (v : List ℕ) where
-  pub starts-after : {start : ℕ} → start ≡ 4 + 4 * divisorTerms (getD v 0 0) → start ≤ length v → StartsAt v start
-  starts-after {start} e h = record {
-    after = omega arith;
-    inside = h;
-    divisor-is = let k : start - 4 ≡ 4 * divisorTerms (getD v 0 0) = omega arith in ap (λ (n : ℕ). take n (drop 4 v)) k;
-    body-is = ap (λ (n : ℕ). drop n v) e;
-  }
+  -- a form other than 8 has no divisor
+  pub undivided-body : (ruleOf v .form ≡ 8 → ⊥) → 4 ≤ length v → Handed (ruleBody v) (take (length v - 4) (drop 4 v))
+  undivided-body f h = rw (← forms.divisor-none (getD v 0 0) f) (handed 4 v h)
 
-  pub starts-at-end : 4 ≤ length v → length v < 4 + 4 * divisorTerms (getD v 0 0) → StartsAt v (length v)
-  starts-at-end h l = record {
-    after = h;
-    inside = omega arith;
-    divisor-is = take-all (length v - 4) (drop 4 v) (omega (arith, length-drop 4 v))
-        ∙ sym (take-all (4 * divisorTerms (getD v 0 0)) (drop 4 v) (omega (arith, length-drop 4 v)));
-    body-is = drop-of-length-le v {i = length v} (omega arith) ∙ sym (drop-of-length-le v {i = 4 + 4 * divisorTerms (getD v 0 0)} (omega arith));
-  }
+  module _ (e : ruleOf v .form ≡ 8) where
+    divided-bytes : 4 * divisorTerms (getD v 0 0) ≡ 4
+    divided-bytes = omega (arith, divisor-own (getD v 0 0) e)
 
-  pub body-handed : {start : ℕ} → StartsAt v start → Handed (ruleBody v) (take (length v - start) (drop start v))
-  body-handed {start} s = rw (← s .body-is) (handed start v (s .inside))
+    pub divided-body : 8 ≤ length v → Handed (ruleBody v) (take (length v - 8) (drop 8 v))
+    divided-body h = rw (← divisor-own (getD v 0 0) e) (handed 8 v h)
+
+    pub body-past : length v < 8 → Handed (ruleBody v) (take (length v - length v) (drop (length v) v))
+    body-past h = handed-as (take-all (length v - length v) (drop (length v) v) (omega (arith, length-drop (length v) v))
+        ∙ drop-of-length-le v {i = length v} (omega arith) ∙ sym (drop-of-length-le v {i = 4 + 4 * divisorTerms (getD v 0 0)} (omega (arith, divided-bytes))))
+
+    pub divisor-whole : 8 ≤ length v → Handed (ruleDivisor v) (take (8 - 4) (drop 4 v))
+    divisor-whole h = handed-as (ap (λ (n : ℕ). take n (drop 4 v)) (sym divided-bytes))
+
+    pub divisor-cut : 4 ≤ length v → length v < 8 → Handed (ruleDivisor v) (take (length v - 4) (drop 4 v))
+    divisor-cut h l = handed-as (take-all (length v - 4) (drop 4 v) (omega (arith, length-drop 4 v))
+        ∙ sym (take-all (4 * divisorTerms (getD v 0 0)) (drop 4 v) (omega (arith, length-drop 4 v, divided-bytes))))
 
 -- ---- the divisor
 

@@ -1,10 +1,10 @@
 -- What the code reads of a field's value.
-use Prim.Native.Nat.{ℕ, _-_, _*_, _/_, _<_, _≤_}
+use Prim.Native.Nat.{ℕ, _*_, _/_, _<_, _≤_}
 use mathlib.Core.Path.{_≡_}
 use mathlib.Core.List.{List}
-use lib.ListN.{length, take, drop}
+use lib.ListN.{length}
 use Rattle.format.specs.Limits.{maxVariables}
-use Rattle.program.specs.Program.{ruleDivisor, ruleBody, ruleOf, termForm, divisorOf, termsOf}
+use Rattle.program.specs.Program.{ruleOf, termsOf}
 use Rattle.program.specs.Readings.{bodyVariable}
 use Rattle.parts.specs.declared.rules.RuleHeader.{RuleHeader}
 
@@ -15,19 +15,11 @@ ruleHeader = 4
 abbrev pub constraintHeader : ℕ
 constraintHeader = 3
 
--- h is the header of the rule in a value: its form is the one as which the body's terms are read
+-- h is the header of the rule in a value
 pub record HeaderIs (v : List ℕ) (h : RuleHeader) : Type 0 where
-  pub form-is : h .form ≡ termForm (ruleOf v .form)
+  pub form-is : h .form ≡ ruleOf v .form
   pub head-is : h .head ≡ ruleOf v .head
   pub c-is : h .c ≡ ruleOf v .c
-  pub divisor-is : h .divisor ≡ divisorOf (ruleOf v)
-
--- the body of the rule in a value starts here, and its divisor stands between header and body
-pub record StartsAt (v : List ℕ) (start : ℕ) : Type 0 where
-  pub after : ruleHeader ≤ start
-  pub inside : start ≤ length v
-  pub divisor-is : take (start - ruleHeader) (drop ruleHeader v) ≡ ruleDivisor v
-  pub body-is : drop start v ≡ ruleBody v
 
 -- b is this stretch of a value, with room for its terms
 pub record Handed (body b : List ℕ) : Type 0 where

@@ -2,56 +2,44 @@
 ghost use mathlib.Core.Path.{_≡_};
 ghost use Prim.Native.Nat.{_≤_, _<_};
 ghost use lib.ListN.{length};
-ghost use Rattle.program.specs.Program.{divisorTerms, termForm, divisorOf, ruleDivisor, ruleBody, ruleOf};
+ghost use Rattle.program.specs.Program.{divisorOf, ruleDivisor, ruleBody, ruleOf};
 ghost use Rattle.program.specs.Readings.{bodyVariable};
-ghost use Rattle.parts.specs.Values.{ruleHeader, HeaderIs, StartsAt, Handed};
+ghost use Rattle.parts.specs.Values.{ruleHeader, HeaderIs, Handed};
 use crate::terms;
 
-// How many terms of a form stand before those that name variables: form 8 has its divisor there.
-pub fn divisor_terms(form: u8) -> usize
-    ensures { λ r. ⌜ (r ≡ divisorTerms form) × (r ≤ 1) ⌝ }
-{
-    match form {
-        8 => 1,
-        0..=7 | 9..=255 => 0,
-    }
+// What stands before the body and the divisor.
+pub struct RuleHeader {
+    pub form: u8,
+    pub head: u8,
+    pub c: i64,
 }
 
-// The form as which the terms of a body are read.
-pub fn term_form(form: u8) -> u8
-    ensures { λ r. ⌜ r ≡ termForm form ⌝ }
-{
-    match form {
-        8 => 1,
-        0..=7 | 9..=255 => form,
-    }
-}
-
-// Where the body starts; a value that ends before has none.
-fn body_start(value: &[u8]) -> usize
+pub fn header(value: &[u8]) -> RuleHeader
     requires { ⌜ ruleHeader ≤ length (now value) ⌝ }
-    ensures { λ r. ⌜ StartsAt (now (value .entry)) r ⌝ }
+    ensures { λ r. ⌜ HeaderIs (now (value .entry)) r ⌝ }
 {
-    let start = 4 + 4 * divisor_terms(value[0]);
-    if start <= value.len() {
-        start
-    } else {
-        value.len()
+    let c = format::signed_at(value, 2);
+    RuleHeader {
+        form: value[0],
+        head: value[1],
+        c: c,
     }
 }
 
-// The divisor's term, as that stretch of the value; empty where there is none.
+// The divisor's term of a rule of form 8, as that stretch of the value; shorter where the value ends before.
 pub fn divisor_part(value: &[u8]) -> &[u8]
-    requires { ⌜ ruleHeader ≤ length (now value) ⌝ }
+    requires { ⌜ (ruleHeader ≤ length (now value)) × (ruleOf (now value) .form ≡ 8) ⌝ }
     ensures { λ r. ⌜ Handed (ruleDivisor (now (value .entry))) (now r) ⌝ }
 {
-    let start = body_start(value);
-    &value[4..start]
+    if value.len() < 8 {
+        return &value[4..];
+    }
+    &value[4..8]
 }
 
-// The divisor, 1 where there is none.
-fn divisor(value: &[u8]) -> i64
-    requires { ⌜ ruleHeader ≤ length (now value) ⌝ }
+// The divisor of a rule of form 8, 1 where it is missing.
+pub fn divisor(value: &[u8]) -> i64
+    requires { ⌜ (ruleHeader ≤ length (now value)) × (ruleOf (now value) .form ≡ 8) ⌝ }
     ensures { λ r. ⌜ r ≡ divisorOf (ruleOf (now (value .entry))) ⌝ }
 {
     let part = divisor_part(value);
@@ -62,25 +50,16 @@ fn divisor(value: &[u8]) -> i64
     t.number
 }
 
-// What stands before the body. The form is the one as which the body's terms are read: 1 for form 8.
-pub struct RuleHeader {
-    pub form: u8,
-    pub head: u8,
-    pub c: i64,
-    pub divisor: i64,
-}
-
-pub fn header(value: &[u8]) -> RuleHeader
-    requires { ⌜ ruleHeader ≤ length (now value) ⌝ }
-    ensures { λ r. ⌜ HeaderIs (now (value .entry)) r ⌝ }
+// The body of a rule of form 8, which follows its divisor; empty where the value ends before.
+fn divided_body(value: &[u8]) -> &[u8]
+    requires { ⌜ (ruleHeader ≤ length (now value)) × (ruleOf (now value) .form ≡ 8) ⌝ }
+    ensures { λ r. ⌜ Handed (ruleBody (now (value .entry))) (now r) ⌝ }
 {
-    let c = format::signed_at(value, 2);
-    RuleHeader {
-        form: term_form(value[0]),
-        head: value[1],
-        c: c,
-        divisor: divisor(value),
+    let len = value.len();
+    if len < 8 {
+        return &value[len..];
     }
+    &value[8..]
 }
 
 // The body, as that stretch of the value.
@@ -88,8 +67,10 @@ pub fn body(value: &[u8]) -> &[u8]
     requires { ⌜ ruleHeader ≤ length (now value) ⌝ }
     ensures { λ r. ⌜ Handed (ruleBody (now (value .entry))) (now r) ⌝ }
 {
-    let start = body_start(value);
-    &value[start..]
+    if value[0] == 8 {
+        return divided_body(value);
+    }
+    &value[4..]
 }
 
 // How many positions the body has.

@@ -1,5 +1,6 @@
 // Which way a term of a rule's body pushes.
 ghost use mathlib.Core.Path.{_≡_};
+ghost use Rattle.program.specs.Program.{termForm};
 ghost use Rattle.program.specs.Directions.{bySign, byRange, plainDirection, termDirection};
 use program::Direction;
 use program::Term;
@@ -34,7 +35,7 @@ fn by_range(x: Variable) -> Direction
 
 // A plain term, by the form of its rule.
 fn plain(form: u8, x: Variable, number: i64) -> Direction
-    ensures { λ r. ⌜ r ≡ plainDirection form x number ⌝ }
+    ensures { λ r. ⌜ r ≡ plainDirection (termForm form) x number ⌝ }
 {
     match form {
         1 => by_sign(number),
@@ -42,13 +43,14 @@ fn plain(form: u8, x: Variable, number: i64) -> Direction
         5 => by_range(x),
         6 => Direction::Mixed,
         7 => Direction::Rising,
-        0 | 8..=255 => Direction::Mixed,
+        8 => by_sign(number),
+        0 | 9..=255 => Direction::Mixed,
     }
 }
 
 // A term, by its op; x is its variable.
 pub fn of_term(form: u8, x: Variable, t: Term) -> Direction
-    ensures { λ r. ⌜ r ≡ termDirection form x t ⌝ }
+    ensures { λ r. ⌜ r ≡ termDirection (termForm form) x t ⌝ }
 {
     let op = t.op;
     match op {

@@ -12,17 +12,17 @@ use borrow.Author.Tests.{eq-eqb, ne-eqb, eqb-true, lt-ltb, le-ltb, le-leb, lt-le
 use Rattle.format.specs.Limits.{maxNumber, maxTerms}
 use Rattle.format.specs.Numbers.{beyond}
 use Rattle.program.specs.Tables.{_when_, firstOf, anyBelow}
-use Rattle.program.specs.Program.{variable, rule, constraint, divisorTerms, termForm, variableOf, ruleDivisor, ruleOf, constraintOf, termsOf, termIn, variableIn, variablesAt}
+use Rattle.program.specs.Program.{variable, rule, constraint, divisorTerms, termForm, variableOf, ruleDivisor, ruleBody, ruleOf, constraintBody, constraintOf, termsOf, termIn, variableIn, variablesAt}
 use Rattle.program.specs.Refusals.{anyTerm, wrongDivisor, outsideDivisor, wrongDivisors, wrongLength, notTerms, wrongForm, outsideRange, undeclared, wrongCount}
 use Rattle.program.specs.Refusals.{variableTwice, negativeProduct, itemRefusal, unknownForm, wrongHead, wrongCountOf, wrongConstraint, bodyForm, wrongTerm, outsideTerm}
 use Rattle.program.specs.Refusals.{undeclaredTerm, repeatedTerm, negativeTerm, notFrom}
-use Rattle.program.proofs.Forms.{divisor-few}
+use Rattle.program.proofs.Bodies.{terms-length}
+use Rattle.program.proofs.Forms.{divisor-own, divisor-none, divisor-few, read-as-sum, read-as-itself}
 use Rattle.program.proofs.Conditions.{below-none, none-below, never}
 use Rattle.program.proofs.Places.{variables-length, sized-terms}
-use Rattle.parts.specs.Values.{HeaderIs, Handed}
-use Rattle.parts.specs.declared.rules.RuleHeader.{RuleHeader}
+use Rattle.parts.specs.Values.{Handed}
 use Rattle.faults.specs.Faults.{FaultsBelow, faultsNumber}
-use Rattle.values.specs.Lengths.{lengthRefusal, RuleFaults}
+use Rattle.values.specs.Lengths.{lengthRefusal, inOrder}
 use Rattle.faults.specs.declared.Faults.{Faults}
 use Rattle.faults.proofs.TermLaws.{negative-other}
 use Rattle.program.specs.Variables.{isFounded}
@@ -215,43 +215,71 @@ joined-is all own terms =
     (all .form ≡ (own .form || terms .form)) × (all .range ≡ (own .range || terms .range)) × (all .variable ≡ (own .variable || terms .variable))
     × (all .repeated ≡ (own .repeated || terms .repeated)) × (all .negative ≡ (own .negative || terms .negative))
 
--- the faults of a field's own parts and of its body, in order
-abbrev inOrder : List Variable → ℕ → List Term → Bool → Bool → Bool → Bool → ℕ
-inOrder vs form ts a b c n =
-    firstOf
-    ((7 when a || anyBelow (length ts) (λ i. wrongTerm form i (termIn ts i)))
-    ∷ (8 when b || anyBelow (length ts) (λ i. outsideTerm form i (termIn ts i)))
-    ∷ (9 when c || anyBelow (length ts) (λ i. undeclaredTerm vs (termIn ts i)))
-    ∷ (10 when n)
-    ∷ (11 when anyBelow (length ts) (λ i. repeatedTerm ts i))
-    ∷ (12 when anyBelow (length ts) (λ i. negativeTerm vs form (termIn ts i)))
-    ∷ [])
-
-module _ (vs : List Variable) {body b : List ℕ} (y : Handed body b) (form : ℕ) where
-  pub body-refusal : (terms own all : Faults) (count : Bool) {a r c k : Bool}
-      → FaultsBelow vs form (termsOf b) (length b / 4) terms
-      → own .form ≡ a → own .range ≡ r → own .variable ≡ c → own .repeated ≡ false → own .negative ≡ false
-      → joined-is all own terms
-      → count ≡ k
-      → faultsNumber all count ≡ inOrder vs form (termsOf body) a r c k
-  body-refusal terms own all count f a r c d n e k =
-      let g = rw (y .many, y .is) at f in
+-- what is wrong first, by the faults before the body and those of the body
+module _ (vs : List Variable) (form : ℕ) (b : List ℕ) (terms own all : Faults) where
+  pub in-order : (count wrong : Bool) → FaultsBelow vs form (termsOf b) (length b / 4) terms → joined-is all own terms → wrong ≡ wrongCountOf form (length b / 4)
+      → faultsNumber all (count || wrong) ≡ inOrder vs form (termsOf b) own count
+  in-order count wrong f e k =
+      let g = rw (← terms-length b) at f in
       first-six
-      (e .0 ∙ ap₂ _||_ a (g .form-is))
-      (e .1 ∙ ap₂ _||_ r (g .range-is))
-      (e .2 ∙ ap₂ _||_ c (g .variable-is))
-      k
-      (e .3 ∙ ap₂ _||_ d (g .repeated-is))
-      (e .4 ∙ ap₂ _||_ n (g .negative-is))
+      (e .0 ∙ ap (λ (t : Bool). own .form || t) (g .form-is))
+      (e .1 ∙ ap (λ (t : Bool). own .range || t) (g .range-is))
+      (e .2 ∙ ap (λ (t : Bool). own .variable || t) (g .variable-is))
+      (ap (λ (t : Bool). count || t) (rw (← terms-length b) at k))
+      (e .3 ∙ ap (λ (t : Bool). own .repeated || t) (g .repeated-is))
+      (e .4 ∙ ap (λ (t : Bool). own .negative || t) (g .negative-is))
+
+-- the faults before a body, as conditions
+abbrev pub own-of : Bool → Bool → Bool → Faults
+own-of a b c = record { form = a; range = b; variable = c; repeated = false; negative = false }
+
+or-none : (a : Bool) {b : Bool} → b ≡ false → a ≡ (a || b)
+or-none true e = refl
+or-none false e = sym e
+
+-- the conditions on the terms of a body, by its bytes and by the form as which they are read
+module _ (vs : List Variable) {body b : List ℕ} {form g : ℕ} (y : Handed body b) (e : form ≡ g) where
+  -- both sides have the same conditions before the body and on the count
+  pub in-order-as : {a a′ r r′ c c′ k k′ : Bool} → a ≡ a′ → r ≡ r′ → c ≡ c′ → k ≡ k′
+      → inOrder vs form (termsOf b) (own-of a r c) k ≡ inOrder vs g (termsOf body) (own-of a′ r′ c′) k′
+  in-order-as p q t u = λ i. inOrder vs (e i) (termsOf (y .is i)) (own-of (p i) (q i) (t i)) (u i)
 
 module _ (vs : List Variable) (v : List ℕ) (n : ℕ) where
-  pub rule-refusal : (form : ℕ) → form ≡ termForm (ruleOf v .form)
-      → n ≡ inOrder vs form (ruleOf v .terms) (unknownForm (ruleOf v .form) || anyTerm (ruleOf v .divisor) (λ i t. wrongDivisor t))
-      (beyond maxNumber (ruleOf v .c) || anyTerm (ruleOf v .divisor) (λ i t. outsideDivisor t)) (wrongHead vs (ruleOf v .head))
-      (wrongDivisors (ruleOf v) || wrongCountOf form (length (ruleOf v .terms)))
-      → n ≡ itemRefusal vs (rule (ruleOf v))
-  unfolding itemRefusal wrongForm outsideRange undeclared wrongCount variableTwice negativeProduct
-  rule-refusal form h e = rw h at e
+  -- of a form other than 8: no divisor stands there, and none is asked for
+  module _ (f : ruleOf v .form ≡ 8 → ⊥) where
+    no-divisor : ruleOf v .divisor ≡ []
+    unfolding termsOf
+    no-divisor = rw (← divisor-none (getD v 0 0) f)
+
+    none-wrong : (p : ℕ → Term → Bool) → anyTerm (ruleOf v .divisor) p ≡ false
+    unfolding anyBelow
+    none-wrong p = ap (λ (ts : List Term). anyTerm ts p) no-divisor
+
+    none-asked : false ≡ wrongDivisors (ruleOf v)
+    unfolding wrongDivisors
+    none-asked = sym (ap₂ (λ (ts : List Term) (k : ℕ). not (eqb (length ts) k)) no-divisor (sym (divisor-none (getD v 0 0) f)))
+
+    pub rule-refusal : {form : ℕ} {b : List ℕ} {u w h : Bool} → form ≡ ruleOf v .form → Handed (ruleBody v) b
+        → u ≡ unknownForm (ruleOf v .form) → w ≡ beyond maxNumber (ruleOf v .c) → h ≡ wrongHead vs (ruleOf v .head)
+        → n ≡ inOrder vs form (termsOf b) (own-of u w h) false → n ≡ itemRefusal vs (rule (ruleOf v))
+    unfolding itemRefusal wrongForm outsideRange undeclared wrongCount variableTwice negativeProduct
+    rule-refusal p y u w h e =
+        e ∙ in-order-as vs y (p ∙ read-as-itself (ruleOf v .form) f) (u ∙ or-none _ (none-wrong (λ i t. wrongDivisor t)))
+        (w ∙ or-none _ (none-wrong (λ i t. outsideDivisor t))) h none-asked
+
+  -- of form 8
+  pub divided-refusal : {b ds : List ℕ} {t w h k : Bool} → ruleOf v .form ≡ 8 → Handed (ruleBody v) b → Handed (ruleDivisor v) ds
+      → t ≡ anyTerm (termsOf ds) (λ i x. wrongDivisor x) → w ≡ (beyond maxNumber (ruleOf v .c) || anyTerm (termsOf ds) (λ i x. outsideDivisor x))
+      → h ≡ wrongHead vs (ruleOf v .head) → k ≡ not (eqb (length ds / 4) 1)
+      → n ≡ inOrder vs 1 (termsOf b) (own-of t w h) k → n ≡ itemRefusal vs (rule (ruleOf v))
+  unfolding itemRefusal wrongForm outsideRange undeclared wrongCount variableTwice negativeProduct wrongDivisors
+  divided-refusal f y d t w h k e =
+      let known : false ≡ unknownForm (ruleOf v .form) = form-known (ruleOf v .form) (omega arith) (omega arith) in
+      let ds = ap termsOf (d .is) in
+      e ∙ in-order-as vs y (read-as-sum (ruleOf v .form) f)
+      (t ∙ ap₂ (λ (u : Bool) (ts : List Term). u || anyTerm ts (λ i x. wrongDivisor x)) known ds)
+      (w ∙ ap (λ (ts : List Term). beyond maxNumber (ruleOf v .c) || anyTerm ts (λ i x. outsideDivisor x)) ds) h
+      (k ∙ ap₂ (λ (m j : ℕ). not (eqb m j)) (d .many) (divisor-own (ruleOf v .form) f))
 
   no-product : (form : ℕ) → form ≡ bodyForm (getD v 0 0) → form ≡ 4 → ⊥
   no-product form e q = go (eqb (getD v 0 0) 1) (eqb (getD v 0 0) 2) (sym e ∙ q)
@@ -261,23 +289,30 @@ module _ (vs : List Variable) (v : List ℕ) (n : ℕ) where
       go false true w = omega arith
       go false false w = omega arith
 
-  pub constraint-refusal : (form : ℕ) → form ≡ bodyForm (constraintOf v .form)
-      → n ≡ inOrder vs form (constraintOf v .terms) (wrongConstraint (constraintOf v .form) (constraintOf v .c)) (beyond maxNumber (constraintOf v .c)) false
-      (wrongCountOf form (length (constraintOf v .terms)))
-      → n ≡ itemRefusal vs (constraint (constraintOf v))
+  pub constraint-refusal : {form : ℕ} {b : List ℕ} {u w : Bool} → form ≡ bodyForm (constraintOf v .form) → Handed (constraintBody v) b
+      → u ≡ wrongConstraint (constraintOf v .form) (constraintOf v .c) → w ≡ beyond maxNumber (constraintOf v .c)
+      → n ≡ inOrder vs form (termsOf b) (own-of u w false) false → n ≡ itemRefusal vs (constraint (constraintOf v))
   unfolding itemRefusal wrongForm outsideRange undeclared wrongCount variableTwice negativeProduct
-  constraint-refusal form h e =
+  constraint-refusal {form} h y u w e =
       let ts = constraintOf v .terms in
       let z = below-none (length ts) (λ i. negativeTerm vs form (termIn ts i)) (λ i k. sym (negative-other vs form (termIn ts i) (no-product form h))) in
-      rw (z, h) at e
+      let q : n ≡ inOrder vs form ts (own-of (wrongConstraint (constraintOf v .form) (constraintOf v .c)) (beyond maxNumber (constraintOf v .c)) false) false =
+      e ∙ in-order-as vs y refl {c = false} {k = false} u w refl refl in
+      rw (z, h) at q
 
-  pub rule-length : notTerms 4 (divisorTerms (getD v 0 0) + maxTerms) (length v) ≡ true → 6 ≡ lengthRefusal vs 2 v
-  unfolding lengthRefusal wrongLength
-  rule-length h = simp h
+  -- a rule's length, by how many divisors its form has
+  module _ {k : ℕ} (d : k ≡ divisorTerms (getD v 0 0)) where
+    pub rule-length : notTerms 4 (k + maxTerms) (length v) ≡ true → 6 ≡ lengthRefusal vs 2 v
+    unfolding lengthRefusal wrongLength
+    rule-length h = simp (rw d at h)
 
-  pub rule-rest : notTerms 4 (divisorTerms (getD v 0 0) + maxTerms) (length v) ≡ false → n ≡ itemRefusal vs (rule (ruleOf v)) → n ≡ lengthRefusal vs 2 v
-  unfolding lengthRefusal wrongLength
-  rule-rest h e = simp h e
+    pub rule-rest : notTerms 4 (k + maxTerms) (length v) ≡ false → n ≡ itemRefusal vs (rule (ruleOf v)) → n ≡ lengthRefusal vs 2 v
+    unfolding lengthRefusal wrongLength
+    rule-rest h e = simp (rw d at h) e
+
+  -- a rule without a header
+  pub rule-short : length v < 4 → 6 ≡ lengthRefusal vs 2 v
+  rule-short h = rule-length refl (sym (terms-short 4 (divisorTerms (getD v 0 0) + maxTerms) (length v) h))
 
   pub constraint-length : notTerms 3 maxTerms (length v) ≡ true → 6 ≡ lengthRefusal vs 3 v
   unfolding lengthRefusal wrongLength
@@ -287,18 +322,6 @@ module _ (vs : List Variable) (v : List ℕ) (n : ℕ) where
   unfolding lengthRefusal wrongLength
   constraint-rest h e = simp h e
 
--- ---- the divisor
-
--- the divisor that is handed on is the rule's, and its part has room for one term
-module _ (v : List ℕ) {b : List ℕ} (h : Handed (ruleDivisor v) b) where
-  pub divisor-room : length b / 4 ≤ 1
-  divisor-room = omega (arith, ap length (h .is), length-take (4 * divisorTerms (getD v 0 0)) (drop 4 v), divisor-few (getD v 0 0))
-
-  pub divided : {n : ℕ} → n ≡ divisorTerms (getD v 0 0) → not (eqb (length b / 4) n) ≡ wrongDivisors (ruleOf v)
-  unfolding wrongDivisors
-  divided e = rw (e, h .many)
-
--- the faults before the body, of the rule in a value
-pub rule-faults : (vs : List Variable) (v : List ℕ) {form : ℕ} {x : RuleHeader} {b : List ℕ} {r : Faults} → HeaderIs v x → Handed (ruleDivisor v) b
-    → form ≡ ruleOf v .form → RuleFaults vs form (x .head) (x .c) (termsOf b) r → RuleFaults vs (ruleOf v .form) (ruleOf v .head) (ruleOf v .c) (ruleOf v .divisor) r
-rule-faults vs v x h e f = rw (e, x .head-is, x .c-is, h .is) at f
+-- the divisor's part has room for one term
+pub divisor-room : (v : List ℕ) {b : List ℕ} → Handed (ruleDivisor v) b → length b / 4 ≤ 1
+divisor-room v h = omega (arith, ap length (h .is), length-take (4 * divisorTerms (getD v 0 0)) (drop 4 v), divisor-few (getD v 0 0))

@@ -1,7 +1,7 @@
 // The values of fields: variables, rules and constraints.
 ghost use mathlib.Core.Path.{_≡_};
 ghost use mathlib.Core.List.{List};
-ghost use Prim.Native.Nat.{_*_, _/_, _<_, _≤_};
+ghost use Prim.Native.Nat.{_*_, _<_, _≤_};
 ghost use lib.ListN.{length};
 ghost use lib.Signed.{ltZ};
 ghost use Rattle.format.specs.Limits.{maxTerms};
@@ -9,7 +9,7 @@ ghost use Rattle.program.specs.Program.{Item, ruleOf, constraintOf, termsOf, va
 ghost use Rattle.program.specs.Refusals.{outsideRange, notTerms, unknownForm, wrongHead, wrongCountOf, wrongConstraint, bodyForm, notFrom, itemRefusal};
 ghost use Rattle.faults.specs.Faults.{checkedNumber};
 ghost use Rattle.parts.specs.Values.{ruleHeader, constraintHeader};
-ghost use Rattle.values.specs.Lengths.{lengthRefusal, RuleFaults};
+ghost use Rattle.values.specs.Lengths.{lengthRefusal, inOrder};
 ghost use Rattle.program.specs.declared.Variable.{Variable};
 use faults::Checked;
 use faults::Faults;
@@ -18,7 +18,6 @@ use faults::divisors;
 use format::Format;
 use parts::constraints;
 use parts::rules;
-use parts::rules::RuleHeader;
 use parts::variables;
 use program::Refusal;
 use program::Variable;
@@ -142,33 +141,62 @@ pub fn is_wrong_count(form: u8, n: usize) -> bool
     }
 }
 
-// What is wrong with what stands before the body of a rule.
-fn rule_faults(file: &[u8], variables: usize, form: u8, rule: RuleHeader, divisor: &[u8]) -> Faults
-    requires { ⌜ (8 * variables ≤ length (now file)) × (length (now divisor) / 4 ≤ 1) ⌝ }
-    ensures { λ r. ⌜ RuleFaults (variablesAt (now (file .entry)) variables) form (rule .head) (rule .c) (termsOf (now (divisor .entry))) r ⌝ }
+// What is wrong first: with what stands before a body, with a term of the body, or with their number, which may be wrong for another reason.
+fn first_fault(file: &[u8], variables: usize, own: Faults, body: &[u8], form: u8, count: bool) -> Checked
+    requires { ⌜ 8 * variables ≤ length (now file) ⌝ }
+    ensures { λ r. ⌜ checkedNumber r ≡ inOrder (variablesAt (now (file .entry)) variables) form (termsOf (now (body .entry))) own count ⌝ }
 {
-    let of_divisor = divisors::divisor_faults(divisor);
-    Faults {
-        form: is_unknown_form(form) | of_divisor.form,
-        range: format::is_number_beyond(rule.c) | of_divisor.range,
-        variable: is_wrong_head(file, variables, rule.head),
-        repeated: false,
-        negative: false,
-    }
+    let all = own.with(faults::body_faults(file, variables, body, form));
+    let wrong = is_wrong_count(form, body.len() / 4);
+    all.first(count | wrong)
 }
 
-// A rule of a right length.
+// A rule of a right length and of another form than 8.
 pub fn check_rule_parts(file: &[u8], variables: usize, value: &[u8]) -> Checked
     requires { ⌜ (8 * variables ≤ length (now file)) × (ruleHeader ≤ length (now value)) ⌝ }
+    requires { ⌜ (ruleOf (now value) .form ≡ 8 → ⊥) ⌝ }
     ensures { λ r. ⌜ checkedNumber r ≡ itemRefusal (variablesAt (now (file .entry)) variables) (Item.rule (ruleOf (now (value .entry)))) ⌝ }
 {
     let rule = rules::header(value);
-    let divisor = rules::divisor_part(value);
-    let body = rules::body(value);
-    let own = rule_faults(file, variables, value[0], rule, divisor);
-    let all = own.with(faults::body_faults(file, variables, body, rule.form));
-    let divided = divisor.len() / 4 != rules::divisor_terms(value[0]);
-    all.first(divided | is_wrong_count(rule.form, body.len() / 4))
+    let own = Faults {
+        form: is_unknown_form(rule.form),
+        range: format::is_number_beyond(rule.c),
+        variable: is_wrong_head(file, variables, rule.head),
+        repeated: false,
+        negative: false,
+    };
+    first_fault(file, variables, own, rules::body(value), rule.form, false)
+}
+
+// A rule of a right length and of form 8.
+pub fn check_divided_parts(file: &[u8], variables: usize, value: &[u8]) -> Checked
+    requires { ⌜ (8 * variables ≤ length (now file)) × (ruleHeader ≤ length (now value)) ⌝ }
+    requires { ⌜ ruleOf (now value) .form ≡ 8 ⌝ }
+    ensures { λ r. ⌜ checkedNumber r ≡ itemRefusal (variablesAt (now (file .entry)) variables) (Item.rule (ruleOf (now (value .entry)))) ⌝ }
+{
+    let rule = rules::header(value);
+    let part = rules::divisor_part(value);
+    let divisor = divisors::divisor_faults(part);
+    let own = Faults {
+        form: divisor.form,
+        range: format::is_number_beyond(rule.c) | divisor.range,
+        variable: is_wrong_head(file, variables, rule.head),
+        repeated: false,
+        negative: false,
+    };
+    first_fault(file, variables, own, rules::body(value), 1, part.len() / 4 != 1)
+}
+
+// A rule of form 8.
+fn check_divided(file: &[u8], variables: usize, value: &[u8]) -> Checked
+    requires { ⌜ (8 * variables ≤ length (now file)) × (ruleHeader ≤ length (now value)) ⌝ }
+    requires { ⌜ ruleOf (now value) .form ≡ 8 ⌝ }
+    ensures { λ r. ⌜ checkedNumber r ≡ lengthRefusal (variablesAt (now (file .entry)) variables) 2 (now (value .entry)) ⌝ }
+{
+    if is_not_terms(value.len(), 4, 1 + Format::MAX_TERMS) {
+        return Checked::Bad(Refusal::WrongLength);
+    }
+    check_divided_parts(file, variables, value)
 }
 
 pub fn check_rule(file: &[u8], variables: usize, value: &[u8]) -> Checked
@@ -178,8 +206,10 @@ pub fn check_rule(file: &[u8], variables: usize, value: &[u8]) -> Checked
     if value.len() < 4 {
         return Checked::Bad(Refusal::WrongLength);
     }
-    let most = rules::divisor_terms(value[0]) + Format::MAX_TERMS;
-    if is_not_terms(value.len(), 4, most) {
+    if value[0] == 8 {
+        return check_divided(file, variables, value);
+    }
+    if is_not_terms(value.len(), 4, Format::MAX_TERMS) {
         return Checked::Bad(Refusal::WrongLength);
     }
     check_rule_parts(file, variables, value)
@@ -213,8 +243,6 @@ pub fn check_constraint_parts(file: &[u8], variables: usize, value: &[u8]) -> Ch
     ensures { λ r. ⌜ checkedNumber r ≡ itemRefusal (variablesAt (now (file .entry)) variables) (Item.constraint (constraintOf (now (value .entry)))) ⌝ }
 {
     let constraint = constraints::header(value);
-    let body = constraints::body(value);
-    let form = body_form(constraint.form);
     let own = Faults {
         form: is_wrong_constraint(constraint.form, constraint.c),
         range: format::is_number_beyond(constraint.c),
@@ -222,8 +250,8 @@ pub fn check_constraint_parts(file: &[u8], variables: usize, value: &[u8]) -> Ch
         repeated: false,
         negative: false,
     };
-    let all = own.with(faults::body_faults(file, variables, body, form));
-    all.first(is_wrong_count(form, body.len() / 4))
+    let form = body_form(constraint.form);
+    first_fault(file, variables, own, constraints::body(value), form, false)
 }
 
 pub fn check_constraint(file: &[u8], variables: usize, value: &[u8]) -> Checked

@@ -3,7 +3,7 @@ use mathlib.Core.Path.{ap, _∙_}
 use Prim.Native.Nat.{ℕ}
 use native.Mathlib.Omega.{arith}
 use Rattle.program.specs.declared.Term.{Term}
-use Rattle.program.specs.Program.{ruleOf, variablesAt}
+use Rattle.program.specs.Program.{ruleOf, termForm, variablesAt}
 use Rattle.program.specs.Directions.{termDirection}
 use Rattle.parts.proofs.Bytes.{term-handed}
 use Rattle.positions.proofs.Occurrences.{declared-at, position-read}
@@ -46,7 +46,7 @@ returns c =
     let t = term-handed (s .args .value .now) (s .args .i) (b .body .ensures) (k .term .ensures) in
     position-read (variablesAt (s .args .file .now) (s .args .variables)) (ruleOf (s .args .value .now)) (s .args .i) t
     (x .ensures _ (declared-at t (s .pre .0 .declared (s .args .i) (s .pre .1))))
-    (d .ensures ∙ ap (λ (f : ℕ). termDirection f (x .result) (k .term .result)) (b .before .header .ensures .form-is))
+    (d .ensures ∙ ap (λ (f : ℕ). termDirection (termForm f) (x .result) (k .term .result)) (b .before .header .ensures .form-is))
     (c .before .is-rising .ensures) (c .is-founded .ensures)
 
 pub position-at-spec : {M : Type 1} → statement M

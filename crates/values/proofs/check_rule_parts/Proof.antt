@@ -1,9 +1,11 @@
--- The faults before the body and those of the body, in order.
-use mathlib.Core.Path.{_≡_, refl, ap, ap₂, _∙_}
-use mathlib.Core.Bool.{_||_}
-use native.Mathlib.Omega.{arith}
-use Rattle.program.specs.Refusals.{wrongCountOf}
-use Rattle.values.proofs.ValueLaws.{rule-refusal, body-refusal, divisor-room, divided, rule-faults}
+-- The faults of the header and of the body, in order; there is no divisor.
+use mathlib.Core.Path.{_≡_, ap, _∙_}
+use mir.Syntax.{w64}
+use mir.Val.{toZ, ofZ}
+use Rattle.format.specs.Limits.{maxNumber}
+use Rattle.format.specs.Numbers.{beyond}
+use Rattle.program.specs.Refusals.{unknownForm, wrongHead}
+use Rattle.values.proofs.ValueLaws.{rule-refusal}
 use borrow.Author.Needs.{needs}
 use Rattle.values.proofs.check_rule_parts.Statement.{statement}
 use Rattle.values.proofs.check_rule_parts.Tie as tie
@@ -11,63 +13,39 @@ use Rattle.values.proofs.check_rule_parts.Tie as tie
 header-requires : tie.Need-header-requires
 header-requires c κs = search needs
 
-divisor-part-requires : tie.Need-divisor-part-requires
-divisor-part-requires c κs = search needs
+is-unknown-form-requires : tie.Need-is-unknown-form-requires
+is-unknown-form-requires c κs = search needs
+
+is-number-beyond-requires : tie.Need-is-number-beyond-requires
+is-number-beyond-requires c κs = search needs
+
+is-wrong-head-requires : tie.Need-is-wrong-head-requires
+is-wrong-head-requires c κs = search needs
 
 body-requires : tie.Need-body-requires
 body-requires c κs = search needs
 
-shared-slice-read-rule-faults : tie.Need-shared-slice-read-rule-faults
-shared-slice-read-rule-faults c = search needs
-
-rule-faults-requires : tie.Need-rule-faults-requires
-rule-faults-requires c κs =
-    let s = c .before .before .before .before .before .before in
-    (s .pre .0, divisor-room (s .args .value .now) (c .before .before .divisor-part .ensures))
-
-body-faults-requires : tie.Need-body-faults-requires
-body-faults-requires c κs = search needs
-
-with-requires : tie.Need-with-requires
-with-requires c κs = search needs
-
-shared-slice-read-divisor-terms : tie.Need-shared-slice-read-divisor-terms
-shared-slice-read-divisor-terms c = search needs
-
-divisor-terms-requires : tie.Need-divisor-terms-requires
-divisor-terms-requires c κs = search needs
-
-is-wrong-count-requires : tie.Need-is-wrong-count-requires
-is-wrong-count-requires c κs = search needs
-
-first-requires : tie.Need-first-requires
-first-requires c κs = search needs
+first-fault-requires : tie.Need-first-fault-requires
+first-fault-requires c κs = search needs
 
 returns : tie.Need-returns
 returns c =
-    let v = c .before .before .before .before .before .before .before .before .before .before .before .before .before .args .value .now in
-    let h = c .before .before .before .before .before .before .before .before .before .before .header in
-    let d = c .before .before .before .before .before .before .before .before .before .divisor-part .ensures in
-    let y = c .before .before .before .before .before .before .before .before .body .ensures in
-    let f = rule-faults _ v (h .ensures) d refl (c .before .before .before .before .before .before .rule-faults .ensures) in
-    let count = ap₂ _||_ (divided v d (c .before .before .divisor-terms .ensures .0)) (c .before .is-wrong-count .ensures ∙ ap (wrongCountOf _) (y .many)) in
-    rule-refusal _ v _ _ (h .ensures .form-is)
-    (c .first .ensures ∙ body-refusal _ y _ _ _ _ _ (c .before .before .before .before .before .body-faults .ensures) (f .form-is)
-    (f .range-is) (f .variable-is) (f .repeated-is) (f .negative-is) (c .before .before .before .before .with .ensures) count)
+    let s = c .before .before .before .before .before .before .before .before .before in
+    let h = c .before .before .before .before .before .before .header in
+    let z : toZ w64 (ofZ w64 (h .result .c)) ≡ h .result .c = search needs in
+    rule-refusal _ (s .args .value .now) _ (s .pre .1) (h .ensures .form-is) (c .before .body .ensures)
+    (c .before .before .before .before .before .is-unknown-form .ensures ∙ ap unknownForm (h .ensures .form-is))
+    (c .before .before .before .is-number-beyond .ensures ∙ ap (beyond maxNumber) (z ∙ h .ensures .c-is))
+    (c .before .before .is-wrong-head .ensures ∙ ap (wrongHead _) (h .ensures .head-is)) (c .first-fault .ensures)
 
 pub check-rule-parts-spec : {M : Type 1} → statement M
 check-rule-parts-spec =
     tie.close
     (tie.spec
     header-requires
-    divisor-part-requires
+    is-unknown-form-requires
+    is-number-beyond-requires
+    is-wrong-head-requires
     body-requires
-    shared-slice-read-rule-faults
-    rule-faults-requires
-    body-faults-requires
-    with-requires
-    shared-slice-read-divisor-terms
-    divisor-terms-requires
-    is-wrong-count-requires
-    first-requires
+    first-fault-requires
     returns)

@@ -7,13 +7,12 @@ use lib.ListN.{length}
 use mir.Syntax.{w64}
 use mir.Val.{toZ, ofZ}
 use Rattle.format.specs.Limits.{maxNumber}
-use Rattle.format.proofs.Ints.{abs-add}
 use Rattle.program.specs.Program.{termsOf}
-use Rattle.program.specs.Evaluate.{sumBelow, overUp}
+use Rattle.program.proofs.Quotients.{over-one}
 use Rattle.program.proofs.Bodies.{terms-length}
 use Rattle.program.proofs.Gives.{seven, enough-of, amount-sum, amount-largest, amount-smallest, amount-product, amount-size, amount-literals, amount-carried}
-use Rattle.bodies.specs.Readings.{readingOf, weighted}
-use Rattle.bodies.proofs.Loops.{reading-small, total-small, product-small, largest-small, smallest-small}
+use Rattle.bodies.specs.Readings.{readingOf}
+use Rattle.bodies.proofs.Loops.{reading-small, product-small, largest-small, smallest-small}
 use borrow.Author.Needs.{needs}
 use Rattle.evaluation.proofs.rules.amount.Statement.{statement}
 use Rattle.evaluation.proofs.rules.amount.Tie as tie
@@ -21,12 +20,9 @@ use Rattle.evaluation.proofs.rules.amount.Tie as tie
 abbrev at : tie.Start → ℕ → ℤ
 at s = readingOf (s .args .kept) (s .args .first .now) (s .args .second .now) (termsOf (s .args .body .now))
 
--- c and the divisor as the machine has them
+-- c as the machine has it
 same-c : (s : tie.Start) → toZ w64 (ofZ w64 (s .args .rule .c)) ≡ s .args .rule .c
 same-c s = search needs
-
-same-divisor : (s : tie.Start) → toZ w64 (ofZ w64 (s .args .rule .divisor)) ≡ s .args .rule .divisor
-same-divisor s = search needs
 
 near : (s : tie.Start) → natAbs (toZ w64 (ofZ w64 (s .args .rule .c))) ≤ maxNumber
 near s = rw (same-c s) (s .pre .0 .near)
@@ -38,17 +34,6 @@ sum-requires : tie.Need-sum-requires
 sum-requires c κs =
     let s = c .before .before .before in
     ((near s, omega (arith, s .pre .0 .few, terms-length (s .args .body .now))), (s .pre .0 .weights (c .match .keys1), s .pre .1))
-
-over-up-requires : tie.Need-over-up-requires
-over-up-requires c κs =
-    let s = c .before .before .before .before .before in
-    let a = s .args in
-    let e = s .pre .0 in
-    let ts = termsOf (a .body .now) in
-    let v : toZ w64 (ofZ w64 (c .before .sum .result)) ≡ c .before .sum .result = search needs in
-    let w = total-small (a .kept) (a .first .now) (a .second .now) ts (e .weights (c .before .before .match .keys1)) (s .pre .1 .0) (s .pre .1 .1) (length ts) (omega arith) in
-    let b = abs-add (toZ w64 (ofZ w64 (a .rule .c))) (sumBelow (weighted ts (at s)) (length ts)) in
-    rw (same-divisor s) (e .divisor-least, omega (arith, near s, e .few, e .divisor-near, ap natAbs (v ∙ c .before .sum .ensures), w, b))
 
 largest-requires : tie.Need-largest-requires
 largest-requires c κs =
@@ -121,10 +106,9 @@ module _ (s : tie.Start) {r a b : ℤ} (p : r ≡ toZ w64 (ofZ w64 (s .args .rul
 
 returns : tie.Need-returns
 returns c =
-    let s = c .before .before .before .before .before .before in
-    let v : toZ w64 (ofZ w64 (c .before .before .sum .result)) ≡ c .before .before .sum .result = search needs in
-    let z : toZ w64 (ofZ w64 (c .over-up .result)) ≡ c .over-up .result = search needs in
-    z ∙ c .over-up .ensures ∙ ap₂ overUp (same-divisor s) (total s (v ∙ c .before .before .sum .ensures) refl) ∙ sym (amount-sum _ _ _ _ (c .before .before .before .match .keys1))
+    let s = c .before .before .before .before in
+    let v : toZ w64 (ofZ w64 (c .sum .result)) ≡ c .sum .result = search needs in
+    total s (v ∙ c .sum .ensures) refl ∙ sym (amount-sum _ _ _ _ (c .before .match .keys1) ∙ over-one _)
 
 returns-2 : tie.Need-returns-2
 returns-2 c =
@@ -184,7 +168,6 @@ amount-spec =
     tie.close
     (tie.spec
     sum-requires
-    over-up-requires
     largest-requires
     plus-requires
     smallest-requires

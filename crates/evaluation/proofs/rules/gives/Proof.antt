@@ -1,10 +1,10 @@
--- The amount is given where every literal holds, and nothing else.
+-- A sum over a divisor is always given; else the amount is given where every literal holds, and nothing else.
 use mathlib.Core.Path.{_≡_, sym, _∙_}
 use native.Mathlib.Omega.{arith}
 use mir.Syntax.{w64}
 use mir.Val.{toZ, ofZ}
 use borrow.Author.Tests.{not-true, not-false}
-use Rattle.evaluation.proofs.Gives.{handed-plain, handed-evaluable, given-nothing, given-value}
+use Rattle.evaluation.proofs.Gives.{handed-plain, handed-evaluable, divided-evaluable, given-nothing, given-value, given-divided}
 use borrow.Author.Needs.{needs}
 use Rattle.evaluation.proofs.rules.gives.Statement.{statement}
 use Rattle.evaluation.proofs.rules.gives.Tie as tie
@@ -15,33 +15,66 @@ header-requires c κs = search needs
 body-requires : tie.Need-body-requires
 body-requires c κs = search needs
 
-is-met-requires : tie.Need-is-met-requires
-is-met-requires c κs =
-    let s = c .before .before .before in
-    (omega (arith, s .pre .0 .few, c .body .ensures .many), handed-plain (s .args .value .now) (c .before .header .ensures) (c .body .ensures) (s .pre .0))
+divisor-requires : tie.Need-divisor-requires
+divisor-requires c κs =
+    let s = c .before .before .before .before .before in
+    (s .pre .1 .0, sym (c .before .before .before .header .ensures .form-is) ∙ c .if1 .taken)
+
+divided-requires : tie.Need-divided-requires
+divided-requires c κs =
+    let s = c .before .before .before .before .before .before .before in
+    let h = c .before .before .before .before .before .header in
+    let y = c .before .before .before .before .body .ensures in
+    let z : toZ w64 (ofZ w64 (h .result .c)) ≡ h .result .c = search needs in
+    let d : toZ w64 (ofZ w64 (c .before .divisor .result)) ≡ c .before .divisor .result = search needs in
+    (rw (z, d) (divided-evaluable (s .args .value .now) (h .ensures) y (c .before .before .if1 .taken) (c .before .divisor .ensures) (s .pre .0)), s .pre .1 .1)
 
 returns : tie.Need-returns
 returns c =
-    let b = c .before .before in
-    let a = b .before .before .before .args in
-    given-nothing (a .value .now) (b .before .header .ensures) (b .body .ensures) (a .kept) (a .first .now) (a .second .now)
-    (sym (not-true _ (c .if1 .taken)) ∙ c .before .is-met .ensures)
+    let s = c .before .before .before .before .before .before .before .before in
+    let a = s .args in
+    let h = c .before .before .before .before .before .before .header in
+    let y = c .before .before .before .before .before .body .ensures in
+    let z : toZ w64 (ofZ w64 (h .result .c)) ≡ h .result .c = search needs in
+    let d : toZ w64 (ofZ w64 (c .before .before .divisor .result)) ≡ c .before .before .divisor .result = search needs in
+    let r : toZ w64 (ofZ w64 (c .divided .result)) ≡ c .divided .result = search needs in
+    given-divided (a .value .now) (h .ensures) y (c .before .before .before .if1 .taken) (c .before .before .divisor .ensures) (s .pre .0)
+    (a .kept) (a .first .now) (a .second .now) (r ∙ (rw (z, d) at (c .divided .ensures)))
 
-amount-requires : tie.Need-amount-requires
-amount-requires c κs =
-    let b = c .before .before in
-    let s = b .before .before .before in
-    (handed-evaluable (s .args .value .now) (b .before .header .ensures) (b .body .ensures) (s .pre .0), s .pre .1 .1)
+is-met-requires : tie.Need-is-met-requires
+is-met-requires c κs =
+    let s = c .before .before .before .before .before in
+    let y = c .before .before .body .ensures in
+    (omega (arith, s .pre .0 .few, y .many), handed-plain (s .args .value .now) (c .before .before .before .header .ensures) y (c .if1 .left) (s .pre .0))
 
 returns-2 : tie.Need-returns-2
 returns-2 c =
-    let b = c .before .before .before in
-    let a = b .before .before .before .args in
+    let a = c .before .before .before .before .before .before .before .args in
+    given-nothing (a .value .now) (c .before .before .before .before .before .header .ensures) (c .before .before .before .before .body .ensures) (a .kept) (a .first .now) (a .second .now)
+    (sym (not-true _ (c .if2 .taken)) ∙ c .before .is-met .ensures)
+
+amount-requires : tie.Need-amount-requires
+amount-requires c κs =
+    let s = c .before .before .before .before .before .before .before in
+    (handed-evaluable (s .args .value .now) (c .before .before .before .before .before .header .ensures) (c .before .before .before .before .body .ensures) (c .before .before .if1 .left) (s .pre .0), s .pre .1 .1)
+
+returns-3 : tie.Need-returns-3
+returns-3 c =
+    let a = c .before .before .before .before .before .before .before .before .args in
     let z : toZ w64 (ofZ w64 (c .amount .result)) ≡ c .amount .result = search needs in
-    given-value (a .value .now) (b .before .header .ensures) (b .body .ensures) (a .kept) (a .first .now) (a .second .now)
-    (sym (not-false _ (c .before .if1 .left)) ∙ c .before .before .is-met .ensures) (z ∙ c .amount .ensures)
+    given-value (a .value .now) (c .before .before .before .before .before .before .header .ensures) (c .before .before .before .before .before .body .ensures) (c .before .before .before .if1 .left)
+    (a .kept) (a .first .now) (a .second .now) (sym (not-false _ (c .before .if2 .left)) ∙ c .before .before .is-met .ensures) (z ∙ c .amount .ensures)
 
 pub gives-spec : {M : Type 1} → statement M
 gives-spec =
     tie.close
-    (tie.spec header-requires body-requires is-met-requires returns amount-requires returns-2)
+    (tie.spec
+    header-requires
+    body-requires
+    divisor-requires
+    divided-requires
+    returns
+    is-met-requires
+    returns-2
+    amount-requires
+    returns-3)

@@ -1,11 +1,18 @@
--- What follows the header and the divisor is the body.
-use Rattle.parts.proofs.Bytes.{body-handed}
+-- What follows the header; of form 8 what follows the divisor.
+use native.Mathlib.Omega.{arith}
+use Rattle.parts.proofs.Bytes.{undivided-body}
 use borrow.Author.Needs.{needs}
 use Rattle.parts.proofs.rules.body.Statement.{statement}
 use Rattle.parts.proofs.rules.body.Tie as tie
 
-body-start-requires : tie.Need-body-start-requires
-body-start-requires c κs = search needs
+shared-slice-read-if1 : tie.Need-shared-slice-read-if1
+shared-slice-read-if1 c = search needs
+
+divided-body-requires : tie.Need-divided-body-requires
+divided-body-requires c κs = search needs
+
+returns : tie.Need-returns
+returns c = search needs
 
 sub-result : tie.Need-sub-result
 sub-result c = search needs
@@ -16,8 +23,17 @@ part-result-start c = search needs
 part-result-end : tie.Need-part-result-end
 part-result-end c = search needs
 
-returns : tie.Need-returns
-returns c = body-handed _ (c .before .body-start .ensures)
+returns-2 : tie.Need-returns-2
+returns-2 c = undivided-body (c .before .before .before .before .args .value .now) (c .before .if1 .left) (omega arith)
 
 pub body-spec : {M : Type 1} → statement M
-body-spec = tie.close (tie.spec body-start-requires sub-result part-result-start part-result-end returns)
+body-spec =
+    tie.close
+    (tie.spec
+    shared-slice-read-if1
+    divided-body-requires
+    returns
+    sub-result
+    part-result-start
+    part-result-end
+    returns-2)

@@ -1,11 +1,9 @@
--- What stands between the header and the body.
-use Rattle.parts.proofs.Bytes.{handed-as}
+-- The four bytes after the header, or what the value has of them.
+use native.Mathlib.Omega.{arith}
+use Rattle.parts.proofs.Bytes.{divisor-whole, divisor-cut}
 use borrow.Author.Needs.{needs}
 use Rattle.parts.proofs.rules.divisor_part.Statement.{statement}
 use Rattle.parts.proofs.rules.divisor_part.Tie as tie
-
-body-start-requires : tie.Need-body-start-requires
-body-start-requires c κs = search needs
 
 sub-result : tie.Need-sub-result
 sub-result c = search needs
@@ -17,8 +15,29 @@ part-result-end : tie.Need-part-result-end
 part-result-end c = search needs
 
 returns : tie.Need-returns
-returns c = handed-as (c .before .body-start .ensures .divisor-is)
+returns c = divisor-cut (c .before .before .args .value .now) (c .before .before .pre .1) (c .before .before .pre .0) (omega arith)
+
+sub-result-2 : tie.Need-sub-result-2
+sub-result-2 c = search needs
+
+part-result-start-2 : tie.Need-part-result-start-2
+part-result-start-2 c = search needs
+
+part-result-end-2 : tie.Need-part-result-end-2
+part-result-end-2 c = search needs
+
+returns-2 : tie.Need-returns-2
+returns-2 c = divisor-whole (c .before .before .args .value .now) (c .before .before .pre .1) (omega arith)
 
 pub divisor-part-spec : {M : Type 1} → statement M
 divisor-part-spec =
-    tie.close (tie.spec body-start-requires sub-result part-result-start part-result-end returns)
+    tie.close
+    (tie.spec
+    sub-result
+    part-result-start
+    part-result-end
+    returns
+    sub-result-2
+    part-result-start-2
+    part-result-end-2
+    returns-2)
