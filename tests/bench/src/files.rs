@@ -33,6 +33,11 @@ impl Builder {
         self.terms(terms);
     }
 
+    /// A rule of form 8: its divisor stands before its terms.
+    pub fn divided(&mut self, head: usize, c: i64, d: i64, terms: &[(usize, u8, i64)]) {
+        self.rule(8, head, c, &[&[(0, 3, d)], terms].concat());
+    }
+
     pub fn constraint(&mut self, form: u8, c: i64, terms: &[(usize, u8, i64)]) {
         self.file.extend([3, 0, 3 + 4 * terms.len() as u8, form]);
         self.file.extend(two(c));
@@ -129,6 +134,51 @@ pub fn led(name: &str, n: usize) -> Plan {
     b.plan(name)
 }
 
+/// A circle over the whole range, each half of the sum of the two before it and of 1, rounded up: about one more for every second step.
+pub fn halves(name: &str, n: usize, reverse: bool) -> Plan {
+    let mut b = Builder::new();
+    for _ in 0..n {
+        b.variable(1, -30_000, 30_000, 0);
+    }
+    for i in 0..n {
+        let v = if reverse { n - 1 - i } else { i };
+        b.divided(v, 1, 2, &[((v + n - 1) % n, 0, 1), ((v + n - 2) % n, 0, 1)]);
+    }
+    b.plan(name)
+}
+
+/// The same through a min with a standard variable: the whole climb ends at its value, and the plan is stable.
+pub fn capped(name: &str, n: usize) -> Plan {
+    let mut b = Builder::new();
+    let cap = 20_000;
+    b.variable(0, 0, cap, cap);
+    for _ in 0..n {
+        b.variable(1, -30_000, 30_000, cap);
+        b.variable(1, -30_000, 30_000, cap + 1);
+    }
+    let low = |v: usize| 1 + 2 * (v % n);
+    for v in 0..n {
+        b.divided(low(v) + 1, 1, 2, &[(low(v + n - 1), 0, 1), (low(v + n - 2), 0, 1)]);
+        b.rule(3, low(v), 0, &[(0, 0, 0), (low(v) + 1, 0, 0)]);
+    }
+    b.plan(name)
+}
+
+/// As `led`: each follows the two before it, at half of their sum, rounded up, and the one that gains follows the last two.
+pub fn led_by_two(name: &str, n: usize) -> Plan {
+    let mut b = Builder::new();
+    for _ in 0..n {
+        b.variable(1, -30_000, 30_000, 0);
+    }
+    let two = |v: usize| [((v + n - 1) % n, 0, 1), ((v + n - 2) % n, 0, 1)];
+    for v in (1..n).rev() {
+        b.divided(v, 0, 2, &two(v));
+    }
+    b.divided(0, 1, 2, &[(0, 0, 2)]);
+    b.divided(0, 0, 2, &two(0));
+    b.plan(name)
+}
+
 /// Each holds the next, and nothing holds any.
 pub fn ring(name: &str, n: usize) -> Plan {
     let mut b = Builder::new();
@@ -141,8 +191,13 @@ pub fn ring(name: &str, n: usize) -> Plan {
     b.plan(name)
 }
 
-/// A stable plan with every form of rule: each founded variable is held at its value by those before it, and other rules give as much or less.
-pub fn roster(name: &str, variables: usize, rules: usize, constraints: usize, terms: usize) -> Plan {
+/// The forms that have no divisor, those that have one, and both.
+pub const UNDIVIDED: &[u8] = &[1, 2, 3, 4, 5, 6, 7];
+pub const DIVIDED: &[u8] = &[8];
+pub const ALL: &[u8] = &[1, 2, 3, 4, 5, 6, 7, 8];
+
+/// A stable plan with rules of these forms: each founded variable is held at its value by those before it, and other rules give as much or less.
+pub fn roster(name: &str, variables: usize, rules: usize, constraints: usize, terms: usize, forms: &[u8]) -> Plan {
     let mut s = Seed(0xD1B5_4A32_D192_ED03 ^ variables as u64);
     let mut b = Builder::new();
     let fixed = variables / 4;
@@ -153,7 +208,7 @@ pub fn roster(name: &str, variables: usize, rules: usize, constraints: usize, te
     for i in 0..rules {
         let head = fixed + i % (variables - fixed);
         let first = i < variables - fixed;
-        let form = 1 + s.next(7) as u8;
+        let form = forms[s.next(forms.len())];
         let most = match form {
             4 => 2,
             5 => 1,
@@ -169,14 +224,14 @@ pub fn roster(name: &str, variables: usize, rules: usize, constraints: usize, te
         let literal = |x: usize| (x, 1 + (x % 2) as u8, value[x] + (x % 2) as i64);
         let plain = |x: usize| (x, 0, 0);
         let body: Vec<(usize, u8, i64)> = match form {
-            1 => names.iter().map(|&x| (x, 0, [-2, -1, 1, 2, 3][s.next(5)])).collect(),
+            1 | 8 => names.iter().map(|&x| (x, 0, [-2, -1, 1, 2, 3][s.next(5)])).collect(),
             6 => names.iter().map(|&x| literal(x)).collect(),
             7 => names.iter().enumerate().map(|(i, &x)| if i == 0 { plain(x) } else { literal(x) }).collect(),
             _ => names.iter().map(|&x| plain(x)).collect(),
         };
         let values = names.iter().map(|&x| value[x]);
         let without_c: i64 = match form {
-            1 => body.iter().map(|t| t.2 * value[t.0]).sum(),
+            1 | 8 => body.iter().map(|t| t.2 * value[t.0]).sum(),
             2 => values.max().unwrap_or(0),
             3 => values.min().unwrap_or(0),
             4 => values.product(),
@@ -184,7 +239,13 @@ pub fn roster(name: &str, variables: usize, rules: usize, constraints: usize, te
             _ => 0,
         };
         let spare = if first { 0 } else { s.next(4) as i64 };
-        b.rule(form, head, value[head] - without_c - spare, &body);
+        if form == 8 {
+            let d = [2, 3, 4, 7, 10, 60, 100][s.next(7)];
+            let over = s.next(d as usize) as i64;
+            b.divided(head, d * (value[head] - spare) - over - without_c, d, &body);
+        } else {
+            b.rule(form, head, value[head] - without_c - spare, &body);
+        }
     }
     for i in 0..constraints {
         let x = s.next(variables);

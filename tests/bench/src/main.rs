@@ -7,7 +7,8 @@ mod fast;
 mod files;
 mod port;
 
-use files::{circle, desk, followers, led, mixed, ring, roster, row_13, Plan, Seed};
+use files::{capped, circle, desk, followers, halves, led, led_by_two, mixed, ring, roster, row_13};
+use files::{Plan, Seed, ALL, DIVIDED, UNDIVIDED};
 use std::hint::black_box;
 use std::process::exit;
 use std::time::{Duration, Instant};
@@ -178,19 +179,25 @@ fn damaged(p: &Plan, name: &str, seed: u64) -> Plan {
 
 fn plans() -> Vec<Plan> {
     let limit = desk("file at the limits, literals", 256, 1_180, 512, 9);
+    let divided = roster("file at the limits, 17 groups a rule", 256, 704, 512, 16, DIVIDED);
     let mut plans = vec![
         row_13("mixed circle of 2, refused 13"),
         mixed("mixed circle of 128, refused 13", true),
         mixed("1,024 mixed places, accepted", false),
         damaged(&limit, "file at the limits, a bit flipped", 7),
         damaged(&limit, "file at the limits, another bit", 8),
+        damaged(&divided, "17 groups a rule, a bit flipped", 7),
         desk("small roster, 16 variables", 16, 40, 4, 3),
-        roster("small roster, all forms", 16, 40, 4, 3),
+        roster("small roster, forms 1 to 7", 16, 40, 4, 3, UNDIVIDED),
+        roster("small roster, sums over divisors", 16, 40, 4, 3, DIVIDED),
         desk("week's desk, 64 variables", 64, 300, 20, 4),
-        roster("week's desk, all forms", 64, 300, 20, 4),
+        roster("week's desk, forms 1 to 7", 64, 300, 20, 4, UNDIVIDED),
+        roster("week's desk, forms 1 to 8", 64, 300, 20, 4, ALL),
+        roster("week's desk, sums over divisors", 64, 300, 20, 4, DIVIDED),
         limit,
-        roster("file at the limits, all forms", 256, 1_380, 512, 9),
-        roster("2,048 rules, all forms", 256, 2_048, 512, 4),
+        roster("file at the limits, forms 1 to 7", 256, 1_380, 512, 9, UNDIVIDED),
+        divided,
+        roster("2,048 rules, forms 1 to 7", 256, 2_048, 512, 4, UNDIVIDED),
     ];
     for n in [64, 128, 256] {
         plans.push(ring(&format!("unfounded ring of {n}"), n));
@@ -204,6 +211,14 @@ fn plans() -> Vec<Plan> {
         plans.push(followers(&format!("followers, {n}, reverse order"), n, true));
     }
     plans.push(led("followers and leader in one circle", 256));
+    for n in [64, 128, 256] {
+        plans.push(halves(&format!("circle of {n}, halves of two"), n, false));
+    }
+    plans.push(halves("circle of 256, halves, reverse order", 256, true));
+    for n in [32, 64, 127] {
+        plans.push(capped(&format!("circle of {n}, halves up to a cap"), n));
+    }
+    plans.push(led_by_two("followers of two in one circle", 256));
     plans
 }
 

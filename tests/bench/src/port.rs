@@ -1,10 +1,12 @@
 //! The three calls as the proved code has them, statement by statement, with no proofs. It reads rules and terms from the file's bytes, keeps a set
-//! of rules still to look at and, for each variable, the set of rules that read it at a kept place.
+//! of rules still to look at and, for each variable, the set of rules that read it at a kept position.
 
 pub const MAX_FILE: usize = 60_000;
 pub const VARIABLES: usize = 256;
 pub const RULES: usize = 2_048;
 pub const CONSTRAINTS: usize = 512;
+const TERMS: usize = 16;
+const MAX_DIVISOR: i64 = 1_000;
 const ROW: usize = RULES / 64;
 
 #[derive(Clone, Copy, PartialEq, Eq, Debug)]
@@ -26,6 +28,30 @@ pub fn pack(word: u64, a: usize, b: usize, c: usize) -> u64 {
     word | (a as u64) << 8 | (b as u64) << 24 | (c as u64) << 40
 }
 
+// ---- sets, on words
+
+fn bit(words: &[u64], i: usize) -> bool {
+    words[i / 64] >> (i % 64) & 1 == 1
+}
+
+fn count(words: &[u64]) -> usize {
+    words.iter().map(|w| w.count_ones() as usize).sum()
+}
+
+/// The least number of the set at or above `from`.
+fn next_bit(words: &[u64], from: usize) -> Option<usize> {
+    let end = words.len() * 64;
+    let mut at = from;
+    while at < end {
+        let w = words[at / 64] >> (at % 64);
+        if w != 0 {
+            return Some(at + w.trailing_zeros() as usize);
+        }
+        at = (at / 64 + 1) * 64;
+    }
+    None
+}
+
 // ---- reading
 
 fn kind(file: &[u8], x: usize) -> u8 {
@@ -40,12 +66,68 @@ fn high(file: &[u8], x: usize) -> i64 {
     number(file, 8 * x + 6)
 }
 
-fn literal_place(form: u8, i: usize) -> bool {
+fn literal_position(form: u8, i: usize) -> bool {
     form == 6 || form == 7 && i > 0
 }
 
 fn beyond(z: i64, m: i64) -> bool {
     z < -m || z > m
+}
+
+// ---- the parts of a rule's value: form, head, c, of form 8 its divisor, then its body
+
+fn divisor_terms(form: u8) -> usize {
+    match form {
+        8 => 1,
+        _ => 0,
+    }
+}
+
+/// The form as which the terms of a body are read.
+fn term_form(form: u8) -> u8 {
+    match form {
+        8 => 1,
+        _ => form,
+    }
+}
+
+fn body_start(v: &[u8]) -> usize {
+    let start = 4 + 4 * divisor_terms(v[0]);
+    if start <= v.len() {
+        start
+    } else {
+        v.len()
+    }
+}
+
+fn divisor_part(v: &[u8]) -> &[u8] {
+    &v[4..body_start(v)]
+}
+
+/// 1 where there is none.
+fn divisor(v: &[u8]) -> i64 {
+    let part = divisor_part(v);
+    if part.len() < 4 {
+        return 1;
+    }
+    number(part, 2)
+}
+
+fn body(v: &[u8]) -> &[u8] {
+    &v[body_start(v)..]
+}
+
+fn positions(v: &[u8]) -> usize {
+    body(v).len() / 4
+}
+
+/// Whether a divisor has the wrong variable byte or op, and whether its number is out of range.
+fn divisor_faults(part: &[u8]) -> (bool, bool) {
+    if part.len() < 4 {
+        return (false, false);
+    }
+    let d = number(part, 2);
+    (part[1] != 3 || part[0] != 0, d < 1 || d > MAX_DIVISOR)
 }
 
 /// Refusals 7 to 12 of a body whose terms stand in `body`; `before` are the flags of the rest of the field.
@@ -56,7 +138,7 @@ fn body_refusal(file: &[u8], variables: usize, form: u8, body: &[u8], before: [b
     for i in 0..terms {
         let t = &body[4 * i..4 * i + 4];
         let (x, op, k) = (t[0] as usize, t[1], number(t, 2));
-        let literal = literal_place(form, i);
+        let literal = literal_position(form, i);
         wrong |= if literal { op != 1 && op != 2 } else { op != 0 };
         wrong |= !literal && form != 1 && k != 0;
         outside |= if literal {
@@ -103,12 +185,15 @@ fn value_refusal(file: &[u8], tag: u8, v: &[u8], variables: usize) -> u8 {
         2 => {
             let form = v[0];
             let head = v[1] as usize;
-            if form == 0 || form > 7 {
+            if form == 0 || form > 8 {
                 return 7;
             }
+            let (part, body, as_form) = (divisor_part(v), body(v), term_form(form));
+            let (wrong, outside) = divisor_faults(part);
             let undeclared = head >= variables || kind(file, head) != 1;
-            let flags = [false, beyond(number(v, 2), 30_000), undeclared];
-            body_refusal(file, variables, form, &v[4..], flags, wrong_count(form, v.len() / 4 - 1))
+            let flags = [wrong, beyond(number(v, 2), 30_000) | outside, undeclared];
+            let divided = part.len() / 4 != divisor_terms(form);
+            body_refusal(file, variables, as_form, body, flags, divided | wrong_count(as_form, body.len() / 4))
         }
         _ => {
             let form = v[0];
@@ -121,6 +206,10 @@ fn value_refusal(file: &[u8], tag: u8, v: &[u8], variables: usize) -> u8 {
             body_refusal(file, variables, as_rule, &v[3..], flags, form == 2 && v.len() < 7)
         }
     }
+}
+
+fn terms_fit(len: usize, header: usize, most: usize) -> bool {
+    len >= header && (len - header) % 4 == 0 && (len - header) / 4 <= most
 }
 
 fn field_refusal(file: &[u8], at: usize, before: u8, k: Counts) -> u8 {
@@ -144,8 +233,8 @@ fn field_refusal(file: &[u8], at: usize, before: u8, k: Counts) -> u8 {
     }
     let fits = match tag {
         1 => len == 5,
-        2 => len >= 4 && len % 4 == 0 && len <= 68,
-        _ => len >= 3 && len % 4 == 3 && len <= 67,
+        2 => len >= 4 && terms_fit(len, 4, divisor_terms(file[at + 3]) + TERMS),
+        _ => terms_fit(len, 3, TERMS),
     };
     if !fits {
         return 6;
@@ -161,8 +250,8 @@ enum Direction {
 }
 
 fn direction(file: &[u8], v: &[u8], i: usize) -> Direction {
-    let t = &v[4 + 4 * i..8 + 4 * i];
-    match v[0] {
+    let t = &body(v)[4 * i..4 * i + 4];
+    match term_form(v[0]) {
         1 if number(t, 2) < 0 => Direction::Falling,
         5 => {
             let x = t[0] as usize;
@@ -183,10 +272,6 @@ fn rule_value(file: &[u8], at: usize) -> &[u8] {
     &file[at + 3..at + 3 + word(file, at + 1)]
 }
 
-fn places(v: &[u8]) -> usize {
-    v.len() / 4 - 1
-}
-
 /// The place of the first rule with a mixed variable in its head's component.
 fn first_offending(file: &[u8], k: Counts) -> Option<usize> {
     let rules = |mut f: Box<dyn FnMut(usize, &[u8]) -> bool + '_>| {
@@ -200,23 +285,22 @@ fn first_offending(file: &[u8], k: Counts) -> Option<usize> {
         }
         None
     };
-    let mixed = |v: &[u8]| (0..places(v)).any(|i| direction(file, v, i) == Direction::Mixed);
+    let mixed = |v: &[u8]| (0..positions(v)).any(|i| direction(file, v, i) == Direction::Mixed);
     rules(Box::new(|_, v| mixed(v)))?;
     let mut rows = [[0u64; 4]; VARIABLES];
     rules(Box::new(|_, v| {
-        for i in 0..places(v) {
+        for i in 0..positions(v) {
             if direction(file, v, i) != Direction::Falling {
-                let x = v[4 + 4 * i] as usize;
+                let x = body(v)[4 * i] as usize;
                 rows[v[1] as usize][x / 64] |= 1 << (x % 64);
             }
         }
         false
     }));
-    let has = |rows: &[[u64; 4]; VARIABLES], i: usize, x: usize| rows[i][x / 64] >> (x % 64) & 1 == 1;
     for m in 0..k.variables {
         let row = rows[m];
         for i in 0..k.variables {
-            if has(&rows, i, m) {
+            if bit(&rows[i], m) {
                 for w in 0..4 {
                     rows[i][w] |= row[w];
                 }
@@ -225,9 +309,9 @@ fn first_offending(file: &[u8], k: Counts) -> Option<usize> {
     }
     rules(Box::new(|_, v| {
         let h = v[1] as usize;
-        (0..places(v)).any(|i| {
-            let x = v[4 + 4 * i] as usize;
-            direction(file, v, i) == Direction::Mixed && (x == h || has(&rows, h, x) && has(&rows, x, h))
+        (0..positions(v)).any(|i| {
+            let x = body(v)[4 * i] as usize;
+            direction(file, v, i) == Direction::Mixed && (x == h || bit(&rows[h], x) && bit(&rows[x], h))
         })
     }))
 }
@@ -269,10 +353,33 @@ fn holds(t: &[u8], value: i64) -> bool {
 
 type Values = [i64; VARIABLES];
 
-/// What the rule in a field's value gives, kept places read in the model.
+/// a over d, rounded up.
+fn over_up(a: i64, d: i64) -> i64 {
+    if d == 1 {
+        return a;
+    }
+    if a < 0 {
+        a / d
+    } else {
+        (a + (d - 1)) / d
+    }
+}
+
+/// The larger of two where `most` says so, else the smaller.
+fn extreme(most: bool, a: i64, b: i64) -> i64 {
+    let above = most & (a < b);
+    let below = !most & (b < a);
+    if above | below {
+        b
+    } else {
+        a
+    }
+}
+
+/// What the rule in a field's value gives, kept positions read in the model.
 fn gives(v: &[u8], mask: u32, model: &Values, assigned: &Values) -> Option<i64> {
-    let c = number(v, 2);
-    let body = &v[4..];
+    let (form, c, d) = (term_form(v[0]), number(v, 2), divisor(v));
+    let body = body(v);
     let terms = body.len() / 4;
     let at = |i: usize| {
         let x = body[4 * i] as usize;
@@ -283,10 +390,11 @@ fn gives(v: &[u8], mask: u32, model: &Values, assigned: &Values) -> Option<i64> 
         }
     };
     let all = || (0..terms).all(|i| holds(&body[4 * i..4 * i + 4], at(i)));
-    match v[0] {
-        1 => Some(c + (0..terms).map(|i| number(body, 4 * i + 2) * at(i)).sum::<i64>()),
-        2 => Some(c + (0..terms).map(at).max().unwrap_or(0)),
-        3 => Some(c + (0..terms).map(at).min().unwrap_or(0)),
+    let pick = |most: bool| (1..terms).fold(at(0), |found, i| extreme(most, found, at(i)));
+    match form {
+        1 => Some(over_up(c + (0..terms).map(|i| number(body, 4 * i + 2) * at(i)).sum::<i64>(), d)),
+        2 => Some(c + pick(true)),
+        3 => Some(c + pick(false)),
         4 => Some(c + at(0) * at(1)),
         5 => Some(c + at(0).abs()),
         6 => all().then_some(c),
@@ -306,19 +414,19 @@ fn satisfied(v: &[u8], values: &Values) -> bool {
 }
 
 struct Tables {
-    places: [usize; RULES],
+    offsets: [usize; RULES],
     masks: [u32; RULES],
     readers: [u64; VARIABLES * ROW],
     end: usize,
 }
 
 fn tables(file: &[u8], k: Counts) -> Tables {
-    let mut t = Tables { places: [0; RULES], masks: [0; RULES], readers: [0; VARIABLES * ROW], end: 8 * k.variables };
+    let mut t = Tables { offsets: [0; RULES], masks: [0; RULES], readers: [0; VARIABLES * ROW], end: 8 * k.variables };
     for i in 0..k.rules {
         let v = rule_value(file, t.end);
-        t.places[i] = t.end;
-        for j in 0..places(v) {
-            let x = v[4 + 4 * j] as usize;
+        t.offsets[i] = t.end;
+        for j in 0..positions(v) {
+            let x = body(v)[4 * j] as usize;
             if direction(file, v, j) == Direction::Rising && kind(file, x) == 1 {
                 t.masks[i] |= 1 << j;
                 t.readers[x * ROW + i / 64] |= 1 << (i % 64);
@@ -338,10 +446,9 @@ fn run(file: &[u8], k: Counts, t: &Tables, assigned: &Values, model: &mut Values
     for i in 0..k.rules {
         waiting[i / 64] |= 1 << (i % 64);
     }
-    while let Some(w) = waiting.iter().position(|&w| w != 0) {
-        let i = 64 * w + waiting[w].trailing_zeros() as usize;
-        waiting[w] &= waiting[w] - 1;
-        let v = rule_value(file, t.places[i]);
+    while let Some(i) = next_bit(&waiting, 0) {
+        waiting[i / 64] -= 1 << (i % 64);
+        let v = rule_value(file, t.offsets[i]);
         let head = v[1] as usize;
         if let Some(a) = gives(v, t.masks[i], model, assigned) {
             if a > model[head] {
@@ -408,14 +515,25 @@ pub fn least_call(file: &[u8], assignment: &[u8], buffer: &mut [u8]) -> u64 {
     pack(8, 0, 0, 0)
 }
 
-fn bit(set: &[u64; 4], v: usize) -> bool {
-    set[v / 64] >> (v % 64) & 1 == 1
-}
-
 fn put(report: &mut [u8], i: usize, v: usize, mark: u8, z: i64) {
     report[4 * i] = v as u8;
     report[4 * i + 1] = mark;
     report[4 * i + 2..4 * i + 4].copy_from_slice(&(z as i16).to_be_bytes());
+}
+
+/// For each variable an entry with the first mark where the first set has it, then one with the second where the second has it.
+fn put_marked(report: &mut [u8], first: (&[u64; 4], u8), second: (&[u64; 4], u8), values: &Values) {
+    let either: [u64; 4] = std::array::from_fn(|w| first.0[w] | second.0[w]);
+    let (mut from, mut i) = (0, 0);
+    while let Some(v) = next_bit(&either, from) {
+        for (set, mark) in [first, second] {
+            if bit(set, v) {
+                put(report, i, v, mark, values[v]);
+                i += 1;
+            }
+        }
+        from = v + 1;
+    }
 }
 
 pub fn check_call(file: &[u8], assignment: &[u8], report: &mut [u8]) -> u64 {
@@ -429,7 +547,7 @@ pub fn check_call(file: &[u8], assignment: &[u8], report: &mut [u8]) -> u64 {
     }
     let t = tables(file, k);
     for i in 0..k.rules {
-        let v = rule_value(file, t.places[i]);
+        let v = rule_value(file, t.offsets[i]);
         if gives(v, 0, &assigned, &assigned).is_some_and(|a| a > assigned[v[1] as usize]) {
             return pack(4, i, 0, 0);
         }
@@ -454,17 +572,17 @@ fn shown(file: &[u8], k: Counts, t: &Tables, assigned: &Values, model: &Values, 
             set[v / 64] |= 1 << (v % 64);
         }
     }
-    if set == [0; 4] {
+    if count(&set) == 0 {
         return pack(1, 0, 0, 0);
     }
     let (mut most, mut least) = ([0u64; 4], [0u64; 4]);
     for i in 0..k.rules {
-        let v = rule_value(file, t.places[i]);
+        let v = rule_value(file, t.offsets[i]);
         if !bit(&set, v[1] as usize) {
             continue;
         }
-        for j in 0..places(v) {
-            let x = v[4 + 4 * j] as usize;
+        for j in 0..positions(v) {
+            let x = body(v)[4 * j] as usize;
             let except = t.masks[i] >> j & 1 == 1 && bit(&set, x);
             let d = direction(file, v, j);
             if d == Direction::Mixed || d == Direction::Rising && !except {
@@ -475,19 +593,8 @@ fn shown(file: &[u8], k: Counts, t: &Tables, assigned: &Values, model: &Values, 
             }
         }
     }
-    let mut n = 0;
-    for v in (0..VARIABLES).filter(|&v| bit(&set, v)) {
-        put(report, n, v, 0, model[v]);
-        n += 1;
-    }
-    let mut c = 0;
-    for v in 0..VARIABLES {
-        for (mark, which) in [(1, &most), (2, &least)] {
-            if bit(which, v) {
-                put(report, n + c, v, mark, assigned[v]);
-                c += 1;
-            }
-        }
-    }
-    pack(2, n, c, 0)
+    let (bounds, none) = (count(&set), [0; 4]);
+    put_marked(report, (&set, 0), (&none, 0), model);
+    put_marked(&mut report[4 * bounds..], (&most, 1), (&least, 2), assigned);
+    pack(2, bounds, count(&most) + count(&least), 0)
 }

@@ -5,16 +5,19 @@ const BYTES: usize = 60_000;
 const VARIABLES: usize = 256;
 const RULES: usize = 2_048;
 const CONSTRAINTS: usize = 512;
+const TERMS: usize = 16;
 
 /// A variable's whole field, and a term: variable, op, number.
 pub type Variable = [u8; 8];
 pub type Term = [u8; 4];
 
+/// Only form 8 has a divisor, which stands beside the terms, and is only asked for there.
 #[derive(Clone, Copy)]
 pub struct Rule<'a> {
     pub form: u8,
     pub head: u8,
     pub c: i16,
+    pub divisor: i16,
     pub terms: &'a [Term],
 }
 
@@ -106,11 +109,18 @@ fn variable_in_order(v: &Variable) -> bool {
     v[..3] == [1, 0, 5] && v[3] <= 1 && low(v) >= -30_000 && high(v) <= 30_000 && low(v) <= high(v)
 }
 
-/// What stands before the terms of a whole field of this tag, its terms, and the bytes after it; the length of such a field takes one byte.
-fn value(rest: &[u8], tag: u8, before_terms: usize) -> Option<(&[u8], &[Term], &[u8])> {
+/// The number of a divisor that is in order.
+fn divisor(t: &Term) -> Option<i16> {
+    let d = number(t);
+    (t[..2] == [0, 3] && (1..=1_000).contains(&d)).then_some(d)
+}
+
+/// What stands before the terms of a whole field of this tag, at most so many terms, and the bytes after it; the length of such a field takes one
+/// byte.
+fn value(rest: &[u8], tag: u8, before_terms: usize, most: usize) -> Option<(&[u8], &[Term], &[u8])> {
     let [t, 0, length, tail @ ..] = rest else { return None };
     let length = *length as usize;
-    if *t != tag || length < before_terms || length > before_terms + 64 || length > tail.len() {
+    if *t != tag || length < before_terms || length > before_terms + 4 * most || length > tail.len() {
         return None;
     }
     let (value, after) = tail.split_at(length);
@@ -152,14 +162,15 @@ impl Bodies<'_> {
         self.terms(terms, |t| (t[1].wrapping_sub(1) < 2) & within(number(t)))
     }
 
-    fn rule(&mut self, rule: &Rule, left: usize) -> bool {
+    /// The divisor of a rule that has one is taken out of its terms.
+    fn rule(&mut self, rule: &mut Rule, left: usize) -> bool {
         self.body += 1;
         let terms = rule.terms;
         let head = self.variables.get(rule.head as usize).is_some_and(founded);
         head && within(rule.c)
             && match (rule.form, terms.len()) {
-                (1, _) => self.sum(terms),
-                (2 | 3, 1..) => self.plain(terms),
+                (1, ..=TERMS) => self.sum(terms),
+                (2 | 3, 1..=TERMS) => self.plain(terms),
                 (4, 2) => self.plain(terms) && terms.iter().all(|t| low(&self.variables[t[0] as usize]) >= 0),
                 (5, 1) => {
                     let fine = self.plain(terms);
@@ -168,8 +179,15 @@ impl Bodies<'_> {
                     }
                     fine
                 }
-                (6, 1..) => self.literals(terms),
-                (7, 2..) => self.plain(&terms[..1]) && self.literals(&terms[1..]),
+                (6, 1..=TERMS) => self.literals(terms),
+                (7, 2..=TERMS) => self.plain(&terms[..1]) && self.literals(&terms[1..]),
+                (8, 1..) => {
+                    rule.terms = &terms[1..];
+                    divisor(&terms[0]).is_some_and(|d| {
+                        rule.divisor = d;
+                        self.sum(rule.terms)
+                    })
+                }
                 _ => false,
             }
     }
@@ -184,8 +202,9 @@ impl Bodies<'_> {
     }
 }
 
+/// A rule with its divisor, where it has one, still among its terms.
 fn rule<'a>(start: &[u8], terms: &'a [Term]) -> Rule<'a> {
-    Rule { form: start[0], head: start[1], c: i16::from_be_bytes([start[2], start[3]]), terms }
+    Rule { form: start[0], head: start[1], c: i16::from_be_bytes([start[2], start[3]]), divisor: 1, terms }
 }
 
 pub fn read<'a>(file: &'a [u8], to: &mut impl Sink<'a>) -> Result<Counted<'a>, Refusal> {
@@ -199,9 +218,9 @@ pub fn read<'a>(file: &'a [u8], to: &mut impl Sink<'a>) -> Result<Counted<'a>, R
     let mut bodies = Bodies { variables, stood: [0; VARIABLES], body: 0, mixed: Vec::new() };
     let mut rest = &file[8 * count..];
     to.room(rest.len(), 0);
-    while let Some((start, terms, after)) = value(rest, 2, 4) {
-        let rule = rule(start, terms);
-        if n.rules == RULES || !bodies.rule(&rule, rest.len()) {
+    while let Some((start, terms, after)) = value(rest, 2, 4, TERMS + 1) {
+        let mut rule = rule(start, terms);
+        if n.rules == RULES || !bodies.rule(&mut rule, rest.len()) {
             break;
         }
         to.rule(rule);
@@ -209,7 +228,7 @@ pub fn read<'a>(file: &'a [u8], to: &mut impl Sink<'a>) -> Result<Counted<'a>, R
         rest = after;
     }
     to.room(0, rest.len());
-    while let Some((start, terms, after)) = value(rest, 3, 3) {
+    while let Some((start, terms, after)) = value(rest, 3, 3, TERMS) {
         let constraint = Constraint { form: start[0], c: i16::from_be_bytes([start[1], start[2]]), terms };
         if n.constraints == CONSTRAINTS || !bodies.constraint(&constraint) {
             break;
@@ -231,7 +250,7 @@ pub fn read<'a>(file: &'a [u8], to: &mut impl Sink<'a>) -> Result<Counted<'a>, R
 pub fn directions(variables: &[Variable], rule: &Rule, i: usize) -> (bool, bool) {
     let t = &rule.terms[i];
     let falls = match rule.form {
-        1 => number(t) < 0,
+        1 | 8 => number(t) < 0,
         5 => {
             let v = &variables[t[0] as usize];
             return (low(v) >= 0 || high(v) > 0, low(v) < 0);
@@ -249,11 +268,12 @@ fn first_offending(file: &[u8], n: &Counted, mixed: &[(usize, u8, u8)]) -> Optio
     }
     let mut graph = Graph::new(n.variables.len());
     let mut rest = &file[8 * n.variables.len()..];
-    while let Some((start, terms, after)) = value(rest, 2, 4) {
+    while let Some((start, terms, after)) = value(rest, 2, 4, TERMS + 1) {
         let rule = rule(start, terms);
         let terms = terms.iter();
         match rule.form {
             1 => graph.edges(rule.head, terms.filter(|t| number(t) > 0).map(|t| t[0])),
+            8 => graph.edges(rule.head, terms.skip(1).filter(|t| number(t) > 0).map(|t| t[0])),
             5 if !directions(n.variables, &rule, 0).0 => {}
             6 | 7 => graph.edges(rule.head, terms.filter(|t| t[1] != 2).map(|t| t[0])),
             _ => graph.edges(rule.head, terms.map(|t| t[0])),
@@ -294,8 +314,12 @@ fn why(rest: &[u8], n: &Counted) -> usize {
     if full {
         return 5;
     }
-    let most = if *tag == 1 { 0 } else { 64 };
-    if length < start || length > start + most || (length - start) % 4 != 0 {
+    let most = match (*tag, value) {
+        (1, _) => 0,
+        (2, [8, ..]) => TERMS + 1,
+        _ => TERMS,
+    };
+    if length < start || length > start + 4 * most || (length - start) % 4 != 0 {
         return 6;
     }
     if *tag == 1 {
@@ -303,12 +327,17 @@ fn why(rest: &[u8], n: &Counted) -> usize {
     }
     let terms: &[Term] = value[start..].as_chunks().0;
     let c = i16::from_be_bytes([value[start - 2], value[start - 1]]);
-    // A constraint's forms are those of a sum and of an if without a head.
+    // A constraint's forms are those of a sum and of an if without a head; form 8 is a sum after its divisor.
     let (form, head) = match (*tag, value[0]) {
-        (2, form @ 1..=7) => (form, Some(value[1] as usize)),
+        (2, form @ 1..=8) => (form, Some(value[1] as usize)),
         (3, 1) => (1, None),
         (3, 2) if c == 0 => (6, None),
         _ => return 7,
+    };
+    let (form, first, terms) = match (form, terms) {
+        (8, []) => (8, None, terms),
+        (8, [first, terms @ ..]) => (1, Some(first), terms),
+        _ => (form, None, terms),
     };
     let literal = |i: usize| form == 6 || form == 7 && i > 0;
     let wrong = |(i, t): (usize, &Term)| match literal(i) {
@@ -323,9 +352,9 @@ fn why(rest: &[u8], n: &Counted) -> usize {
         7 => terms.len() >= 2,
         _ => !terms.is_empty(),
     };
-    if terms.iter().enumerate().any(wrong) {
+    if first.is_some_and(|t| t[..2] != [0, 3]) || terms.iter().enumerate().any(wrong) {
         7
-    } else if !within(c) || terms.iter().enumerate().any(outside) {
+    } else if !within(c) || first.is_some_and(|t| divisor(t).is_none()) || terms.iter().enumerate().any(outside) {
         8
     } else if head.is_some_and(|h| !n.variables.get(h).is_some_and(founded)) || terms.iter().any(|t| t[0] as usize >= declared) {
         9

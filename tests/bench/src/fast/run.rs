@@ -15,16 +15,34 @@ fn holds(t: &Term, model: &Values, assigned: &Values) -> bool {
     }
 }
 
+/// a over d, rounded up.
+fn over_up(a: i32, d: i32) -> i32 {
+    if a > 0 {
+        (a + d - 1) / d
+    } else {
+        a / d
+    }
+}
+
+/// The sum over d, rounded up, where that is more than `than`, which is where the sum is more than d times that; no other sum is divided.
+fn divided(sum: i32, d: i16, than: i16) -> Option<i32> {
+    (sum > d as i32 * than as i32).then(|| over_up(sum, d as i32))
+}
+
 /// What the rule gives where that is more than `than`. Standard variables have their assigned values in the model, so rising places read it.
 pub fn above(program: &Program, rule: &Rule, model: &Values, assigned: &Values, than: i16) -> Option<i32> {
     let at = |t: &Term| model[t[0] as usize] as i32;
     let c = rule.c as i32;
-    let given = match (rule.form, rule.terms) {
-        (1, terms) => terms.iter().fold(c, |sum, t| {
+    let sum = |terms: &[Term]| {
+        terms.iter().fold(c, |sum, t| {
             let k = number(t) as i32;
             let x = t[0] as usize;
             sum + k * if k > 0 { model[x] } else { assigned[x] } as i32
-        }),
+        })
+    };
+    let given = match (rule.form, rule.terms) {
+        (1, terms) => sum(terms),
+        (8, terms) => return divided(sum(terms), rule.divisor, than),
         (2, terms) => c + terms.iter().map(at).max()?,
         (3, terms) => c + terms.iter().map(at).min()?,
         (4, [a, b]) => c + at(a) * at(b),
@@ -175,6 +193,8 @@ enum Kind {
     /// A kept place times a number.
     One(u8, i16),
     Sum,
+    /// A sum over a number.
+    Over(i16),
     Max,
     Min,
     Product,
@@ -202,6 +222,7 @@ impl Lift {
         &terms[self.start as usize..self.end as usize]
     }
 
+    /// What it gives; a sum over a number only where that is more than its head has.
     fn gives(&self, terms: &[Kept], model: &Values) -> i32 {
         let at = |t: &Kept| model[t.0 as usize] as i32;
         let all = |terms: &[Kept]| terms.iter().all(|t| model[t.0 as usize] >= t.1);
@@ -209,8 +230,10 @@ impl Lift {
             return self.c + k as i32 * model[x as usize] as i32;
         }
         let terms = self.body(terms);
+        let sum = || terms.iter().fold(self.c, |sum, t| sum + t.1 as i32 * at(t));
         match self.kind {
-            Kind::Sum => terms.iter().fold(self.c, |sum, t| sum + t.1 as i32 * at(t)),
+            Kind::Sum => sum(),
+            Kind::Over(d) => divided(sum(), d, model[self.head as usize]).unwrap_or(i32::MIN),
             Kind::Max => self.c + terms.iter().map(at).max().unwrap_or(0),
             Kind::Min => self.c + terms.iter().map(at).fold(self.most, i32::min),
             Kind::Product => self.c + at(&terms[0]) * at(&terms[1]),
@@ -301,12 +324,23 @@ fn reduced(program: &Program, rule: &Rule, assigned: &Values, terms: &mut Vec<Ke
         Some(())
     };
     match (rule.form, rule.terms) {
-        (1, body) => {
+        (1 | 8, body) => {
+            let start = terms.len();
             for t in body {
                 if number(t) > 0 && is_founded(t) {
                     terms.push((t[0], number(t)));
                 } else {
                     lift.c += number(t) as i32 * value(t) as i32;
+                }
+            }
+            if rule.form == 8 {
+                let (d, kept) = (rule.divisor, &mut terms[start..]);
+                if kept.iter().all(|t| t.1 % d == 0) {
+                    // what is rounded does not depend on the kept places
+                    kept.iter_mut().for_each(|t| t.1 /= d);
+                    lift.c = over_up(lift.c, d as i32);
+                } else {
+                    lift.kind = Kind::Over(d);
                 }
             }
         }
