@@ -5,11 +5,11 @@ ghost use Prim.Native.Nat.{_*_, _<_, _≤_};
 ghost use lib.ListN.{length};
 ghost use lib.Signed.{ltZ};
 ghost use Rattle.format.specs.Limits.{maxTerms};
-ghost use Rattle.program.specs.Program.{Item, ruleOf, constraintOf, termsOf, variablesAt};
+ghost use Rattle.program.specs.Program.{Item, ruleOf, constraintOf, variablesAt};
 ghost use Rattle.program.specs.Refusals.{outsideRange, notTerms, unknownForm, wrongHead, wrongCountOf, wrongConstraint, bodyForm, notFrom, itemRefusal};
 ghost use Rattle.faults.specs.Faults.{checkedNumber};
 ghost use Rattle.parts.specs.Values.{ruleHeader, constraintHeader};
-ghost use Rattle.values.specs.Lengths.{lengthRefusal, inOrder};
+ghost use Rattle.values.specs.Lengths.{lengthRefusal};
 ghost use Rattle.program.specs.declared.Variable.{Variable};
 use faults::Checked;
 use faults::Faults;
@@ -141,16 +141,6 @@ pub fn is_wrong_count(form: u8, n: usize) -> bool
     }
 }
 
-// What is wrong first: with what stands before a body, with a term of the body, or with their number, which may be wrong for another reason.
-fn first_fault(file: &[u8], variables: usize, own: Faults, body: &[u8], form: u8, count: bool) -> Checked
-    requires { ⌜ 8 * variables ≤ length (now file) ⌝ }
-    ensures { λ r. ⌜ checkedNumber r ≡ inOrder (variablesAt (now (file .entry)) variables) form (termsOf (now (body .entry))) own count ⌝ }
-{
-    let all = own.with(faults::body_faults(file, variables, body, form));
-    let wrong = is_wrong_count(form, body.len() / 4);
-    all.first(count | wrong)
-}
-
 // A rule of a right length and of another form than 8.
 pub fn check_rule_parts(file: &[u8], variables: usize, value: &[u8]) -> Checked
     requires { ⌜ (8 * variables ≤ length (now file)) × (ruleHeader ≤ length (now value)) ⌝ }
@@ -158,14 +148,17 @@ pub fn check_rule_parts(file: &[u8], variables: usize, value: &[u8]) -> Checked
     ensures { λ r. ⌜ checkedNumber r ≡ itemRefusal (variablesAt (now (file .entry)) variables) (Item.rule (ruleOf (now (value .entry)))) ⌝ }
 {
     let rule = rules::header(value);
+    let body = rules::body(value);
+    let form = rule.form;
     let own = Faults {
-        form: is_unknown_form(rule.form),
+        form: is_unknown_form(form),
         range: format::is_number_beyond(rule.c),
         variable: is_wrong_head(file, variables, rule.head),
         repeated: false,
         negative: false,
     };
-    first_fault(file, variables, own, rules::body(value), rule.form, false)
+    let all = own.with(faults::body_faults(file, variables, body, form));
+    all.first(is_wrong_count(form, body.len() / 4))
 }
 
 // A rule of a right length and of form 8.
@@ -176,6 +169,7 @@ pub fn check_divided_parts(file: &[u8], variables: usize, value: &[u8]) -> Check
 {
     let rule = rules::header(value);
     let part = rules::divisor_part(value);
+    let body = rules::body(value);
     let divisor = divisors::divisor_faults(part);
     let own = Faults {
         form: divisor.form,
@@ -184,7 +178,9 @@ pub fn check_divided_parts(file: &[u8], variables: usize, value: &[u8]) -> Check
         repeated: false,
         negative: false,
     };
-    first_fault(file, variables, own, rules::body(value), 1, part.len() / 4 != 1)
+    let all = own.with(faults::body_faults(file, variables, body, 1));
+    let missing = part.len() / 4 != 1;
+    all.first(missing | is_wrong_count(1, body.len() / 4))
 }
 
 // A rule of form 8.
@@ -243,6 +239,8 @@ pub fn check_constraint_parts(file: &[u8], variables: usize, value: &[u8]) -> Ch
     ensures { λ r. ⌜ checkedNumber r ≡ itemRefusal (variablesAt (now (file .entry)) variables) (Item.constraint (constraintOf (now (value .entry)))) ⌝ }
 {
     let constraint = constraints::header(value);
+    let body = constraints::body(value);
+    let form = body_form(constraint.form);
     let own = Faults {
         form: is_wrong_constraint(constraint.form, constraint.c),
         range: format::is_number_beyond(constraint.c),
@@ -250,8 +248,8 @@ pub fn check_constraint_parts(file: &[u8], variables: usize, value: &[u8]) -> Ch
         repeated: false,
         negative: false,
     };
-    let form = body_form(constraint.form);
-    first_fault(file, variables, own, constraints::body(value), form, false)
+    let all = own.with(faults::body_faults(file, variables, body, form));
+    all.first(is_wrong_count(form, body.len() / 4))
 }
 
 pub fn check_constraint(file: &[u8], variables: usize, value: &[u8]) -> Checked
