@@ -76,35 +76,15 @@ fn beyond(z: i64, m: i64) -> bool {
 
 // ---- the parts of a rule's value: form, head, c, of form 8 its divisor, then its body
 
-fn divisor_terms(form: u8) -> usize {
-    match form {
-        8 => 1,
-        _ => 0,
-    }
-}
-
-/// The form as which the terms of a body are read.
-fn term_form(form: u8) -> u8 {
-    match form {
-        8 => 1,
-        _ => form,
-    }
-}
-
-fn body_start(v: &[u8]) -> usize {
-    let start = 4 + 4 * divisor_terms(v[0]);
-    if start <= v.len() {
-        start
-    } else {
-        v.len()
-    }
-}
-
+/// Of form 8; shorter where the value ends before.
 fn divisor_part(v: &[u8]) -> &[u8] {
-    &v[4..body_start(v)]
+    if v.len() < 8 {
+        return &v[4..];
+    }
+    &v[4..8]
 }
 
-/// 1 where there is none.
+/// Of form 8; 1 where it is missing.
 fn divisor(v: &[u8]) -> i64 {
     let part = divisor_part(v);
     if part.len() < 4 {
@@ -113,8 +93,20 @@ fn divisor(v: &[u8]) -> i64 {
     number(part, 2)
 }
 
+/// Of form 8; empty where the value ends before.
+fn divided_body(v: &[u8]) -> &[u8] {
+    let len = v.len();
+    if len < 8 {
+        return &v[len..];
+    }
+    &v[8..]
+}
+
 fn body(v: &[u8]) -> &[u8] {
-    &v[body_start(v)..]
+    if v[0] == 8 {
+        return divided_body(v);
+    }
+    &v[4..]
 }
 
 fn positions(v: &[u8]) -> usize {
@@ -171,45 +163,102 @@ fn wrong_count(form: u8, n: usize) -> bool {
     }
 }
 
-fn value_refusal(file: &[u8], tag: u8, v: &[u8], variables: usize) -> u8 {
-    match tag {
-        1 => {
-            if v[0] > 1 {
-                7
-            } else if beyond(number(v, 1), 30_000) || beyond(number(v, 3), 30_000) || number(v, 1) > number(v, 3) {
-                8
-            } else {
-                0
-            }
-        }
-        2 => {
-            let form = v[0];
-            let head = v[1] as usize;
-            if form == 0 || form > 8 {
-                return 7;
-            }
-            let (part, body, as_form) = (divisor_part(v), body(v), term_form(form));
-            let (wrong, outside) = divisor_faults(part);
-            let undeclared = head >= variables || kind(file, head) != 1;
-            let flags = [wrong, beyond(number(v, 2), 30_000) | outside, undeclared];
-            let divided = part.len() / 4 != divisor_terms(form);
-            body_refusal(file, variables, as_form, body, flags, divided | wrong_count(as_form, body.len() / 4))
-        }
-        _ => {
-            let form = v[0];
-            if form == 0 || form > 2 {
-                return 7;
-            }
-            let c = number(v, 1);
-            let as_rule = if form == 1 { 1 } else { 6 };
-            let flags = [form == 2 && c != 0, beyond(c, 30_000), false];
-            body_refusal(file, variables, as_rule, &v[3..], flags, form == 2 && v.len() < 7)
-        }
+fn terms_fit(len: usize, header: usize, most: usize) -> bool {
+    len >= header && (len - header) % 4 == 0 && (len - header) / 4 <= most
+}
+
+fn check_variable(v: &[u8]) -> u8 {
+    if v.len() != 5 {
+        6
+    } else if v[0] > 1 {
+        7
+    } else if beyond(number(v, 1), 30_000) || beyond(number(v, 3), 30_000) || number(v, 1) > number(v, 3) {
+        8
+    } else {
+        0
     }
 }
 
-fn terms_fit(len: usize, header: usize, most: usize) -> bool {
-    len >= header && (len - header) % 4 == 0 && (len - header) / 4 <= most
+fn wrong_head(file: &[u8], variables: usize, head: usize) -> bool {
+    head >= variables || kind(file, head) != 1
+}
+
+/// A rule of a right length and of another form than 8.
+fn check_rule_parts(file: &[u8], variables: usize, v: &[u8]) -> u8 {
+    let (form, head, c) = (v[0], v[1] as usize, number(v, 2));
+    let body = body(v);
+    let own = [form == 0 || form > 8, beyond(c, 30_000), wrong_head(file, variables, head)];
+    body_refusal(file, variables, form, body, own, wrong_count(form, body.len() / 4))
+}
+
+/// A rule of a right length and of form 8.
+fn check_divided_parts(file: &[u8], variables: usize, v: &[u8]) -> u8 {
+    let (head, c) = (v[1] as usize, number(v, 2));
+    let (part, body) = (divisor_part(v), body(v));
+    let (wrong, outside) = divisor_faults(part);
+    let own = [wrong, beyond(c, 30_000) | outside, wrong_head(file, variables, head)];
+    let missing = part.len() / 4 != 1;
+    body_refusal(file, variables, 1, body, own, missing | wrong_count(1, body.len() / 4))
+}
+
+/// A rule of form 8.
+fn check_divided(file: &[u8], variables: usize, v: &[u8]) -> u8 {
+    if !terms_fit(v.len(), 4, 1 + TERMS) {
+        return 6;
+    }
+    check_divided_parts(file, variables, v)
+}
+
+fn check_rule(file: &[u8], variables: usize, v: &[u8]) -> u8 {
+    if v.len() < 4 {
+        return 6;
+    }
+    if v[0] == 8 {
+        return check_divided(file, variables, v);
+    }
+    if !terms_fit(v.len(), 4, TERMS) {
+        return 6;
+    }
+    check_rule_parts(file, variables, v)
+}
+
+/// The rule form whose terms a constraint's form has.
+fn body_form(form: u8) -> u8 {
+    match form {
+        1 => 1,
+        2 => 6,
+        _ => 0,
+    }
+}
+
+fn wrong_constraint(form: u8, c: i64) -> bool {
+    match form {
+        1 => false,
+        2 => c != 0,
+        _ => true,
+    }
+}
+
+/// A constraint of a right length.
+fn check_constraint_parts(file: &[u8], variables: usize, v: &[u8]) -> u8 {
+    let (c, body, form) = (number(v, 1), &v[3..], body_form(v[0]));
+    let own = [wrong_constraint(v[0], c), beyond(c, 30_000), false];
+    body_refusal(file, variables, form, body, own, wrong_count(form, body.len() / 4))
+}
+
+fn check_constraint(file: &[u8], variables: usize, v: &[u8]) -> u8 {
+    if !terms_fit(v.len(), 3, TERMS) {
+        return 6;
+    }
+    check_constraint_parts(file, variables, v)
+}
+
+fn check_value(file: &[u8], v: &[u8], tag: u8, variables: usize) -> u8 {
+    match tag {
+        1 => check_variable(v),
+        2 => check_rule(file, variables, v),
+        _ => check_constraint(file, variables, v),
+    }
 }
 
 fn field_refusal(file: &[u8], at: usize, before: u8, k: Counts) -> u8 {
@@ -231,15 +280,7 @@ fn field_refusal(file: &[u8], at: usize, before: u8, k: Counts) -> u8 {
     if full {
         return 5;
     }
-    let fits = match tag {
-        1 => len == 5,
-        2 => len >= 4 && terms_fit(len, 4, divisor_terms(file[at + 3]) + TERMS),
-        _ => terms_fit(len, 3, TERMS),
-    };
-    if !fits {
-        return 6;
-    }
-    value_refusal(file, tag, &file[at + 3..at + 3 + len], k.variables)
+    check_value(file, &file[at + 3..at + 3 + len], tag, k.variables)
 }
 
 #[derive(Clone, Copy, PartialEq, Eq)]
@@ -251,8 +292,8 @@ enum Direction {
 
 fn direction(file: &[u8], v: &[u8], i: usize) -> Direction {
     let t = &body(v)[4 * i..4 * i + 4];
-    match term_form(v[0]) {
-        1 if number(t, 2) < 0 => Direction::Falling,
+    match v[0] {
+        1 | 8 if number(t, 2) < 0 => Direction::Falling,
         5 => {
             let x = t[0] as usize;
             if low(file, x) >= 0 {
@@ -378,7 +419,7 @@ fn extreme(most: bool, a: i64, b: i64) -> i64 {
 
 /// What the rule in a field's value gives, kept positions read in the model.
 fn gives(v: &[u8], mask: u32, model: &Values, assigned: &Values) -> Option<i64> {
-    let (form, c, d) = (term_form(v[0]), number(v, 2), divisor(v));
+    let (form, c) = (v[0], number(v, 2));
     let body = body(v);
     let terms = body.len() / 4;
     let at = |i: usize| {
@@ -389,10 +430,15 @@ fn gives(v: &[u8], mask: u32, model: &Values, assigned: &Values) -> Option<i64> 
             assigned[x]
         }
     };
+    let sum = || c + (0..terms).map(|i| number(body, 4 * i + 2) * at(i)).sum::<i64>();
+    let divided = |divisor: i64| over_up(sum(), divisor);
     let all = || (0..terms).all(|i| holds(&body[4 * i..4 * i + 4], at(i)));
     let pick = |most: bool| (1..terms).fold(at(0), |found, i| extreme(most, found, at(i)));
+    if form == 8 {
+        return Some(divided(divisor(v)));
+    }
     match form {
-        1 => Some(over_up(c + (0..terms).map(|i| number(body, 4 * i + 2) * at(i)).sum::<i64>(), d)),
+        1 => Some(sum()),
         2 => Some(c + pick(true)),
         3 => Some(c + pick(false)),
         4 => Some(c + at(0) * at(1)),
