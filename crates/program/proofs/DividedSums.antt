@@ -1,17 +1,16 @@
 -- What rules of forms 1 and 8 give, in the words of documents 01 and 02: they have no literals, so they always give their amount.
 use Prim.Native.Nat.{ℕ, _<_}
 use mathlib.Core.Path.{_≡_, refl, sym, ap, _∙_}
-use mathlib.Core.Bool.{true, false}
 use native.Mathlib.Omega.{arith}
 use lib.IntN.{ℤ, pos, _+ℤ_, _-ℤ_, _*ℤ_}
 use lib.Signed.{_≤ℤ_, _<ℤ_}
 use mathlib.Core.List.{List, [], _∷_}
 use lib.ListN.{length}
-use Rattle.program.specs.Program.{Rule, divisorTerms, termForm, byOne, divisorOf, termIn}
-use Rattle.program.specs.Evaluate.{sumBelow, allHold, overUp, amount, evaluate}
+use Rattle.program.specs.Program.{Rule, termForm, divisorOf, termIn}
+use Rattle.program.specs.Evaluate.{sumBelow, overUp, amount, evaluate}
 use Rattle.program.specs.declared.Variable.{Variable}
 use Rattle.program.specs.declared.Term.{Term}
-use Rattle.program.specs.declared.Given.the-variants.{Nothing, Value}
+use Rattle.program.specs.declared.Given.the-variants.{Value}
 use Rattle.program.proofs.Forms.{divisor-none, read-as-sum, read-as-itself}
 use Rattle.program.proofs.Promises.{RulePromise, plain-position, divisor-least}
 use Rattle.program.proofs.Gives.{amount-sum, given-is, plain-hold}

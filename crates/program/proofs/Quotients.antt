@@ -1,13 +1,12 @@
 -- A quotient rounded up is the smallest whole number not below the exact one: its multiple by the divisor reaches the number, and that of no smaller one
 -- does. From these two it follows that no other number is it, that it rises with the number divided, and that over 1 it is that number.
-use Prim.Native.Nat.{ℕ, zero, suc, _+_, _-_, _*_, _/_, _%_, _<_, _≤_}
-use mathlib.Core.Path.{_≡_, refl, ap}
-use mathlib.Core.Bool.{Bool, true, false, not}
+use Prim.Native.Nat.{ℕ, zero, suc, _+_, _-_, _*_, _/_, _<_, _≤_}
+use mathlib.Core.Path.{_≡_, ap}
+use mathlib.Core.Bool.{not}
 use native.Mathlib.Omega.{arith}
 use native.Mathlib.Nat.{div-add-mod, mod-lt, mul-comm, mul-le-mul-left, div-lt-iff-lt-mul, le-div-iff-mul-le}
-use lib.IntN.{ℤ, pos, negsuc, negℤ, natAbs, _-ℤ_, _*ℤ_}
+use lib.IntN.{ℤ, pos, negsuc, negℤ, _-ℤ_, _*ℤ_}
 use lib.Signed.{_≤ℤ_, _<ℤ_, leZ}
-use lib.Dec.{T}
 use Rattle.format.proofs.Int.{int, sum-is, product-is, times-pos}
 use Rattle.program.specs.Evaluate.{overUp}
 use Rattle.program.proofs.Tests.{cases}

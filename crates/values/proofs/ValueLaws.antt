@@ -12,10 +12,11 @@ use borrow.Author.Tests.{eq-eqb, ne-eqb, eqb-true, lt-ltb, le-ltb, le-leb, lt-le
 use Rattle.format.specs.Limits.{maxNumber, maxTerms}
 use Rattle.format.specs.Numbers.{beyond}
 use Rattle.program.specs.Tables.{_when_, firstOf, anyBelow}
-use Rattle.program.specs.Program.{variable, rule, constraint, divisorTerms, termForm, variableOf, ruleDivisor, ruleBody, ruleOf, constraintBody, constraintOf, termsOf, termIn, variableIn, variablesAt}
+use Rattle.program.specs.Program.{variable, rule, constraint, divisorTerms, variableOf, ruleDivisor}
+use Rattle.program.specs.Program.{ruleBody, ruleOf, constraintBody, constraintOf, termsOf, termIn, variableIn, variablesAt}
 use Rattle.program.specs.Refusals.{anyTerm, wrongDivisor, outsideDivisor, wrongDivisors, wrongLength, notTerms, wrongForm, outsideRange, undeclared, wrongCount}
-use Rattle.program.specs.Refusals.{variableTwice, negativeProduct, itemRefusal, unknownForm, wrongHead, wrongCountOf, wrongConstraint, bodyForm, wrongTerm, outsideTerm}
-use Rattle.program.specs.Refusals.{undeclaredTerm, repeatedTerm, negativeTerm, notFrom}
+use Rattle.program.specs.Refusals.{variableTwice, negativeProduct, itemRefusal, unknownForm, wrongHead, wrongCountOf, wrongConstraint, bodyForm}
+use Rattle.program.specs.Refusals.{negativeTerm, notFrom}
 use Rattle.program.proofs.Bodies.{terms-length}
 use Rattle.program.proofs.Forms.{divisor-own, divisor-none, divisor-few, read-as-sum, read-as-itself}
 use Rattle.program.proofs.Conditions.{below-none, none-below, never}

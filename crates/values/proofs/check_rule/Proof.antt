@@ -24,7 +24,8 @@ is-not-terms-requires c κs = search needs
 
 returns-3 : tie.Need-returns-3
 returns-3 c =
-    rule-length _ (c .before .before .before .before .before .before .before .args .value .now) 0 (divisor-none _ (c .before .before .if2 .left)) (sym (c .before .is-not-terms .ensures) ∙ c .if3 .taken)
+    rule-length _ (c .before .before .before .before .before .before .before .args .value .now) 0 (divisor-none _ (c .before .before .if2 .left))
+    (sym (c .before .is-not-terms .ensures) ∙ c .if3 .taken)
 
 check-rule-parts-requires : tie.Need-check-rule-parts-requires
 check-rule-parts-requires c κs = search needs

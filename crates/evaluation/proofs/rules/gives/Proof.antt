@@ -50,19 +50,22 @@ is-met-requires c κs =
 returns-2 : tie.Need-returns-2
 returns-2 c =
     let a = c .before .before .before .before .before .before .before .args in
-    given-nothing (a .value .now) (c .before .before .before .before .before .header .ensures) (c .before .before .before .before .body .ensures) (a .kept) (a .first .now) (a .second .now)
+    given-nothing (a .value .now) (c .before .before .before .before .before .header .ensures) (c .before .before .before .before .body .ensures)
+    (a .kept) (a .first .now) (a .second .now)
     (sym (not-true _ (c .if2 .taken)) ∙ c .before .is-met .ensures)
 
 amount-requires : tie.Need-amount-requires
 amount-requires c κs =
     let s = c .before .before .before .before .before .before .before in
-    (handed-evaluable (s .args .value .now) (c .before .before .before .before .before .header .ensures) (c .before .before .before .before .body .ensures) (c .before .before .if1 .left) (s .pre .0), s .pre .1 .1)
+    let h = c .before .before .before .before .before .header .ensures in
+    (handed-evaluable (s .args .value .now) h (c .before .before .before .before .body .ensures) (c .before .before .if1 .left) (s .pre .0), s .pre .1 .1)
 
 returns-3 : tie.Need-returns-3
 returns-3 c =
     let a = c .before .before .before .before .before .before .before .before .args in
     let z : toZ w64 (ofZ w64 (c .amount .result)) ≡ c .amount .result = search needs in
-    given-value (a .value .now) (c .before .before .before .before .before .before .header .ensures) (c .before .before .before .before .before .body .ensures) (c .before .before .before .if1 .left)
+    let h = c .before .before .before .before .before .before .header .ensures in
+    given-value (a .value .now) h (c .before .before .before .before .before .body .ensures) (c .before .before .before .if1 .left)
     (a .kept) (a .first .now) (a .second .now) (sym (not-false _ (c .before .if2 .left)) ∙ c .before .before .is-met .ensures) (z ∙ c .amount .ensures)
 
 pub gives-spec : {M : Type 1} → statement M
