@@ -168,9 +168,9 @@ module _ {s : List ℕ} {k : Counts} (c : Counted s k) where
         let r = share-row _ _ h v (rw (rule-is c i l) at (o .shares)) in
         never (ap₂ _&&_ m r) (none-below _ _ e (o .at) inside)
 
-    judged-by : (r : Outcome) → JudgedBy t s k r → Judges s (c .fields) r
-    judged-by Valid h = λ i o. let l : i < k .rules = rw (c .describes .rules-are) at (o .among) in offends-row i l (h i l) o
-    judged-by (Offending at) f =
+    outcome-is-by : (r : Outcome) → JudgedBy t s k r → Judges s (c .fields) r
+    outcome-is-by Valid h = λ i o. let l : i < k .rules = rw (c .describes .rules-are) at (o .among) in offends-row i l (h i l) o
+    outcome-is-by (Offending at) f =
         let r = rule-stands c (f .rule) (f .among) in
         record {
           field = k .variables + f .rule;
@@ -185,11 +185,11 @@ module _ {s : List ℕ} {k : Counts} (c : Counted s k) where
         }
 
   -- the answers, whatever number of fields the file is said to have
-  pub judged-none : mixedRule s k ≡ false → (n : ℕ) → Whole s n → Judges s n Valid
-  judged-none e n w = subst (λ (n : ℕ). Judges s n Valid) (whole-unique (c .whole) w) (none-mixed e)
+  pub outcome-is-none : mixedRule s k ≡ false → (n : ℕ) → Whole s n → Judges s n Valid
+  outcome-is-none e n w = subst (λ (n : ℕ). Judges s n Valid) (whole-unique (c .whole) w) (none-mixed e)
 
-  pub judged : {t₀ t₁ t : ℕ → ℕ → Bool} (r : Outcome) → ((a b : ℕ) → t₀ a b ≡ false) → Grown t₀ t₁ (edgeIn s k)
+  pub outcome-is : {t₀ t₁ t : ℕ → ℕ → Bool} (r : Outcome) → ((a b : ℕ) → t₀ a b ≡ false) → Grown t₀ t₁ (edgeIn s k)
       → Reached t₁ t (k .variables) (k .variables) → JudgedBy t s k r → (n : ℕ) → Whole s n → Judges s n r
-  judged r z g closed h n w =
+  outcome-is r z g closed h n w =
       subst (λ (n : ℕ). Judges s n r) (whole-unique (c .whole) w)
-      (judged-by (λ a b ha hb. g .is a b ha hb ∙ ap (λ (x : Bool). x || edgeIn s k a b) (z a b)) closed r h)
+      (outcome-is-by (λ a b ha hb. g .is a b ha hb ∙ ap (λ (x : Bool). x || edgeIn s k a b) (z a b)) closed r h)

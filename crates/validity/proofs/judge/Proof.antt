@@ -4,7 +4,7 @@ use mathlib.Core.Path.{sym, _∙_}
 use borrow.Author.Tests.{not-true}
 use Rattle.reach.specs.Rows.{rowsLength}
 use Rattle.validity.proofs.RuleLaws.{variables-few}
-use Rattle.validity.proofs.ComponentLaws.{rows-none, judged-none, judged}
+use Rattle.validity.proofs.ComponentLaws.{rows-none, outcome-is-none, outcome-is}
 use borrow.Author.Needs.{needs}
 use Rattle.validity.proofs.judge.Statement.{statement}
 use Rattle.validity.proofs.judge.Tie as tie
@@ -13,7 +13,7 @@ any-mixed-requires : tie.Need-any-mixed-requires
 any-mixed-requires c κs = search needs
 
 returns : tie.Need-returns
-returns c = judged-none (c .before .before .before .pre) (sym (c .before .any-mixed .ensures) ∙ not-true _ (c .if1 .taken))
+returns c = outcome-is-none (c .before .before .before .pre) (sym (c .before .any-mixed .ensures) ∙ not-true _ (c .if1 .taken))
 
 mark-edges-requires : tie.Need-mark-edges-requires
 mark-edges-requires c κs = search needs
@@ -27,7 +27,7 @@ first-offending-requires c κs = search needs
 returns-2 : tie.Need-returns-2
 returns-2 c =
     let m = c .before .before .before .before in
-    judged (m .before .before .before .before .before .pre) (c .first-offending .result) (rows-none rowsLength)
+    outcome-is (m .before .before .before .before .before .pre) (c .first-offending .result) (rows-none rowsLength)
     (m .mark-edges .ensures .1) (c .before .before .close .ensures .1) (c .first-offending .ensures)
 
 pub judge-spec : {M : Type 1} → statement M
