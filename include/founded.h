@@ -41,7 +41,7 @@ extern "C" {
 #define FOUNDED_CHECK_BYTES 12u     /* at least, of the report that founded_check writes */
 
 /*
- * ---- stack of a thread that makes the call and little else. In the tests the calls touched at most 8,600, 102,900 and 103,100 bytes; the
+ * ---- stack of a thread that makes the call and little else. In the tests the calls touched at most 8,700, 102,900 and 103,200 bytes; the
  * rest is for the thread's own start and a margin.
  */
 
