@@ -4,14 +4,14 @@ use mathlib.Core.Path.{_≡_, sym, ap, subst, _∙_}
 use mathlib.Core.Bool.{Bool, true, false}
 use mathlib.Core.List.{List}
 use lib.IntN.{ℤ, pos}
-use lib.ListN.{length, getD}
+use lib.ListN.{length}
 use borrow.Author.Tests.{ne-eqb}
 use Rattle.program.specs.Program.{ruleOf, ruleBody, termForm, divisorOf, termsOf}
 use Rattle.program.specs.Evaluate.{allHold, amountOf, evaluate}
 use Rattle.program.specs.Evaluable.{Plain, hasLiterals, EvaluableAs, Evaluable}
 use Rattle.program.specs.declared.Given.the-variants.{Nothing, Value}
 use Rattle.program.proofs.Gives.{given-is, plain-hold}
-use Rattle.program.proofs.Forms.{divisor-none, read-as-sum, read-as-itself}
+use Rattle.program.proofs.Forms.{divided-by-one, read-as-sum, read-as-itself}
 use Rattle.parts.specs.Values.{HeaderIs, Handed}
 use Rattle.parts.specs.declared.rules.RuleHeader.{RuleHeader}
 use Rattle.bodies.specs.Readings.{readingOf}
@@ -19,11 +19,6 @@ use Rattle.bodies.specs.Readings.{readingOf}
 -- forms other than 6 and 7 have no literals, and all of none hold
 pub no-literals : (form : ℕ) → (form ≡ 6 → ⊥) → (form ≡ 7 → ⊥) → hasLiterals form ≡ false
 no-literals form h k = simp (ne-eqb form 6 h, ne-eqb form 7 k)
-
--- a form other than 8 has no divisor, and is divided by 1
-undivided : (v : List ℕ) → (getD v 0 0 ≡ 8 → ⊥) → divisorOf (ruleOf v) ≡ pos 1
-unfolding termsOf
-undivided v f = rw (← divisor-none (getD v 0 0) f)
 
 module _ (v : List ℕ) {h : RuleHeader} {b : List ℕ} (x : HeaderIs v h) (y : Handed (ruleBody v) b) where
   module _ (kept : ℕ) (first second : List ℤ) where
@@ -43,7 +38,7 @@ module _ (v : List ℕ) {h : RuleHeader} {b : List ℕ} (x : HeaderIs v h) (y : 
     itself = read-as-itself (h .form) f ∙ ap termForm (x .form-is)
 
     one : divisorOf (ruleOf v) ≡ pos 1
-    one = undivided v (λ e. f (x .form-is ∙ e))
+    one = divided-by-one v (λ e. f (x .form-is ∙ e))
 
     pub handed-evaluable : Evaluable (ruleOf v) → EvaluableAs (h .form) (h .c) (pos 1) (termsOf b)
     handed-evaluable e = rw (itself, x .c-is, ← one, y .is) e

@@ -13,8 +13,7 @@ use Rattle.program.specs.Fields.{lengthAt, valueAt}
 use Rattle.program.specs.Program.{variableOf, variableIn, variablesAt, divisorTerms, byOne, divisorOf, ruleDivisor, ruleBody, ruleOf, termsOf, termIn, noTerm}
 use Rattle.program.proofs.Bodies.{terms-length, termAt, term-at}
 use Rattle.program.proofs.Places.{variable-at}
-use Rattle.program.proofs.Forms as forms
-use Rattle.program.proofs.Forms.{divisor-own}
+use Rattle.program.proofs.Forms.{divisor-own, divisor-none, none-is-one}
 use Rattle.parts.specs.Values.{Handed}
 use Rattle.program.specs.declared.Variable.{Variable}
 use Rattle.program.specs.declared.Term.{Term}
@@ -32,7 +31,7 @@ handed h v l = handed-as (take-all (length v - h) (drop h v) (simp length-drop (
 module _ (v : List ℕ) where
   -- a form other than 8 has no divisor
   pub undivided-body : (ruleOf v .form ≡ 8 → ⊥) → 4 ≤ length v → Handed (ruleBody v) (take (length v - 4) (drop 4 v))
-  undivided-body f h = rw (← forms.divisor-none (getD v 0 0) f) (handed 4 v h)
+  undivided-body f h = rw (← divisor-none (getD v 0 0) f) (handed 4 v h)
 
   module _ (e : ruleOf v .form ≡ 8) where
     divided-bytes : 4 * divisorTerms (getD v 0 0) ≡ 4
@@ -56,12 +55,8 @@ module _ (v : List ℕ) where
 
 module _ (v : List ℕ) {b : List ℕ} (h : Handed (ruleDivisor v) b) where
   -- of no term, and of the first
-  pub divisor-none : length b < 4 → pos 1 ≡ divisorOf (ruleOf v)
-  divisor-none l = go (ruleOf v .divisor) (omega (arith, h .many))
-    where
-      go : (ts : List Term) → length ts ≡ 0 → pos 1 ≡ getD ts 0 byOne .number
-      go [] e = refl
-      go (t ∷ ts) e = let f : ⊥ = omega arith in absurd f
+  pub divisor-missing : length b < 4 → pos 1 ≡ divisorOf (ruleOf v)
+  divisor-missing l = sym (none-is-one (ruleOf v .divisor) (omega (arith, h .many)))
 
   pub divisor-first : {t : Term} → 4 ≤ length b → t ≡ termIn (termsOf b) 0 → t .number ≡ divisorOf (ruleOf v)
   divisor-first {t} l e = ap (λ (u : Term). u .number) (e ∙ ap (λ (c : List ℕ). termIn (termsOf c) 0) (h .is)) ∙ go (ruleOf v .divisor) (omega (arith, h .many))

@@ -1,17 +1,16 @@
 -- What rules of forms 1 and 8 give, in the words of documents 01 and 02: they have no literals, so they always give their amount.
 use Prim.Native.Nat.{ℕ, _<_}
-use mathlib.Core.Path.{_≡_, refl, sym, ap, _∙_}
+use mathlib.Core.Path.{_≡_, sym, ap, _∙_}
 use native.Mathlib.Omega.{arith}
 use lib.IntN.{ℤ, pos, _+ℤ_, _-ℤ_, _*ℤ_}
 use lib.Signed.{_≤ℤ_, _<ℤ_}
-use mathlib.Core.List.{List, [], _∷_}
+use mathlib.Core.List.{List}
 use lib.ListN.{length}
 use Rattle.program.specs.Program.{Rule, termForm, divisorOf, termIn}
 use Rattle.program.specs.Evaluate.{sumBelow, overUp, amount, evaluate}
 use Rattle.program.specs.declared.Variable.{Variable}
-use Rattle.program.specs.declared.Term.{Term}
 use Rattle.program.specs.declared.Given.the-variants.{Value}
-use Rattle.program.proofs.Forms.{divisor-none, read-as-sum, read-as-itself}
+use Rattle.program.proofs.Forms.{divisor-none, none-is-one, read-as-sum, read-as-itself}
 use Rattle.program.proofs.Promises.{RulePromise, plain-position, divisor-least}
 use Rattle.program.proofs.Gives.{amount-sum, given-is, plain-hold}
 use Rattle.program.proofs.Quotients.{over-one, over-up-reaches, over-up-first}
@@ -31,11 +30,7 @@ module _ {vs : List Variable} {r : Rule} (p : RulePromise vs r) (at : ℕ → �
   sum-gives h =
       let none = p .divided ∙ sym (divisor-none (r .form) (omega arith)) in
       sum-given (sym (read-as-itself (r .form) (omega arith)) ∙ h)
-      ∙ ap Value (ap (λ (d : ℤ). overUp d (total r at)) (undivided (r .divisor) none) ∙ over-one (total r at))
-    where
-      undivided : (ts : List Term) → length ts ≡ 0 → divisorOf (record { form = r .form; head = r .head; c = r .c; divisor = ts; terms = r .terms }) ≡ pos 1
-      undivided [] e = refl
-      undivided (t ∷ ts) e = let f : ⊥ = omega arith in absurd f
+      ∙ ap Value (ap (λ (d : ℤ). overUp d (total r at)) (none-is-one (r .divisor) none) ∙ over-one (total r at))
 
   -- "the smallest whole number not below the sum, c included, over the divisor"
   pub record Quotient (q : ℤ) : Type 0 where

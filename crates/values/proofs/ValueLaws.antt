@@ -18,7 +18,7 @@ use Rattle.program.specs.Refusals.{anyTerm, wrongDivisor, outsideDivisor, wrong
 use Rattle.program.specs.Refusals.{variableTwice, negativeProduct, itemRefusal, unknownForm, wrongHead, wrongCountOf, wrongConstraint, bodyForm}
 use Rattle.program.specs.Refusals.{negativeTerm, notFrom}
 use Rattle.program.proofs.Bodies.{terms-length}
-use Rattle.program.proofs.Forms.{divisor-own, divisor-none, divisor-few, read-as-sum, read-as-itself}
+use Rattle.program.proofs.Forms.{divisor-own, divisor-none, divisor-few, no-divisor, read-as-sum, read-as-itself}
 use Rattle.program.proofs.Conditions.{below-none, none-below, never}
 use Rattle.program.proofs.Places.{variables-length, sized-terms}
 use Rattle.parts.specs.Values.{Handed}
@@ -248,17 +248,13 @@ module _ (vs : List Variable) {body b : List ℕ} {form g : ℕ} (y : Handed bod
 module _ (vs : List Variable) (v : List ℕ) (n : ℕ) where
   -- of a form other than 8: no divisor stands there, and none is asked for
   module _ (f : ruleOf v .form ≡ 8 → ⊥) where
-    no-divisor : ruleOf v .divisor ≡ []
-    unfolding termsOf
-    no-divisor = rw (← divisor-none (getD v 0 0) f)
-
     none-wrong : (p : ℕ → Term → Bool) → anyTerm (ruleOf v .divisor) p ≡ false
     unfolding anyBelow
-    none-wrong p = ap (λ (ts : List Term). anyTerm ts p) no-divisor
+    none-wrong p = ap (λ (ts : List Term). anyTerm ts p) (no-divisor v f)
 
     none-asked : false ≡ wrongDivisors (ruleOf v)
     unfolding wrongDivisors
-    none-asked = sym (ap₂ (λ (ts : List Term) (k : ℕ). not (eqb (length ts) k)) no-divisor (sym (divisor-none (getD v 0 0) f)))
+    none-asked = sym (ap₂ (λ (ts : List Term) (k : ℕ). not (eqb (length ts) k)) (no-divisor v f) (sym (divisor-none (getD v 0 0) f)))
 
     pub rule-refusal : {form : ℕ} {b : List ℕ} {u w h : Bool} → form ≡ ruleOf v .form → Handed (ruleBody v) b
         → u ≡ unknownForm (ruleOf v .form) → w ≡ beyond maxNumber (ruleOf v .c) → h ≡ wrongHead vs (ruleOf v .head)

@@ -3,7 +3,7 @@ use mathlib.Core.Path.{_≡_, _∙_}
 use native.Mathlib.Omega.{arith}
 use mir.Syntax.{w64}
 use mir.Val.{toZ, ofZ}
-use Rattle.parts.proofs.Bytes.{divisor-none, divisor-first}
+use Rattle.parts.proofs.Bytes.{divisor-missing, divisor-first}
 use borrow.Author.Needs.{needs}
 use Rattle.parts.proofs.rules.divisor.Statement.{statement}
 use Rattle.parts.proofs.rules.divisor.Tie as tie
@@ -12,7 +12,7 @@ divisor-part-requires : tie.Need-divisor-part-requires
 divisor-part-requires c κs = search needs
 
 returns : tie.Need-returns
-returns c = divisor-none (c .before .before .before .args .value .now) (c .before .divisor-part .ensures) (omega arith)
+returns c = divisor-missing (c .before .before .before .args .value .now) (c .before .divisor-part .ensures) (omega arith)
 
 term-requires : tie.Need-term-requires
 term-requires c κs = search needs
