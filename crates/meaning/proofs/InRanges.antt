@@ -3,12 +3,11 @@ use Prim.Native.Nat.{ℕ, zero, suc, _+_, _*_, _<_, _≤_}
 use mathlib.Core.Path.{_≡_}
 use mathlib.Core.List.{List, [], _∷_}
 use native.Mathlib.Omega.{arith}
-use lib.IntN.{ℤ, pos, negsuc, natAbs}
-use lib.Signed.{_≤ℤ_}
+use lib.IntN.{ℤ, pos, natAbs}
 use lib.ListN.{length, List·getD-eq-default}
 use lib.Dec.{T, ltb, ltb→lt, nltb→le}
 use Rattle.format.specs.Limits.{maxNumber}
-use Rattle.format.proofs.Int.{int, abs-is}
+use Rattle.format.proofs.Int.{int}
 use Rattle.program.specs.Program.{Program, noVariable, variableIn}
 use Rattle.program.proofs.Promises.{VariablePromise, Promises}
 use Rattle.meaning.specs.Founded.{Within}
@@ -20,7 +19,7 @@ use Rattle.program.specs.Readings.{Valuation, valued}
 use Rattle.program.specs.declared.Variable.{Variable}
 use Rattle.program.specs.Evaluable.{Small}
 use Rattle.program.proofs.Tests.{cases, is-true, is-test}
-use Rattle.program.proofs.Variables.{low-in, high-in}
+use Rattle.program.proofs.Variables.{low-in, high-in, between-small}
 
 -- a founded variable is declared
 pub founded-declared : (vs : List Variable) (v : ℕ) → T (isFounded (variableIn vs v)) → v < length vs
@@ -64,15 +63,11 @@ ranged [] x h = (omega arith, omega arith)
 ranged (v ∷ vs) zero h = let p = h 0 (omega arith) in (p .low-small, p .high-small)
 ranged (v ∷ vs) (suc x) h = ranged vs x (λ y l. h (suc y) (omega arith))
 
-between : (n : ℕ) (l z h : ℤ) → l ≤ℤ z → z ≤ℤ h → natAbs l ≤ n → natAbs h ≤ n → natAbs z ≤ n
-between n l (pos z) h p q a b = omega (int, abs-is h)
-between n l (negsuc z) h p q a b = omega (int, abs-is l)
-
 pub value-small : {P : Program} → Promises P → {m : Valuation} → Within (system P) m → (v : ℕ) → natAbs (m v) ≤ maxNumber
 value-small {P} p {m} w v =
     let r = ranged (P .variables) v (p .variables) in
     let x = variableIn (P .variables) v in
-    between maxNumber (x .low) (m v) (x .high) (low-in x (m v) (w .inside v)) (high-in x (m v) (w .inside v)) (r .0) (r .1)
+    between-small maxNumber (x .low) (m v) (x .high) (low-in x (m v) (w .inside v)) (high-in x (m v) (w .inside v)) (r .0) (r .1)
 
 pub within-small : {P : Program} → Promises P → (m : List ℤ) → Within (system P) (valued m) → Small m
 within-small p m = value-small p

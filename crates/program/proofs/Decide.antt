@@ -3,7 +3,7 @@ use Prim.Native.Nat.{ℕ, zero, suc, _<_}
 use mathlib.Core.Path.{_≡_, refl}
 use mathlib.Core.Logic.{_⊎_, inl, inr}
 use mathlib.Core.List.{List}
-use mathlib.Core.Bool.{Bool, true, false, _||_, _&&_}
+use mathlib.Core.Bool.{Bool, true, false, not, _||_, _&&_}
 use native.Mathlib.Omega.{arith}
 use lib.ListN.{length}
 use lib.Dec.{eqb}
@@ -12,10 +12,12 @@ use Rattle.program.specs.Tables.{anyBelow}
 use Rattle.walks.specs.Walk.{Walk, edge, step}
 use Rattle.program.specs.Program.{Program, Rule, ruleIn, termIn, program}
 use Rattle.program.specs.Directions.{direction, isMixed}
+use Rattle.program.specs.Idle.{Idle, isIdle}
 use Rattle.program.specs.Components.{draws, Reaches, Share, Offends, edge as drawn}
 use Rattle.program.specs.Reading.{Passed}
 use Rattle.program.proofs.Conditions.{never, both, some-below, below-some, last-or}
-use Rattle.program.proofs.Promises.{passed-rule}
+use Rattle.program.proofs.Promises.{passed-rule, passed-promises}
+use Rattle.program.proofs.IdleRules.{decide-idle}
 
 either : (a b : Bool) → (a || b) ≡ true → (a ≡ true) ⊎ (b ≡ true)
 either true b h = inl refl
@@ -116,7 +118,8 @@ module _ (P : Program) where
   unfolding drawn draws
   edge-start b heads x y h =
       let r = some-below (length (P .rules)) (λ i. draws P (ruleIn (P .rules) i) x y) h in
-      let e = eqb-true (ruleIn (P .rules) (r .0) .head) x (both (eqb (ruleIn (P .rules) (r .0) .head) x) _ (r .2) .0) in
+      let d = both (not (isIdle (P .variables) (ruleIn (P .rules) (r .0)))) _ (r .2) .1 in
+      let e = eqb-true (ruleIn (P .rules) (r .0) .head) x (both (eqb (ruleIn (P .rules) (r .0) .head) x) _ d .0) in
       omega (arith, heads (r .0) (r .1))
 
   module _ (b : ℕ) (heads : HeadsBelow b) where
@@ -142,8 +145,10 @@ module _ (P : Program) where
     share-test x y (inl e) = rw (eq-eqb x y e)
     share-test x y (inr w) = rw (reaches-test x y (w .0), reaches-test y x (w .1)) (or-true (eqb x y))
 
-    pub decide-offends : (i : ℕ) → i < length (P .rules) → Dec (Offends P i)
-    decide-offends i h = go (anyBelow n offending) refl
+    -- a rule whose test is idle does not offend; another does where a mixed position shares
+    decide-offends : (i : ℕ) → (h : i < length (P .rules)) → Dec (Idle P (ruleIn (P .rules) i)) → Dec (Offends P i)
+    decide-offends i h (yes q) = no (λ o. o .not-idle q)
+    decide-offends i h (no acts) = go (anyBelow n offending) refl
       where
         r : Rule
         r = ruleIn (P .rules) i
@@ -158,8 +163,17 @@ module _ (P : Program) where
         go true e =
             let f = some-below n offending e in
             let g = both (isMixed (direction (P .variables) r (f .0))) _ (f .2) in
-            yes (record { among = h; at = f .0; inside = f .1; pushes = g .0; shares = share-told (r .head) (termIn (r .terms) (f .0) .variable) (g .1) })
+            yes (record {
+              among = h;
+              not-idle = acts;
+              at = f .0;
+              inside = f .1;
+              pushes = g .0;
+              shares = share-told (r .head) (termIn (r .terms) (f .0) .variable) (g .1);
+            })
         go false e = no (λ o. never (below-some n offending (o .at) (o .inside) (rw (o .pushes) (share-test (r .head) _ (o .shares)))) e)
 
 pub decide : {s : List ℕ} {k : ℕ} → Passed s k → (i : ℕ) → i < length (program s k .rules) → Dec (Offends (program s k) i)
-decide {s} {k} p = decide-offends (program s k) (length (program s k .variables)) (λ i h. passed-rule p i h .head-declared)
+decide {s} {k} p i h =
+    decide-offends (program s k) (length (program s k .variables)) (λ i h. passed-rule p i h .head-declared) i h
+    (decide-idle (passed-promises p) (passed-rule p i h))

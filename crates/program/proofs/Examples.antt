@@ -17,11 +17,15 @@ use Rattle.program.specs.Refusals.{wrongDivisor, wrongConstraint, wrongF
 use Rattle.program.specs.Refusals.{wrongCountOf, wrongDivisors, wrongCount, repeatedTerm, variableTwice, negativeTerm, negativeProduct, itemRefusal, valueRefusal}
 use Rattle.program.specs.Refusals.{fieldRefusal}
 use Rattle.program.specs.Directions.{plainDirection, termDirection, direction, isMixed}
+use Rattle.program.specs.Variables.{start, notPast}
+use Rattle.program.specs.Evaluate.{sumBelow, pickTo, allHold, overUp, amountOf, evaluate}
+use Rattle.program.specs.Idle.{demanding, most, isIdle}
 use Rattle.program.specs.Components.{draws, edge, Offends, Valid}
-use Rattle.program.specs.Reading.{Answer, accepted, refused, Reads, bad-field, not-valid, whole}
+use Rattle.program.specs.Reading.{Answer, accepted, refused, Passed, Reads, bad-field, not-valid, whole}
 use Rattle.program.proofs.Conditions.{never, none-below}
 use Rattle.program.proofs.Places.{passed-none, passed-more}
 use Rattle.program.proofs.Unique.{reads-unique}
+use Rattle.program.proofs.IdleRules.{passed-acts}
 
 -- unfolding this unfolds the specification
 fields-compute : Unit {0}
@@ -36,8 +40,12 @@ items-compute : Unit {0}
 unfolding unknownForm wrongConstraint wrongForm outsideRange wrongHead undeclared wrongCountOf wrongDivisors wrongCount variableTwice negativeProduct itemRefusal
 items-compute = tt
 
+gives-compute : Unit {0}
+unfolding sumBelow pickTo allHold overUp amountOf evaluate start notPast demanding most isIdle
+gives-compute = tt
+
 unfoldable pub computes : Unit {0}
-unfolding fields-compute terms-compute items-compute plainDirection termDirection direction draws edge
+unfolding fields-compute terms-compute items-compute gives-compute plainDirection termDirection direction draws edge
 computes = tt
 
 -- rule i has a mixed position, and some of the first n rules has
@@ -116,18 +124,26 @@ row-12 = bad-field {k = 3} (passed-more (passed-more (passed-more (passed-none _
 abbrev sized : ℕ → ℕ → List ℕ
 sized high low = variable 1 (1 ∷ 0 ∷ 5 ∷ 1 ∷ high ∷ low ∷ 0 ∷ 10 ∷ 2 ∷ 0 ∷ 8 ∷ 5 ∷ 0 ∷ 0 ∷ 0 ∷ 1 ∷ 0 ∷ 0 ∷ 0 ∷ 2 ∷ 0 ∷ 8 ∷ 1 ∷ 1 ∷ 255 ∷ 250 ∷ 0 ∷ 0 ∷ 0 ∷ 2 ∷ [])
 
+sized-passed : Passed (sized 255 246) 4
+unfolding computes
+sized-passed = passed-more (passed-more (passed-more (passed-more (passed-none _ (lit≤ tt)) (lit< tt) refl) (lit< tt) refl) (lit< tt) refl) (lit< tt) refl
+
 pub row-13 : Reads (sized 255 246) (refused 13 16)
 unfolding computes
 row-13 =
     not-valid {k = 4} {j = 2} {i = 0}
-    (record {
-      passed = passed-more (passed-more (passed-more (passed-more (passed-none _ (lit≤ tt)) (lit< tt) refl) (lit< tt) refl) (lit< tt) refl) (lit< tt) refl;
-      ended = lit≤ tt;
-    })
+    (record { passed = sized-passed; ended = lit≤ tt })
     (lit< tt)
     (record { tagged = refl; number = refl })
     (record {
-      offends = record { among = lit< tt; at = 0; inside = lit< tt; pushes = refl; shares = inr ((0, walk.edge refl), (0, walk.edge refl)) };
+      offends = record {
+        among = lit< tt;
+        not-idle = passed-acts sized-passed 0 (lit< tt) refl;
+        at = 0;
+        inside = lit< tt;
+        pushes = refl;
+        shares = inr ((0, walk.edge refl), (0, walk.edge refl));
+      };
       first = λ j h. absurd (omega arith);
     })
 
@@ -135,18 +151,26 @@ row-13 =
 abbrev other-order : List ℕ
 other-order = variable 1 (1 ∷ 0 ∷ 5 ∷ 1 ∷ 255 ∷ 246 ∷ 0 ∷ 10 ∷ 2 ∷ 0 ∷ 8 ∷ 1 ∷ 1 ∷ 255 ∷ 250 ∷ 0 ∷ 0 ∷ 0 ∷ 2 ∷ 2 ∷ 0 ∷ 8 ∷ 5 ∷ 0 ∷ 0 ∷ 0 ∷ 1 ∷ 0 ∷ 0 ∷ 0 ∷ [])
 
+other-passed : Passed other-order 4
+unfolding computes
+other-passed = passed-more (passed-more (passed-more (passed-more (passed-none _ (lit≤ tt)) (lit< tt) refl) (lit< tt) refl) (lit< tt) refl) (lit< tt) refl
+
 pub row-13-last : Reads other-order (refused 13 27)
 unfolding computes mixed-in mixed-rule
 row-13-last =
     not-valid {k = 4} {j = 3} {i = 1}
-    (record {
-      passed = passed-more (passed-more (passed-more (passed-more (passed-none _ (lit≤ tt)) (lit< tt) refl) (lit< tt) refl) (lit< tt) refl) (lit< tt) refl;
-      ended = lit≤ tt;
-    })
+    (record { passed = other-passed; ended = lit≤ tt })
     (lit< tt)
     (record { tagged = refl; number = refl })
     (record {
-      offends = record { among = lit< tt; at = 0; inside = lit< tt; pushes = refl; shares = inr ((0, walk.edge refl), (0, walk.edge refl)) };
+      offends = record {
+        among = lit< tt;
+        not-idle = passed-acts other-passed 1 (lit< tt) refl;
+        at = 0;
+        inside = lit< tt;
+        pushes = refl;
+        shares = inr ((0, walk.edge refl), (0, walk.edge refl));
+      };
       first = none-offends _ 1 refl;
     })
 
@@ -206,14 +230,21 @@ row-9-next = bad-field {k = 1} (passed-more (passed-none _ (lit≤ tt)) (lit< tt
 abbrev own-size : List ℕ
 own-size = 1 ∷ 0 ∷ 5 ∷ 1 ∷ 255 ∷ 246 ∷ 0 ∷ 10 ∷ 2 ∷ 0 ∷ 8 ∷ 5 ∷ 0 ∷ 0 ∷ 0 ∷ 0 ∷ 0 ∷ 0 ∷ 0 ∷ []
 
+own-passed : Passed own-size 2
+unfolding computes
+own-passed = passed-more (passed-more (passed-none _ (lit≤ tt)) (lit< tt) refl) (lit< tt) refl
+
 pub row-13-own : Reads own-size (refused 13 8)
 unfolding computes
 row-13-own =
     not-valid {k = 2} {j = 1} {i = 0}
-    (record { passed = passed-more (passed-more (passed-none _ (lit≤ tt)) (lit< tt) refl) (lit< tt) refl; ended = lit≤ tt })
+    (record { passed = own-passed; ended = lit≤ tt })
     (lit< tt)
     (record { tagged = refl; number = refl })
-    (record { offends = record { among = lit< tt; at = 0; inside = lit< tt; pushes = refl; shares = inl refl }; first = λ j h. absurd (omega arith) })
+    (record {
+      offends = record { among = lit< tt; not-idle = passed-acts own-passed 0 (lit< tt) refl; at = 0; inside = lit< tt; pushes = refl; shares = inl refl };
+      first = λ j h. absurd (omega arith);
+    })
 
 -- ---- a reader whose every answer is the specification's
 

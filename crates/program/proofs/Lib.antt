@@ -17,6 +17,7 @@ pub mod Quotients
 pub mod Gives
 pub mod DividedSums
 pub mod Monotone
+pub mod IdleRules
 pub mod Examples
 pub mod Divisors
 pub mod WrongForms

@@ -1,11 +1,11 @@
 -- The laws of a variable's order, its ends and its range, from the order of the whole numbers.
-use Prim.Native.Nat.{ℕ, _<_}
+use Prim.Native.Nat.{ℕ, _<_, _≤_}
 use mathlib.Core.Path.{_≡_, sym, ap}
 use mathlib.Core.Bool.{true, false, not, cond}
 use lib.Dec.{T}
-use lib.IntN.{ℤ, pos, negℤ, _-ℤ_}
+use lib.IntN.{ℤ, pos, negsuc, negℤ, natAbs, _-ℤ_}
 use lib.Signed.{leZ, ltZ, leZ-yes, _≤ℤ_}
-use Rattle.format.proofs.Int.{int, up, sum-is, neg-is, not-negative}
+use Rattle.format.proofs.Int.{int, up, sum-is, neg-is, abs-is, not-negative}
 use Rattle.program.specs.Variables.{isFounded, start, far, notPast, inRange, noMore, started, short}
 use Rattle.program.specs.declared.Given.{Given}
 use Rattle.program.specs.declared.Given.the-variants.{Nothing, Value}
@@ -109,3 +109,8 @@ module _ (x : Variable) {b : ℤ} (a : ℤ) where
 
   pub started-standard : isFounded x ≡ false → b ≡ a → b ≡ started x a
   started-standard h e = rw h e
+
+-- a value between two small ends is small
+pub between-small : (n : ℕ) (l z h : ℤ) → l ≤ℤ z → z ≤ℤ h → natAbs l ≤ n → natAbs h ≤ n → natAbs z ≤ n
+between-small n l (pos z) h p q a b = omega (int, abs-is h)
+between-small n l (negsuc z) h p q a b = omega (int, abs-is l)

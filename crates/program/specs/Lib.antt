@@ -6,6 +6,7 @@ pub mod Refusals
 pub mod Directions
 pub mod Evaluate
 pub mod Readings
+pub mod Idle
 pub mod Components
 pub mod Reading
 pub mod ReadDemands

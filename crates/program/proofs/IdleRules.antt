@@ -1,0 +1,262 @@
+-- The most that a rule can give over ranges, and that the test of an idle rule is right: each position read where it makes the rule give most bounds
+-- every other reading, and values of the variables give that reading, since no variable stands twice in a body.
+use Prim.Native.Nat.{ℕ, zero, suc, _<_, _≤_}
+use mathlib.Core.Path.{_≡_, refl, sym, ap, _∙_, subst}
+use mathlib.Core.Logic.{_≢_}
+use mathlib.Core.List.{List}
+use mathlib.Core.Bool.{Bool, true, false, not, cond}
+use native.Mathlib.Omega.{arith}
+use lib.IntN.{ℤ, pos, natAbs, _+ℤ_}
+use lib.Signed.{_≤ℤ_, leZ, ltZ, ≤ℤ-refl}
+use lib.ListN.{length}
+use lib.Dec.{T, eqb, ltb}
+use borrow.Author.Tests.{ltb-true, ltb-false, eqb-true, eqb-false, eq-eqb, ne-eqb}
+use Rattle.format.proofs.Int.{int, sum-is}
+use Rattle.program.specs.Program.{Program, Rule, program, termForm, divisorOf, variableIn, ruleIn, termIn}
+use Rattle.program.specs.Refusals.{literalPosition}
+use Rattle.program.specs.Variables.{start, notPast, inRange, noMore}
+use Rattle.program.specs.Directions.{bySign, plainDirection, termDirection, direction, isMixed}
+use Rattle.program.specs.Evaluate.{onlyIf, evaluate}
+use Rattle.program.specs.Readings.{Valuation, bodyVariable}
+use Rattle.program.specs.Reading.{Passed}
+use Rattle.program.specs.Idle.{BodyInRange, Idle, demanding, most, isIdle}
+use Rattle.program.specs.declared.Direction.{Direction}
+use Rattle.program.specs.declared.Direction.the-variants.{Rising, Falling, Mixed}
+use Rattle.program.specs.declared.Given.{Given}
+use Rattle.program.specs.declared.Given.the-variants.{Nothing, Value}
+use Rattle.program.specs.declared.Variable.{Variable}
+use Rattle.program.specs.declared.Term.{Term}
+use Rattle.program.proofs.Conditions.{never, last-or}
+use Rattle.program.proofs.Tests.{cases, is-true, is-test, and-both}
+use Rattle.program.proofs.Variables.{low-in, high-in, past-trans, between-small}
+use Rattle.program.proofs.Promises.{RulePromise, Promises, plain-position, passed-rule, passed-promises}
+use Rattle.program.proofs.Gives.{seven, amount-size, plain-hold, given-is, evaluate-same, promised-evaluable}
+use Rattle.program.proofs.Pushes.{plain-sum, plain-rising, plain-carried, term-plain, term-least, term-below, direction-is}
+use Rattle.program.proofs.Monotone.{Moves, Under, Between, evaluate-up}
+
+-- ---- one position
+
+-- a value from low to high
+pub record Held (low high x : ℤ) : Type 0 where
+  pub least : low ≤ℤ x
+  pub greatest : x ≤ℤ high
+
+-- the end further from 0 has the largest size
+further-size : (low high x : ℤ) → Held low high x → pos (natAbs x) ≤ℤ pos (natAbs (demanding Mixed low high))
+unfolding demanding
+further-size low high x h = go (ltb (natAbs low) (natAbs high)) refl
+  where
+    within : (n : ℕ) → natAbs low ≤ n → natAbs high ≤ n → natAbs x ≤ n
+    within n a b = between-small n low x high (h .least) (h .greatest) a b
+
+    go : (t : Bool) → ltb (natAbs low) (natAbs high) ≡ t → pos (natAbs x) ≤ℤ pos (natAbs (cond t high low))
+    go true e = omega (int, within (natAbs high) (omega (arith, ltb-true (natAbs low) (natAbs high) e)) (omega arith))
+    go false e = omega (int, within (natAbs low) (omega arith) (ltb-false (natAbs low) (natAbs high) e))
+
+-- a position that is not mixed moves towards the value that demands most
+demanding-moves : (d : Direction) {low high x : ℤ} → isMixed d ≡ false → Held low high x → Moves d x (demanding d low high)
+unfolding demanding
+demanding-moves Rising e h = h .greatest
+demanding-moves Falling e h = h .least
+demanding-moves Mixed e h = absurd (never refl e)
+
+-- that value lies between the ends
+pub demanding-held : (d : Direction) {low high : ℤ} → low ≤ℤ high → Held low high (demanding d low high)
+unfolding demanding
+demanding-held Rising {low} {high} h = record { least = h; greatest = ≤ℤ-refl high }
+demanding-held Falling {low} {high} h = record { least = ≤ℤ-refl low; greatest = h }
+demanding-held Mixed {low} {high} h = go (ltb (natAbs low) (natAbs high))
+  where
+    go : (t : Bool) → Held low high (cond t high low)
+    go true = record { least = h; greatest = ≤ℤ-refl high }
+    go false = record { least = ≤ℤ-refl low; greatest = h }
+
+-- ---- only sizes are mixed
+
+sign-not-mixed : (z : ℤ) → isMixed (bySign z) ≡ false
+sign-not-mixed z = cases (ltZ z (pos 0)) (λ b. isMixed (cond b Falling Rising) ≡ false) (λ t. refl) (λ t. refl)
+
+module _ (form : ℕ) (x : Variable) (t : Term) where
+  literal-not-mixed : 1 ≤ t .op → t .op ≤ 2 → isMixed (termDirection form x t) ≡ false
+  literal-not-mixed h k = go (eqb (t .op) 1) refl
+    where
+      go : (b : Bool) → eqb (t .op) 1 ≡ b → isMixed (termDirection form x t) ≡ false
+      go true e = ap isMixed (sym (term-least form x t (eqb-true (t .op) 1 e)))
+      go false e = ap isMixed (sym (term-below form x t (omega (arith, eqb-false (t .op) 1 e))))
+
+  plain-not-mixed : 1 ≤ form → form ≤ 7 → form ≢ 5 → form ≢ 6 → isMixed (plainDirection form x (t .number)) ≡ false
+  plain-not-mixed h k f g =
+      seven (λ k. form ≡ k → isMixed (plainDirection form x (t .number)) ≡ false)
+      (λ q. ap isMixed (sym (plain-sum form x (t .number) q)) ∙ sign-not-mixed (t .number))
+      (λ q. ap isMixed (sym (plain-rising form x (t .number) (omega arith) (omega arith))))
+      (λ q. ap isMixed (sym (plain-rising form x (t .number) (omega arith) (omega arith))))
+      (λ q. ap isMixed (sym (plain-rising form x (t .number) (omega arith) (omega arith))))
+      (λ q. absurd (f q))
+      (λ q. absurd (g q))
+      (λ q. ap isMixed (sym (plain-carried form x (t .number) q)))
+      form
+      h
+      k
+      refl
+
+-- a body of literals has no plain position
+literals-only : (form i : ℕ) → form ≡ 6 → literalPosition form i ≡ true
+unfolding literalPosition
+literals-only form i h = rw h
+
+module _ {vs : List Variable} {r : Rule} (p : RulePromise vs r) where
+  pub only-sizes-mixed : termForm (r .form) ≢ 5 → (i : ℕ) → i < length (r .terms) → isMixed (direction vs r i) ≡ false
+  only-sizes-mixed f i l = ap isMixed (sym (direction-is vs r i refl refl)) ∙ go (literalPosition form i) refl
+    where
+      form : ℕ
+      form = termForm (r .form)
+
+      t : Term
+      t = termIn (r .terms) i
+
+      x : Variable
+      x = variableIn vs (bodyVariable r i)
+
+      go : (b : Bool) → literalPosition form i ≡ b → isMixed (termDirection form x t) ≡ false
+      go true e = let q = p .body .terms i l in literal-not-mixed form x t (q .literal-op-least e) (q .literal-op-most e)
+      go false e =
+          ap isMixed (sym (term-plain form x t (p .body .terms i l .plain-op e)))
+          ∙ plain-not-mixed form x t (p .form-least) (p .form-most) f (λ q. never (literals-only form i q) e)
+
+-- ---- the most that a rule can give
+
+-- a range from low to high, inside a variable's own
+pub record RangeIn (x : Variable) (low high : ℤ) : Type 0 where
+  pub from : x .low ≤ℤ low
+  pub ordered : low ≤ℤ high
+  pub to : high ≤ℤ x .high
+
+held-between : {x : Variable} {low high a : ℤ} → RangeIn x low high → Held low high a → Between x a
+held-between w h = record { low = omega (int, w .from, h .least); high = omega (int, w .to, h .greatest) }
+
+module _ {vs : List Variable} {r : Rule} (p : RulePromise vs r) (low high : Valuation)
+    (inside : (i : ℕ) → i < length (r .terms) → RangeIn (variableIn vs (bodyVariable r i)) (low (bodyVariable r i)) (high (bodyVariable r i))) where
+  -- the reading at which the rule gives most
+  abbrev reached : ℕ → ℤ
+  reached i = demanding (direction vs r i) (low (bodyVariable r i)) (high (bodyVariable r i))
+
+  reached-held : (i : ℕ) → i < length (r .terms) → Held (low (bodyVariable r i)) (high (bodyVariable r i)) (reached i)
+  reached-held i l = demanding-held (direction vs r i) (inside i l .ordered)
+
+  -- no reading in the ranges gives more
+  module _ (at : ℕ → ℤ) (held : (i : ℕ) → i < length (r .terms) → Held (low (bodyVariable r i)) (high (bodyVariable r i)) (at i)) where
+    none-mixed : ((i : ℕ) → i < length (r .terms) → isMixed (direction vs r i) ≡ false) → Under (evaluate r at) (evaluate r reached)
+    none-mixed f =
+        evaluate-up p at reached
+        (λ i l. record { first = held-between (inside i l) (held i l); second = held-between (inside i l) (reached-held i l) })
+        (λ i l. demanding-moves (direction vs r i) (f i l) (held i l))
+
+    -- a size gives its amount, whatever it reads
+    sized : termForm (r .form) ≡ 5 → (f : ℕ → ℤ) → onlyIf true (r .c +ℤ pos (natAbs (f 0))) ≡ evaluate r f
+    sized q f = given-is r f (plain-hold (r .terms) f (length (r .terms)) (λ i l. p .body .terms i l .plain-op (plain-position (termForm (r .form)) i (omega arith))))
+        (sym (amount-size (r .c) (divisorOf r) (r .terms) f q))
+
+    size-under : termForm (r .form) ≡ 5 → isMixed (direction vs r 0) ≡ true → Under (evaluate r at) (evaluate r reached)
+    size-under q m =
+        let l : 0 < length (r .terms) = omega (arith, p .body .count .size-one q) in
+        rw (← sized q at, ← sized q reached)
+        (omega (int, sum-is (r .c) (pos (natAbs (at 0))), sum-is (r .c) (pos (natAbs (reached 0))), larger-size (direction vs r 0) m (held 0 l)))
+      where
+        larger-size : (d : Direction) → isMixed d ≡ true → {a b x : ℤ} → Held a b x → pos (natAbs x) ≤ℤ pos (natAbs (demanding d a b))
+        larger-size Rising e h = absurd (never e refl)
+        larger-size Falling e h = absurd (never e refl)
+        larger-size Mixed e {a} {b} {x} h = further-size a b x h
+
+    pub most-bounds : Under (evaluate r at) (most vs r low high)
+    unfolding most
+    most-bounds = go (eqb (termForm (r .form)) 5) (isMixed (direction vs r 0)) refl refl
+      where
+        go : (f m : Bool) → eqb (termForm (r .form)) 5 ≡ f → isMixed (direction vs r 0) ≡ m → Under (evaluate r at) (evaluate r reached)
+        go false m e k = none-mixed (only-sizes-mixed p (eqb-false _ 5 e))
+        go true true e k = size-under (eqb-true _ 5 e) k
+        go true false e k = none-mixed (λ i l. let z : i ≡ 0 = omega (arith, p .body .count .size-one (eqb-true _ 5 e)) in rw z k)
+
+  -- values of the variables that give it: that of a variable is read where it stands
+  taken : ℕ → Valuation
+  taken zero x = pos 0
+  taken (suc n) x = cond (eqb (bodyVariable r n) x) (reached n) (taken n x)
+
+  taken-is : (n : ℕ) → n ≤ length (r .terms) → (i : ℕ) → i < n → taken n (bodyVariable r i) ≡ reached i
+  unfolding taken
+  taken-is zero h i l = absurd (omega arith)
+  taken-is (suc n) h i l =
+      last-or (λ j. taken (suc n) (bodyVariable r j) ≡ reached j) n i l
+      (λ k. rw (ne-eqb (bodyVariable r n) (bodyVariable r i) (λ e. p .body .distinct n i (omega arith) k (sym e))) (taken-is n (omega arith) i k))
+      (rw (eq-eqb (bodyVariable r n) (bodyVariable r n) refl))
+
+  pub record Attained : Type 0 where
+    pub values : Valuation
+    pub held : (i : ℕ) → i < length (r .terms) → Held (low (bodyVariable r i)) (high (bodyVariable r i)) (values (bodyVariable r i))
+    pub gives : evaluate r (λ i. values (bodyVariable r i)) ≡ most vs r low high
+
+  pub most-given : Attained
+  unfolding most
+  most-given = record {
+    values = taken (length (r .terms));
+    held = λ i l. rw (taken-is (length (r .terms)) (omega arith) i l) (reached-held i l);
+    gives = evaluate-same r _ _ (λ i l. taken-is (length (r .terms)) (omega arith) i l) (promised-evaluable p);
+  }
+
+-- ---- the test
+
+-- what gives no more than the second, which gives no more than b, gives no more than b
+under-no-more : (x : Variable) (g h : Given) (b : ℤ) → Under g h → T (noMore x h b) → T (noMore x g b)
+unfolding notPast
+under-no-more x Nothing h b u n = tt
+under-no-more x (Value a) Nothing b u n = absurd u
+under-no-more x (Value a) (Value c) b u n = past-trans x a c b (u .le) n
+
+module _ {P : Program} (promises : Promises P) {r : Rule} (p : RulePromise (P .variables) r) where
+  -- the declared ranges
+  abbrev lows : Valuation
+  lows v = variableIn (P .variables) v .low
+
+  abbrev highs : Valuation
+  highs v = variableIn (P .variables) v .high
+
+  whole : (i : ℕ) → i < length (r .terms)
+      → RangeIn (variableIn (P .variables) (bodyVariable r i)) (lows (bodyVariable r i)) (highs (bodyVariable r i))
+  whole i l =
+      let x = variableIn (P .variables) (bodyVariable r i) in
+      record { from = ≤ℤ-refl (x .low); ordered = promises .variables _ (p .body .terms i l .declared) .in-order; to = ≤ℤ-refl (x .high) }
+
+  -- an idle rule gives no more than its head's starting end, wherever in the ranges each position is read
+  pub idle-reading : T (isIdle (P .variables) r) → (at : ℕ → ℤ)
+      → ((i : ℕ) → i < length (r .terms) → Between (variableIn (P .variables) (bodyVariable r i)) (at i))
+      → T (noMore (variableIn (P .variables) (r .head)) (evaluate r at) (start (variableIn (P .variables) (r .head))))
+  unfolding isIdle
+  idle-reading t at b =
+      under-no-more (variableIn (P .variables) (r .head)) (evaluate r at) _ _
+      (most-bounds p lows highs whole at (λ i l. record { least = b i l .low; greatest = b i l .high })) t
+
+  pub idle-told : T (isIdle (P .variables) r) → Idle P r
+  idle-told t a h = idle-reading t (λ i. a (bodyVariable r i)) between
+    where
+      between : (i : ℕ) → i < length (r .terms) → Between (variableIn (P .variables) (bodyVariable r i)) (a (bodyVariable r i))
+      between i l =
+          let x = variableIn (P .variables) (bodyVariable r i) in
+          let b = a (bodyVariable r i) in
+          record { low = low-in x b (h i l); high = high-in x b (h i l) }
+
+  pub idle-test : Idle P r → T (isIdle (P .variables) r)
+  unfolding isIdle
+  idle-test q =
+      let m = most-given p lows highs whole in
+      rw (m .gives) at (q (m .values) (λ i l. in-range (variableIn (P .variables) (bodyVariable r i)) (m .values (bodyVariable r i)) (m .held i l)))
+    where
+      in-range : (x : Variable) (a : ℤ) → Held (x .low) (x .high) a → T (inRange x a)
+      in-range x a h = and-both (leZ (x .low) a) (leZ a (x .high)) (h .least .le) (h .greatest .le)
+
+  pub decide-idle : Dec (Idle P r)
+  decide-idle = cases (isIdle (P .variables) r) (λ b. isIdle (P .variables) r ≡ b → Dec (Idle P r)) (λ t e. yes (idle-told (is-test e)))
+      (λ t e. no (λ q. never (is-true _ (idle-test q)) e)) refl
+
+-- a rule of a file whose fields passed, for which the test says no, is not idle
+pub passed-acts : {s : List ℕ} {k : ℕ} (w : Passed s k) (i : ℕ) → i < length (program s k .rules)
+    → isIdle (program s k .variables) (ruleIn (program s k .rules) i) ≡ false → Idle (program s k) (ruleIn (program s k .rules) i) → ⊥
+passed-acts w i h e q = never (is-true _ (idle-test (passed-promises w) (passed-rule w i h) q)) e

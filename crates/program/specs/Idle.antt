@@ -1,0 +1,46 @@
+-- Document 02, wish 2: "A rule is now idle when the most it can give, over all values in the ranges, is at most its head's low, or it can never
+-- give anything."
+use Prim.Native.Nat.{ℕ, _<_}
+use mathlib.Core.Bool.{Bool, cond}
+use mathlib.Core.List.{List}
+use lib.IntN.{ℤ, natAbs}
+use lib.ListN.{length}
+use lib.Dec.{T, ltb}
+use Rattle.program.specs.Program.{Program, Rule, variableIn}
+use Rattle.program.specs.Variables.{start, inRange, noMore}
+use Rattle.program.specs.Directions.{direction}
+use Rattle.program.specs.Evaluate.{evaluate}
+use Rattle.program.specs.Readings.{Valuation, bodyVariable}
+use Rattle.program.specs.declared.Direction.{Direction}
+use Rattle.program.specs.declared.Direction.the-variants.{Rising, Falling, Mixed}
+use Rattle.program.specs.declared.Given.{Given}
+use Rattle.program.specs.declared.Variable.{Variable}
+
+-- every variable of the body has a value in its declared range
+abbrev pub BodyInRange : Program → Rule → Valuation → Type 0
+BodyInRange P r a = (i : ℕ) → i < length (r .terms) → T (inRange (variableIn (P .variables) (bodyVariable r i)) (a (bodyVariable r i)))
+
+-- whatever these values are, the rule, each position read there, gives nothing or no more than its head's starting end
+abbrev pub Idle : Program → Rule → Type 0
+Idle P r =
+    let x = variableIn (P .variables) (r .head) in
+    (a : Valuation) → BodyInRange P r a → T (noMore x (evaluate r (λ i. a (bodyVariable r i))) (start x))
+
+-- ---- a test, by the directions: it is `Idle` for every rule of a file whose fields passed (laws `idle-told` and `idle-test`, proofs/IdleRules.antt)
+
+-- the value from low to high at which a position that pushes this way makes its rule give most; a mixed one's size is largest further from 0
+unfoldable pub demanding : Direction → ℤ → ℤ → ℤ
+demanding Rising low high = high
+demanding Falling low high = low
+demanding Mixed low high = cond (ltb (natAbs low) (natAbs high)) high low
+
+-- the most that a rule can give while every variable x of its body lies between low x and high x (laws `most-bounds`, `most-given`); vs are
+-- the program's variables
+unfoldable pub most : List Variable → Rule → Valuation → Valuation → Given
+most vs r low high = evaluate r (λ i. demanding (direction vs r i) (low (bodyVariable r i)) (high (bodyVariable r i)))
+
+-- the most over the declared ranges is nothing, or no more than the head's starting end
+unfoldable pub isIdle : List Variable → Rule → Bool
+isIdle vs r =
+    let x = variableIn vs (r .head) in
+    noMore x (most vs r (λ v. variableIn vs v .low) (λ v. variableIn vs v .high)) (start x)
