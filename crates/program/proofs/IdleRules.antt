@@ -256,7 +256,13 @@ module _ {P : Program} (promises : Promises P) {r : Rule} (p : RulePromise (P .v
   decide-idle = cases (isIdle (P .variables) r) (λ b. isIdle (P .variables) r ≡ b → Dec (Idle P r)) (λ t e. yes (idle-told (is-test e)))
       (λ t e. no (λ q. never (is-true _ (idle-test q)) e)) refl
 
--- a rule of a file whose fields passed, for which the test says no, is not idle
-pub passed-acts : {s : List ℕ} {k : ℕ} (w : Passed s k) (i : ℕ) → i < length (program s k .rules)
-    → isIdle (program s k .variables) (ruleIn (program s k .rules) i) ≡ false → Idle (program s k) (ruleIn (program s k .rules) i) → ⊥
-passed-acts w i h e q = never (is-true _ (idle-test (passed-promises w) (passed-rule w i h) q)) e
+-- the rules of a file whose fields passed: one for which the test says no is not idle, and the other way round
+module _ {s : List ℕ} {k : ℕ} (w : Passed s k) (i : ℕ) (h : i < length (program s k .rules)) where
+  abbrev tested : Bool
+  tested = isIdle (program s k .variables) (ruleIn (program s k .rules) i)
+
+  pub passed-acts : tested ≡ false → Idle (program s k) (ruleIn (program s k .rules) i) → ⊥
+  passed-acts e q = never (is-true tested (idle-test (passed-promises w) (passed-rule w i h) q)) e
+
+  pub passed-not-idle : (Idle (program s k) (ruleIn (program s k .rules) i) → ⊥) → tested ≡ false
+  passed-not-idle f = cases tested (λ b. tested ≡ b → tested ≡ false) (λ t e. absurd (f (idle-told (passed-promises w) (passed-rule w i h) (is-test e)))) (λ t e. e) refl

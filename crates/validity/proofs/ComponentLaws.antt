@@ -3,11 +3,12 @@ use Prim.Native.Nat.{ℕ, zero, suc, _+_, _*_, _/_, _%_, _<_}
 use mathlib.Core.Path.{_≡_, refl, sym, ap, ap₂, _∙_, subst}
 use mathlib.Core.Logic.{inl, inr}
 use mathlib.Core.List.{List}
-use mathlib.Core.Bool.{Bool, true, false, _||_, _&&_}
+use mathlib.Core.Bool.{Bool, true, false, not, _||_, _&&_}
 use native.Mathlib.Omega.{arith}
 use lib.ListN.{length, getD, replicate}
 use lib.Dec.{eqb}
-use borrow.Author.Tests.{eq-eqb, eqb-true}
+use lib.IntN.{pos}
+use borrow.Author.Tests.{eq-eqb, eqb-true, not-true}
 use Rattle.format.specs.Limits.{maxVariables}
 use Rattle.words.specs.Bit.{wordBits, wordCount, bit}
 use Rattle.reach.specs.Rows.{rowHas}
@@ -16,18 +17,21 @@ use Rattle.walks.specs.Walk as walk
 use Rattle.words.proofs.Bits.{bit-zero}
 use Rattle.walks.proofs.Walks.{stops-below}
 use Rattle.program.specs.Tables.{anyBelow}
-use Rattle.program.specs.Program.{Rule, Program, program, ruleIn, termIn}
+use Rattle.program.specs.Program.{Rule, Program, program, ruleIn, termIn, variablesAt}
+use Rattle.program.specs.Idle.{isIdle}
+use Rattle.program.specs.Evaluable.{Small}
 use Rattle.program.specs.Components as components
 use Rattle.program.specs.Components.{draws, edge, Reaches, Share, Offends}
 use Rattle.program.specs.Reading.{Whole}
 use Rattle.program.specs.declared.Counts.{Counts}
-use Rattle.program.proofs.Conditions.{never, both, some-below, none-below, any-same}
+use Rattle.program.proofs.Conditions.{never, both, some-below, below-some, none-below, any-same}
 use Rattle.program.proofs.Places.{variables-length}
 use Rattle.program.proofs.Promises.{Promises, passed-promises}
+use Rattle.program.proofs.IdleRules.{passed-acts, passed-not-idle}
 use Rattle.fields.specs.Scanning.{Counted}
 use Rattle.validity.specs.Judging.{Judges}
 use Rattle.edges.specs.Edges.{Grown, anyMixed, drawsAt, drawsIn, shareIn, offendsAt, offendsIn}
-use Rattle.validity.specs.Marks.{mixedRule, edgeIn, offendsRule, JudgedBy}
+use Rattle.validity.specs.Marks.{drawsBy, ruleAt, mixedRule, edgeIn, offendsRule, JudgedBy}
 use Rattle.validity.specs.declared.Outcome.{Outcome}
 use Rattle.validity.specs.declared.Outcome.the-variants.{Valid, Offending}
 use Rattle.validity.proofs.RuleLaws.{counted-variables, variables-few, rule-stands, rule-is, rule-promise}
@@ -46,9 +50,9 @@ and-any false n p = sym (any-never n)
 
 -- ---- edges
 
-pub draws-positions : (P : Program) (r : Rule) (x y : ℕ) → draws P r x y ≡ drawsIn (P .variables) r x y
+pub draws-positions : (P : Program) (r : Rule) (x y : ℕ) → draws P r x y ≡ drawsBy (P .variables) r x y
 unfolding draws drawsIn drawsAt
-draws-positions P r x y = and-any (eqb (r .head) x) (length (r .terms)) _
+draws-positions P r x y = ap (λ (b : Bool). not (isIdle (P .variables) r) && b) (and-any (eqb (r .head) x) (length (r .terms)) _)
 
 -- edges land on declared variables
 pub edges-below : {P : Program} → Promises P → (x y : ℕ) → edge P x y ≡ true → y < length (P .variables)
@@ -56,7 +60,7 @@ unfolding edge draws
 edges-below {P} p x y e =
     let i = some-below (length (P .rules)) _ e in
     let r = ruleIn (P .rules) (i .0) in
-    let d = both (eqb (r .head) x) _ (i .2) in
+    let d = both (eqb (r .head) x) _ (both (not (isIdle (P .variables) r)) _ (i .2) .1) in
     let j = some-below (length (r .terms)) _ (d .1) in
     let v = both (eqb (termIn (r .terms) (j .0) .variable) y) _ (j .2) in
     let q : termIn (r .terms) (j .0) .variable ≡ y = eqb-true _ y (v .0) in
@@ -78,6 +82,12 @@ pub rows-none : (m a b : ℕ) → rowHas (replicate m 0) a b ≡ false
 unfolding rowHas
 rows-none m a b = ap (λ (w : ℕ). bit w (b % wordBits)) (zeros m (wordCount * a + b / wordBits)) ∙ bit-zero (b % wordBits)
 
+-- values of 0
+pub values-none : (m : ℕ) → Small (replicate m (pos 0))
+values-none zero v = omega arith
+values-none (suc m) zero = omega arith
+values-none (suc m) (suc v) = values-none m v
+
 -- ---- one count of fields
 
 not-before : {s : List ℕ} {a b : ℕ} → Whole s a → Whole s b → a < b → ⊥
@@ -97,7 +107,7 @@ module _ {s : List ℕ} {k : Counts} (c : Counted s k) where
   edge-is x y =
       ap (λ (n : ℕ). anyBelow n (λ i. draws P (ruleIn (P .rules) i) x y)) (c .describes .rules-are)
       ∙ any-same (k .rules) _ _ (λ i l. draws-positions P (ruleIn (P .rules) i) x y
-      ∙ ap₂ (λ (vs : List Variable) (r : Rule). drawsIn vs r x y) (c .describes .variables-are) (rule-is c i l))
+      ∙ ap₂ (λ (vs : List Variable) (r : Rule). drawsBy vs r x y) (c .describes .variables-are) (rule-is c i l))
 
   -- no mixed position: the file is valid
   pub none-mixed : mixedRule s k ≡ false → components.Valid P
@@ -144,13 +154,15 @@ module _ {s : List ℕ} {k : Counts} (c : Counted s k) where
     pub row-offends : (i : ℕ) → i < k .rules → offendsRule t s k i ≡ true → Offends P i
     unfolding offendsIn offendsAt
     row-offends i l e =
-        let j = some-below _ _ e in
+        let g = both _ (not (isIdle (variablesAt s (k .variables)) (ruleAt s (k .variables) i))) e in
+        let j = some-below _ _ (g .0) in
         let d = both _ _ (j .2) in
         let n = variables-length s (k .variables) in
         let h = rw n at (rule-promise c i l .head-declared) in
         let v = rw n at (rule-promise c i l .body .terms (j .0) (j .1) .declared) in
         record {
           among = rw (c .describes .rules-are) l;
+          not-idle = passed-acts (c .whole .passed) i (rw (c .describes .rules-are) l) (rw (rule-is c i l, c .describes .variables-are) (not-true _ (g .1)));
           at = j .0;
           inside = rw (rule-is c i l) (j .1);
           pushes = rw (rule-is c i l, c .describes .variables-are) (d .0);
@@ -166,7 +178,11 @@ module _ {s : List ℕ} {k : Counts} (c : Counted s k) where
         let h = rw n at (rule-promise c i l .head-declared) in
         let v = rw n at (rule-promise c i l .body .terms (o .at) inside .declared) in
         let r = share-row _ _ h v (rw (rule-is c i l) at (o .shares)) in
-        never (ap₂ _&&_ m r) (none-below _ _ e (o .at) inside)
+        never (ap₂ _&&_ (below-some _ _ (o .at) inside (ap₂ _&&_ m r)) (ap not (acts i l o))) e
+      where
+        -- the test, too, says that it is not idle
+        acts : (i : ℕ) (l : i < k .rules) → Offends P i → isIdle (variablesAt s (k .variables)) (ruleAt s (k .variables) i) ≡ false
+        acts i l o = rw (rule-is c i l, c .describes .variables-are) at (passed-not-idle (c .whole .passed) i (o .among) (o .not-idle))
 
     outcome-is-by : (r : Outcome) → JudgedBy t s k r → Judges s (c .fields) r
     outcome-is-by Valid h = λ i o. let l : i < k .rules = rw (c .describes .rules-are) at (o .among) in offends-row i l (h i l) o

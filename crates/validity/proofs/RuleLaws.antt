@@ -2,21 +2,25 @@
 use Prim.Native.Nat.{ℕ, _+_, _*_, _<_, _≤_}
 use mathlib.Core.Path.{_≡_, sym, ap, _∙_}
 use mathlib.Core.List.{List}
-use mathlib.Core.Bool.{Bool, false}
+use mathlib.Core.Bool.{Bool, true, false, not, or-false}
 use native.Mathlib.Omega.{arith}
 use lib.ListN.{length}
 use Rattle.format.specs.Limits.{maxVariables}
 use Rattle.program.specs.Tables.{anyBelow}
 use Rattle.program.specs.Fields.{valueAt, nextAt, place}
-use Rattle.program.specs.Program.{ruleOf, ruleIn, program, variablesAt}
+use Rattle.program.specs.Program.{Rule, ruleOf, variableIn, ruleIn, program, variablesAt}
+use Rattle.program.specs.Idle.{isIdle}
 use Rattle.program.specs.Reading.{Passed}
 use Rattle.program.specs.declared.Counts.{Counts}
+use Rattle.program.specs.declared.Variable.{Variable}
 use Rattle.program.proofs.Conditions.{last-or}
 use Rattle.program.proofs.Places.{RuleStands, Fine, variablesTo, variables-length, variables-stand, rule-at, rule-header, passed-fine, place-next, counts}
-use Rattle.program.proofs.Promises.{RulePromise, passed-rule}
+use Rattle.program.proofs.Promises.{VariablePromise, RulePromise, passed-variable, passed-rule}
+use Rattle.program.proofs.Gives.{promised-evaluable}
 use Rattle.fields.specs.Scanning.{Counted}
-use Rattle.edges.specs.Edges.{Grown, anyMixed, drawsIn}
-use Rattle.validity.specs.Marks.{ruleAt, mixedRule, edgeIn}
+use Rattle.edges.specs.Edges.{Grown, anyMixed, drawsIn, offendsIn}
+use Rattle.idleness.specs.Most.{Ready}
+use Rattle.validity.specs.Marks.{drawsBy, offendsBy, ruleAt, mixedRule, edgeIn}
 use Rattle.edges.proofs.PositionLaws.{grown-done}
 use Rattle.parts.specs.Values.{Standing}
 
@@ -41,9 +45,9 @@ module _ (s : List ℕ) (k : Counts) where
   mixed-all e h = rw e at h
 
   pub edges-all : {i : ℕ} {t t′ : ℕ → ℕ → Bool} → i ≡ k .rules
-      → Grown t t′ (λ a b. anyBelow i (λ j. drawsIn (variablesAt s (k .variables)) (ruleAt s (k .variables) j) a b)) → Grown t t′ (edgeIn s k)
+      → Grown t t′ (λ a b. anyBelow i (λ j. drawsBy (variablesAt s (k .variables)) (ruleAt s (k .variables) j) a b)) → Grown t t′ (edgeIn s k)
   unfolding edgeIn
-  edges-all e g = grown-done (λ j. drawsIn (variablesAt s (k .variables)) (ruleAt s (k .variables) j)) e g
+  edges-all e g = grown-done (λ j. drawsBy (variablesAt s (k .variables)) (ruleAt s (k .variables) j)) e g
 
 -- ---- a file whose fields passed
 
@@ -65,6 +69,9 @@ module _ {s : List ℕ} {k : Counts} (c : Counted s k) where
   first-rule =
       let z : k .variables + 0 ≡ k .variables = omega arith in
       rw z (sym (rw counted-variables at (variables-stand (c .fields) passed .placed (variablesTo s (c .fields)) (omega arith))))
+
+  variable-promise : (x : ℕ) → x < k .variables → VariablePromise (variableIn (variablesAt s (k .variables)) x)
+  variable-promise x l = rw (c .describes .variables-are) at (passed-variable passed x (rw counted-variables l))
 
   module _ (i : ℕ) (h : i < k .rules) where
     pub rule-stands : RuleStands s (c .fields) (k .variables + i) i
@@ -90,6 +97,15 @@ module _ {s : List ℕ} {k : Counts} (c : Counted s k) where
           declared = λ j m. rw n at (rule-promise .body .terms j m .declared);
         }
 
+    pub ready : Ready s (k .variables) (valueAt s (place s (k .variables + i)))
+    ready = record {
+      standing = standing;
+      evaluable = promised-evaluable rule-promise;
+      distinct = rule-promise .body .distinct;
+      low-small = λ x l. variable-promise x l .low-small;
+      high-small = λ x l. variable-promise x l .high-small;
+    }
+
     -- at its place
     module _ {at : ℕ} (e : at ≡ place s (k .variables + i)) where
       pub rule-inside : nextAt s at ≤ length s
@@ -97,3 +113,23 @@ module _ {s : List ℕ} {k : Counts} (c : Counted s k) where
 
       pub standing-at : {v : List ℕ} → v ≡ valueAt s at → Standing s (k .variables) v
       standing-at x = rw (x, e) standing
+
+      pub ready-at : {v : List ℕ} → v ≡ valueAt s at → Ready s (k .variables) v
+      ready-at x = rw (x, e) ready
+
+-- ---- a rule, by the tests of the code
+
+module _ (vs : List Variable) (r : Rule) where
+  -- an idle one draws nothing, another what its positions draw
+  pub idle-draws : (t : ℕ → ℕ → Bool) {f : Bool} → f ≡ isIdle vs r → f ≡ true → Grown t t (drawsBy vs r)
+  idle-draws t e h = record { is = λ a b ha hb. rw (sym e ∙ h) (sym (or-false (t a b))) }
+
+  pub acting-draws : {t t′ : ℕ → ℕ → Bool} {f : Bool} → f ≡ isIdle vs r → f ≡ false → Grown t t′ (drawsIn vs r) → Grown t t′ (drawsBy vs r)
+  acting-draws e h g = record { is = λ a b ha hb. rw (sym e ∙ h) (g .is a b ha hb) }
+
+  module _ (t : ℕ → ℕ → Bool) {f : Bool} (e : f ≡ offendsIn t vs r) where
+    pub none-offends : f ≡ false → false ≡ offendsBy t vs r
+    none-offends h = rw (sym e ∙ h)
+
+    pub some-offends : {i : Bool} → f ≡ true → i ≡ isIdle vs r → not i ≡ offendsBy t vs r
+    some-offends h q = rw (sym e ∙ h, q)

@@ -2,14 +2,24 @@
 use Prim.Native.Nat.{ℕ, _+_, _<_}
 use mathlib.Core.Path.{_≡_}
 use mathlib.Core.List.{List}
-use mathlib.Core.Bool.{Bool, true, false}
+use mathlib.Core.Bool.{Bool, true, false, not, _&&_}
 use Rattle.program.specs.Tables.{anyBelow}
 use Rattle.program.specs.Fields.{valueAt, place}
 use Rattle.program.specs.Program.{Rule, ruleOf, variablesAt}
+use Rattle.program.specs.Idle.{isIdle}
 use Rattle.program.specs.declared.Counts.{Counts}
+use Rattle.program.specs.declared.Variable.{Variable}
 use Rattle.edges.specs.Edges.{anyMixed, drawsIn, offendsIn}
 use Rattle.validity.specs.declared.Outcome.{Outcome}
 use Rattle.validity.specs.declared.Outcome.the-variants.{Valid, Offending}
+
+-- ---- one rule, vs being the file's variables: an idle one draws nothing and does not offend
+
+abbrev pub drawsBy : List Variable → Rule → ℕ → ℕ → Bool
+drawsBy vs r x y = not (isIdle vs r) && drawsIn vs r x y
+
+abbrev pub offendsBy : (ℕ → ℕ → Bool) → List Variable → Rule → Bool
+offendsBy t vs r = offendsIn t vs r && not (isIdle vs r)
 
 -- ---- the rules of a file, by its counts
 
@@ -21,10 +31,10 @@ unfoldable pub mixedRule : List ℕ → Counts → Bool
 mixedRule s k = anyBelow (k .rules) (λ i. anyMixed (variablesAt s (k .variables)) (ruleAt s (k .variables) i))
 
 unfoldable pub edgeIn : List ℕ → Counts → ℕ → ℕ → Bool
-edgeIn s k x y = anyBelow (k .rules) (λ i. drawsIn (variablesAt s (k .variables)) (ruleAt s (k .variables) i) x y)
+edgeIn s k x y = anyBelow (k .rules) (λ i. drawsBy (variablesAt s (k .variables)) (ruleAt s (k .variables) i) x y)
 
 abbrev pub offendsRule : (ℕ → ℕ → Bool) → List ℕ → Counts → ℕ → Bool
-offendsRule t s k i = offendsIn t (variablesAt s (k .variables)) (ruleAt s (k .variables) i)
+offendsRule t s k i = offendsBy t (variablesAt s (k .variables)) (ruleAt s (k .variables) i)
 
 -- the first rule that offends by t, and its place
 pub record FoundAt (t : ℕ → ℕ → Bool) (s : List ℕ) (k : Counts) (at : ℕ) : Type 0 where

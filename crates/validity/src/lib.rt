@@ -1,6 +1,7 @@
-// Whether a file is valid: no rule has a mixed variable in its head's component.
+// Whether a file is valid: no rule that is not idle has a mixed variable in its head's component.
 mod rules;
 
+use format::Format;
 use program::Counts;
 use reach::Rows;
 use reach::close;
@@ -25,7 +26,8 @@ pub fn judge(file: &[u8], counts: Counts) -> Outcome
     }
     let n = counts.variables;
     let mut rows = [0u64; Rows::LENGTH];
-    rules::mark_edges(&mut rows, file, counts);
+    let mut values = [0i64; Format::MAX_VARIABLES];
+    rules::mark_edges(&mut rows, &mut values, file, counts);
     close(&mut rows, n);
-    rules::first_offending(&rows, file, counts)
+    rules::first_offending(&rows, &mut values, file, counts)
 }

@@ -1,12 +1,18 @@
 // The rules of a file, one after the other.
 ghost use mathlib.Core.Path.{_≡_};
 ghost use lib.ListN.{length};
+ghost use Rattle.format.specs.Limits.{maxVariables};
+ghost use Rattle.program.specs.Program.{ruleOf, variablesAt};
+ghost use Rattle.program.specs.Evaluable.{Small};
 ghost use Rattle.reach.specs.Rows.{rowsLength, rowHas};
 ghost use Rattle.fields.specs.Scanning.{Counted};
 ghost use Rattle.edges.specs.Edges.{Grown};
-ghost use Rattle.validity.specs.Marks.{mixedRule, edgeIn, JudgedBy};
+ghost use Rattle.idleness.specs.Most.{Ready};
+ghost use Rattle.validity.specs.Marks.{drawsBy, offendsBy, mixedRule, edgeIn, JudgedBy};
 use crate::Outcome;
 use edges::mixed;
+use format::Format;
+use idleness::is_idle;
 use parts::places;
 use program::Counts;
 use reach::Rows;
@@ -31,11 +37,39 @@ pub fn any_mixed(file: &[u8], counts: Counts) -> bool
     found
 }
 
+// The edges that the rule in a field's value draws; the values are lent to find whether it is idle.
+fn mark_rule(
+    rows: &mut [u64; Rows::LENGTH],
+    values: &mut [i64; Format::MAX_VARIABLES],
+    file: &[u8],
+    variables: usize,
+    value: &[u8],
+)
+    requires { ⌜ Ready (now file) variables (now value) ⌝ }
+    requires { ⌜ length (now rows) ≡ rowsLength ⌝ }
+    requires { ⌜ (length (now values) ≡ maxVariables) × Small (now values) ⌝ }
+    ensures { λ _. ⌜ length (now (rows .exit)) ≡ rowsLength ⌝ }
+    ensures { λ _. ⌜ (length (now (values .exit)) ≡ maxVariables) × Small (now (values .exit)) ⌝ }
+    ensures { λ _. ⌜ Grown (rowHas (now (rows .entry))) (rowHas (now (rows .exit))) (drawsBy (variablesAt (now (file .entry)) variables) (ruleOf (now (value .entry)))) ⌝ }
+{
+    if is_idle(values, file, variables, value) {
+        return;
+    }
+    edges::mark_rule(rows, file, variables, value);
+}
+
 // The edges that the rules draw.
-pub fn mark_edges(rows: &mut [u64; Rows::LENGTH], file: &[u8], counts: Counts)
+pub fn mark_edges(
+    rows: &mut [u64; Rows::LENGTH],
+    values: &mut [i64; Format::MAX_VARIABLES],
+    file: &[u8],
+    counts: Counts,
+)
     requires { ⌜ Counted (now file) counts ⌝ }
     requires { ⌜ length (now rows) ≡ rowsLength ⌝ }
+    requires { ⌜ (length (now values) ≡ maxVariables) × Small (now values) ⌝ }
     ensures { λ _. ⌜ length (now (rows .exit)) ≡ rowsLength ⌝ }
+    ensures { λ _. ⌜ (length (now (values .exit)) ≡ maxVariables) × Small (now (values .exit)) ⌝ }
     ensures { λ _. ⌜ Grown (rowHas (now (rows .entry))) (rowHas (now (rows .exit))) (edgeIn (now (file .entry)) counts) ⌝ }
 {
     let n = counts.variables;
@@ -44,15 +78,40 @@ pub fn mark_edges(rows: &mut [u64; Rows::LENGTH], file: &[u8], counts: Counts)
     let mut i = 0;
     while i < rules {
         let value = places::value_at(file, at);
-        edges::mark_rule(rows, file, n, value);
+        mark_rule(rows, values, file, n, value);
         at = places::next_at(file, at);
         i += 1;
     }
 }
 
+// Whether the rule in a field's value offends by the rows: most rules have no mixed position, and are not asked whether they are idle.
+fn offends(
+    rows: &[u64; Rows::LENGTH],
+    values: &mut [i64; Format::MAX_VARIABLES],
+    file: &[u8],
+    variables: usize,
+    value: &[u8],
+) -> bool
+    requires { ⌜ Ready (now file) variables (now value) ⌝ }
+    requires { ⌜ (length (now values) ≡ maxVariables) × Small (now values) ⌝ }
+    ensures { λ _. ⌜ (length (now (values .exit)) ≡ maxVariables) × Small (now (values .exit)) ⌝ }
+    ensures { λ r. ⌜ r ≡ offendsBy (rowHas (now (rows .entry))) (variablesAt (now (file .entry)) variables) (ruleOf (now (value .entry))) ⌝ }
+{
+    if !mixed::offends(rows, file, variables, value) {
+        return false;
+    }
+    !is_idle(values, file, variables, value)
+}
+
 // The first rule that offends by the rows.
-pub fn first_offending(rows: &[u64; Rows::LENGTH], file: &[u8], counts: Counts) -> Outcome
+pub fn first_offending(
+    rows: &[u64; Rows::LENGTH],
+    values: &mut [i64; Format::MAX_VARIABLES],
+    file: &[u8],
+    counts: Counts,
+) -> Outcome
     requires { ⌜ Counted (now file) counts ⌝ }
+    requires { ⌜ (length (now values) ≡ maxVariables) × Small (now values) ⌝ }
     ensures { λ r. ⌜ JudgedBy (rowHas (now (rows .entry))) (now (file .entry)) counts r ⌝ }
 {
     let n = counts.variables;
@@ -61,7 +120,7 @@ pub fn first_offending(rows: &[u64; Rows::LENGTH], file: &[u8], counts: Counts) 
     let mut rule = 0;
     while rule < rules {
         let value = places::value_at(file, at);
-        if mixed::offends(rows, file, n, value) {
+        if offends(rows, values, file, n, value) {
             return Outcome::Offending(at);
         }
         at = places::next_at(file, at);

@@ -2,9 +2,10 @@
 use native.Mathlib.Omega.{arith}
 use mathlib.Core.Path.{sym, _∙_}
 use borrow.Author.Tests.{not-true}
+use Rattle.format.specs.Limits.{maxVariables}
 use Rattle.reach.specs.Rows.{rowsLength}
 use Rattle.validity.proofs.RuleLaws.{variables-few}
-use Rattle.validity.proofs.ComponentLaws.{rows-none, outcome-is-none, outcome-is}
+use Rattle.validity.proofs.ComponentLaws.{rows-none, values-none, outcome-is-none, outcome-is}
 use borrow.Author.Needs.{needs}
 use Rattle.validity.proofs.judge.Statement.{statement}
 use Rattle.validity.proofs.judge.Tie as tie
@@ -16,19 +17,19 @@ returns : tie.Need-returns
 returns c = outcome-is-none (c .before .before .before .pre) (sym (c .before .any-mixed .ensures) ∙ not-true _ (c .if1 .taken))
 
 mark-edges-requires : tie.Need-mark-edges-requires
-mark-edges-requires c κs = search needs
+mark-edges-requires c κs = (c .before .before .before .before .before .pre, (omega arith, (omega arith, values-none maxVariables)))
 
 close-requires : tie.Need-close-requires
-close-requires c κs = (omega (arith, variables-few (c .before .before .before .before .before .before .pre)), c .before .mark-edges .ensures .0)
+close-requires c κs = (omega (arith, variables-few (c .before .before .before .before .before .before .before .pre)), c .before .mark-edges .ensures .0)
 
 first-offending-requires : tie.Need-first-offending-requires
-first-offending-requires c κs = search needs
+first-offending-requires c κs = (c .before .before .before .before .before .before .before .before .before .before .pre, c .before .before .before .before .mark-edges .ensures .1 .0)
 
 returns-2 : tie.Need-returns-2
 returns-2 c =
-    let m = c .before .before .before .before in
-    outcome-is (m .before .before .before .before .before .pre) (c .first-offending .result) (rows-none rowsLength)
-    (m .mark-edges .ensures .1) (c .before .before .close .ensures .1) (c .first-offending .ensures)
+    let m = c .before .before .before .before .before in
+    outcome-is (c .before .before .before .before .before .before .before .before .before .before .before .pre) (c .first-offending .result) (rows-none rowsLength)
+    (m .mark-edges .ensures .1 .1) (c .before .before .before .close .ensures .1) (c .first-offending .ensures)
 
 pub judge-spec : {M : Type 1} → statement M
 judge-spec =

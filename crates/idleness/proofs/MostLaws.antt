@@ -1,0 +1,158 @@
+-- The value that makes a rule give most, position by position, and what the rule gives there.
+use Prim.Native.Nat.{ℕ, _+_, _*_, _<_, _≤_}
+use mathlib.Core.Path.{_≡_, refl, sym, ap, ap₂, _∙_, subst}
+use mathlib.Core.List.{List}
+use mathlib.Core.Bool.{Bool, true, false, not, cond}
+use native.Mathlib.Omega.{arith}
+use lib.Dec.{ltb, eqb}
+use lib.IntN.{ℤ, pos, natAbs}
+use lib.Signed.{ltZ}
+use lib.ListN.{length, set, length-set}
+use lib.Seq.{getD-set-same, getD-set-other}
+use borrow.Author.Count.{below-more}
+use borrow.Author.Tests.{eqb-true, eqb-false}
+use Rattle.format.specs.Limits.{maxVariables, maxNumber}
+use Rattle.words.specs.Bit.{bit}
+use Rattle.program.specs.Program.{Rule, ruleOf, variableIn, variablesAt}
+use Rattle.program.specs.Directions.{direction}
+use Rattle.program.specs.Variables.{start, notPast, noMore}
+use Rattle.program.specs.Evaluate.{evaluate}
+use Rattle.program.specs.Evaluable.{Small, Evaluable}
+use Rattle.program.specs.Readings.{valued, bodyVariable}
+use Rattle.program.specs.Idle.{demanding, most, isIdle}
+use Rattle.program.specs.declared.Direction.{Direction}
+use Rattle.program.specs.declared.Direction.the-variants.{Rising, Falling, Mixed}
+use Rattle.program.specs.declared.Given.{Given}
+use Rattle.program.specs.declared.Given.the-variants.{Nothing, Value}
+use Rattle.program.specs.declared.Variable.{Variable}
+use Rattle.program.proofs.Gives.{evaluate-same}
+use Rattle.bodies.specs.Readings.{readingOf}
+use Rattle.idleness.specs.Most.{mostAt, Ready}
+
+-- ---- one position
+
+module _ (d : Direction) (low high : ℤ) where
+  pub demanding-rising : d ≡ Rising → high ≡ demanding d low high
+  unfolding demanding
+  demanding-rising e = rw e
+
+  pub demanding-falling : d ≡ Falling → low ≡ demanding d low high
+  unfolding demanding
+  demanding-falling e = rw e
+
+  -- a size, by the machine's test of the two ends
+  module _ {a b : ℤ} (e : d ≡ Mixed) (p : a ≡ pos (natAbs low)) (q : b ≡ pos (natAbs high)) where
+    pub demanding-high : ltZ a b ≡ true → high ≡ demanding d low high
+    unfolding demanding
+    demanding-high h = rw (e, rw (p, q) at h)
+
+    pub demanding-low : ltZ a b ≡ false → low ≡ demanding d low high
+    unfolding demanding
+    demanding-low h = rw (e, rw (p, q) at h)
+
+-- one of two small ends is small
+pub demanding-small : (d : Direction) (low high : ℤ) → natAbs low ≤ maxNumber → natAbs high ≤ maxNumber → natAbs (demanding d low high) ≤ maxNumber
+unfolding demanding
+demanding-small Rising low high l h = h
+demanding-small Falling low high l h = l
+demanding-small Mixed low high l h = go (ltb (natAbs low) (natAbs high))
+  where
+    go : (t : Bool) → natAbs (cond t high low) ≤ maxNumber
+    go true = h
+    go false = l
+
+module _ (vs : List Variable) (r : Rule) (i : ℕ) where
+  pub most-read : {d : Direction} {x : Variable} {z : ℤ} → d ≡ direction vs r i → x ≡ variableIn vs (bodyVariable r i)
+      → z ≡ demanding d (x .low) (x .high) → z ≡ mostAt vs r i
+  unfolding mostAt
+  most-read p q e = e ∙ rw (p, q)
+
+-- a position's variable has a field and small ends
+module _ {s : List ℕ} {n : ℕ} {v : List ℕ} (p : Ready s n v) (i : ℕ) (l : i < length (ruleOf v .terms)) where
+  pub field-inside : {x : ℕ} → x ≡ bodyVariable (ruleOf v) i → 8 * x + 8 ≤ length s
+  field-inside e = omega (arith, e, p .standing .declared i l, p .standing .inside)
+
+  pub position-low : {x : Variable} → x ≡ variableIn (variablesAt s n) (bodyVariable (ruleOf v) i) → natAbs (x .low) ≤ maxNumber
+  position-low e = rw e (p .low-small _ (p .standing .declared i l))
+
+  pub position-high : {x : Variable} → x ≡ variableIn (variablesAt s n) (bodyVariable (ruleOf v) i) → natAbs (x .high) ≤ maxNumber
+  position-high e = rw e (p .high-small _ (p .standing .declared i l))
+
+  -- and is one of the array's
+  pub declared-few : bodyVariable (ruleOf v) i < maxVariables
+  declared-few = omega (arith, p .standing .declared i l, p .standing .few)
+
+  pub position-most : natAbs (mostAt (variablesAt s n) (ruleOf v) i) ≤ maxNumber
+  unfolding mostAt
+  position-most = demanding-small _ _ _ (position-low refl) (position-high refl)
+
+-- ---- position after position
+
+-- a list with one value replaced by a small one is small
+pub set-small : (ms : List ℤ) (v : ℕ) (a : ℤ) → v < length ms → Small ms → natAbs a ≤ maxNumber → Small (set ms v a)
+set-small ms v a l s h x = go (eqb v x) refl
+  where
+    go : (t : Bool) → eqb v x ≡ t → natAbs (valued (set ms v a) x) ≤ maxNumber
+    go true e = let q = eqb-true v x e in rw (← q, getD-set-same ms v a (pos 0) l) h
+    go false e = rw (getD-set-other ms v x a (pos 0) (λ q. eqb-false v x e (sym q))) (s x)
+
+-- the variables at the first i positions have their values
+abbrev pub Taken : List Variable → Rule → ℕ → List ℤ → Type 0
+Taken vs r i ms = (j : ℕ) → j < i → valued ms (bodyVariable r j) ≡ mostAt vs r j
+
+-- an array of small values, with those of the first i positions
+pub record TakenTo (s : List ℕ) (n : ℕ) (v : List ℕ) (i : ℕ) (ms : List ℤ) : Type 0 where
+  pub long : length ms ≡ maxVariables
+  pub small : Small ms
+  pub taken : Taken (variablesAt s n) (ruleOf v) i ms
+
+module _ (s : List ℕ) (n : ℕ) (v : List ℕ) where
+  pub taken-none : {ms : List ℤ} → length ms ≡ maxVariables → Small ms → TakenTo s n v 0 ms
+  taken-none l h = record { long = l; small = h; taken = λ j k. absurd (omega arith) }
+
+  -- one position more, whose variable stands at no earlier one
+  pub taken-more : {i : ℕ} {ms ms′ : List ℤ} → Ready s n v → i < length (ruleOf v .terms) → TakenTo s n v i ms
+      → ms′ ≡ set ms (bodyVariable (ruleOf v) i) (mostAt (variablesAt s n) (ruleOf v) i) → TakenTo s n v (i + 1) ms′
+  taken-more {i} {ms} p l t e =
+      let x = bodyVariable (ruleOf v) i in
+      let a = mostAt (variablesAt s n) (ruleOf v) i in
+      let f : x < length ms = omega (arith, declared-few p i l, t .long) in
+      rw e (record {
+        long = length-set ms x a ∙ t .long;
+        small = set-small ms x a f (t .small) (position-most p i l);
+        taken = below-more (λ (j : ℕ). valued (set ms x a) (bodyVariable (ruleOf v) j) ≡ mostAt (variablesAt s n) (ruleOf v) j) i
+            (λ j k. getD-set-other ms x (bodyVariable (ruleOf v) j) a (pos 0) (p .distinct i j l k) ∙ t .taken j k) (getD-set-same ms x a (pos 0) f);
+      })
+
+  pub taken-all : {i : ℕ} {ms : List ℤ} → i ≡ length (ruleOf v .terms) → TakenTo s n v i ms → Taken (variablesAt s n) (ruleOf v) (length (ruleOf v .terms)) ms
+  taken-all e t j l = t .taken j (omega arith)
+
+-- ---- the rule
+
+-- what is given, by the machine's test
+module _ (x : Variable) {g : Given} where
+  pub none-given : g ≡ Nothing → true ≡ noMore x g (start x)
+  none-given e = rw e
+
+  pub value-given : (a : ℤ) {z : ℤ} {t : Bool} → g ≡ Value a → z ≡ start x → t ≡ not (notPast x a z) → not t ≡ noMore x g (start x)
+  value-given a {z} e p q = ap not q ∙ not-not (notPast x a z) ∙ rw (e, p)
+    where
+      not-not : (b : Bool) → not (not b) ≡ b
+      not-not true = refl
+      not-not false = refl
+
+module _ (vs : List Variable) (r : Rule) where
+  -- whichever list a position is read in, the rule gives the most that it can
+  pub most-is : (ms : List ℤ) → Evaluable r → Taken vs r (length (r .terms)) ms
+      → evaluate r (readingOf 0 ms ms (r .terms)) ≡ most vs r (λ v. variableIn vs v .low) (λ v. variableIn vs v .high)
+  unfolding most mostAt readingOf
+  most-is ms e g = evaluate-same r (readingOf 0 ms ms (r .terms)) _ (λ i l. either (bit 0 i) ∙ g i l) e
+    where
+      either : {a : ℤ} (b : Bool) → cond b a a ≡ a
+      either true = refl
+      either false = refl
+
+  pub idle-is : {x : Variable} {g : Given} {b : Bool} → b ≡ noMore x g (start x) → x ≡ variableIn vs (r .head)
+      → g ≡ most vs r (λ v. variableIn vs v .low) (λ v. variableIn vs v .high) → b ≡ isIdle vs r
+  unfolding isIdle
+  idle-is p q e = p ∙ rw (q, e)

@@ -1,0 +1,104 @@
+// Whether a rule is idle: it gives nothing, or no more than its head's starting end, whatever values its variables have in their ranges.
+ghost use mathlib.Core.Path.{_≡_};
+ghost use Prim.Native.Nat.{ℕ, _<_, _≤_};
+ghost use lib.IntN.{natAbs};
+ghost use lib.ListN.{length, set};
+ghost use Rattle.format.specs.Limits.{maxVariables, maxNumber};
+ghost use Rattle.program.specs.Program.{ruleOf, variablesAt};
+ghost use Rattle.program.specs.Variables.{start, noMore};
+ghost use Rattle.program.specs.Readings.{valued, bodyVariable};
+ghost use Rattle.program.specs.Evaluable.{Small};
+ghost use Rattle.program.specs.Idle.{demanding, isIdle};
+ghost use Rattle.idleness.specs.Most.{Ready, mostAt};
+use bodies::numbers;
+use evaluation::rules::gives;
+use format::Format;
+use parts::rules;
+use parts::variables;
+use positions::position_at;
+use program::Direction;
+use program::Given;
+use program::Variable;
+
+// The value from low to high at which a position that pushes this way makes its rule give most.
+fn demanding(d: Direction, low: i64, high: i64) -> i64
+    requires { ⌜ (natAbs low ≤ maxNumber) × (natAbs high ≤ maxNumber) ⌝ }
+    ensures { λ r. ⌜ r ≡ demanding d low high ⌝ }
+{
+    match d {
+        Direction::Rising => high,
+        Direction::Falling => low,
+        Direction::Mixed => {
+            let below = numbers::size(low);
+            let above = numbers::size(high);
+            if below < above { high } else { low }
+        }
+    }
+}
+
+// Gives the variable at position i of the rule in a field's value that value.
+fn set_position(
+    values: &mut [i64; Format::MAX_VARIABLES],
+    file: &[u8],
+    variables: usize,
+    value: &[u8],
+    i: usize,
+)
+    requires { ⌜ Ready (now file) variables (now value) ⌝ }
+    requires { ⌜ (i < length (ruleOf (now value) .terms)) × (length (now values) ≡ maxVariables) ⌝ }
+    ensures { λ _. ⌜ now (values .exit) ≡ set (now (values .entry)) (bodyVariable (ruleOf (now (value .entry))) i)
+        (mostAt (variablesAt (now (file .entry)) variables) (ruleOf (now (value .entry))) i) ⌝ }
+{
+    let p = position_at(file, variables, value, i);
+    let x = variables::variable(file, p.variable);
+    let d = p.direction;
+    let most = demanding(d, x.low, x.high);
+    let v = format::wide(p.variable);
+    values[v] = most;
+}
+
+// Gives every variable of the body that value.
+fn set_most(values: &mut [i64; Format::MAX_VARIABLES], file: &[u8], variables: usize, value: &[u8])
+    requires { ⌜ Ready (now file) variables (now value) ⌝ }
+    requires { ⌜ (length (now values) ≡ maxVariables) × Small (now values) ⌝ }
+    ensures { λ _. ⌜ (length (now (values .exit)) ≡ maxVariables) × Small (now (values .exit)) ⌝ }
+    ensures { λ _. ⌜ ((i : ℕ) → i < length (ruleOf (now (value .entry)) .terms)
+        → valued (now (values .exit)) (bodyVariable (ruleOf (now (value .entry))) i)
+        ≡ mostAt (variablesAt (now (file .entry)) variables) (ruleOf (now (value .entry))) i) ⌝ }
+{
+    let n = rules::positions(value);
+    let mut i = 0;
+    while i < n {
+        set_position(values, file, variables, value, i);
+        i += 1;
+    }
+}
+
+// Whether what is given is nothing or no more than the starting end of x.
+fn is_no_more(x: Variable, given: Given) -> bool
+    ensures { λ r. ⌜ r ≡ noMore x given (start x) ⌝ }
+{
+    let Given::Value(a) = given else {
+        return true;
+    };
+    !x.is_before(x.start(), a)
+}
+
+// Whether the rule in a field's value is idle. The values are lent for it, and are left as numbers of the format's range.
+pub fn is_idle(
+    values: &mut [i64; Format::MAX_VARIABLES],
+    file: &[u8],
+    variables: usize,
+    value: &[u8],
+) -> bool
+    requires { ⌜ Ready (now file) variables (now value) ⌝ }
+    requires { ⌜ (length (now values) ≡ maxVariables) × Small (now values) ⌝ }
+    ensures { λ _. ⌜ (length (now (values .exit)) ≡ maxVariables) × Small (now (values .exit)) ⌝ }
+    ensures { λ r. ⌜ r ≡ isIdle (variablesAt (now (file .entry)) variables) (ruleOf (now (value .entry))) ⌝ }
+{
+    set_most(values, file, variables, value);
+    let most = gives(value, 0, values, values);
+    let rule = rules::header(value);
+    let head = variables::variable(file, rule.head);
+    is_no_more(head, most)
+}
