@@ -1,23 +1,29 @@
--- Whether a rule offends can be decided: reaching is a walk whose stops are heads of rules.
-use Prim.Native.Nat.{ℕ, zero, suc, _<_}
+-- Whether a rule offends, by a test: reaching is a walk whose stops are heads of rules. Small files are read by such tests.
+use Prim.Native.Nat.{ℕ, _+_, _<_, _≤_}
 use mathlib.Core.Path.{_≡_, refl}
 use mathlib.Core.Logic.{_⊎_, inl, inr}
 use mathlib.Core.List.{List}
 use mathlib.Core.Bool.{Bool, true, false, not, _||_, _&&_}
 use native.Mathlib.Omega.{arith}
 use lib.ListN.{length}
-use lib.Dec.{eqb}
-use borrow.Author.Tests.{eqb-true, eq-eqb}
+use lib.Dec.{eqb, leb}
+use borrow.Author.Tests.{eqb-true, eq-eqb, leb-false, not-true, not-false}
+use Rattle.format.specs.Limits.{maxFile}
+use Rattle.walks.specs.Walk.{Walk, edge, step, Reached, closed}
+use Rattle.walks.proofs.Walks.{closed-reached}
 use Rattle.program.specs.Tables.{anyBelow}
-use Rattle.walks.specs.Walk.{Walk, edge, step}
+use Rattle.program.specs.Fields.{place}
 use Rattle.program.specs.Program.{Program, Rule, ruleIn, termIn, program}
+use Rattle.program.specs.Refusals.{fieldRefusal}
 use Rattle.program.specs.Directions.{direction, isMixed}
-use Rattle.program.specs.Idle.{Idle, isIdle}
-use Rattle.program.specs.Components.{draws, Reaches, Share, Offends, edge as drawn}
-use Rattle.program.specs.Reading.{Passed}
-use Rattle.program.proofs.Conditions.{never, both, some-below, below-some, last-or}
+use Rattle.program.specs.Idle.{isIdle}
+use Rattle.program.specs.Components.{draws, Reaches, Share, Offends, Valid, FirstOffending, edge as drawn}
+use Rattle.program.specs.Reading.{Passed, Whole, Reads, accepted, refused, not-valid, whole}
+use Rattle.program.proofs.Conditions.{never, neither, both, none-below, some-below, below-some}
+use Rattle.program.proofs.Tests.{is-it, is-test, not-it}
+use Rattle.program.proofs.Places.{rule-at}
 use Rattle.program.proofs.Promises.{passed-rule, passed-promises}
-use Rattle.program.proofs.IdleRules.{decide-idle}
+use Rattle.program.proofs.IdleRules.{idle-told, passed-acts}
 
 either : (a b : Bool) → (a || b) ≡ true → (a ≡ true) ⊎ (b ≡ true)
 either true b h = inl refl
@@ -27,77 +33,27 @@ or-true : (a : Bool) → (a || true) ≡ true
 or-true true = refl
 or-true false = refl
 
--- ---- walks with stops below n
+-- ---- the test, where all heads are below b
 
--- y is reached from x over one edge or more, with stops below n
-reach : (ℕ → ℕ → Bool) → ℕ → ℕ → ℕ → Bool
-reach e zero x y = e x y
-reach e (suc n) x y = reach e n x y || (reach e n x n && reach e n n y)
+-- x and y are the same or each reaches the other
+unfoldable pub share-test : Program → ℕ → ℕ → ℕ → Bool
+share-test P b x y = eqb x y || (closed (drawn P) b x y && closed (drawn P) b y x)
 
-module _ {e : ℕ → ℕ → Bool} where
-  walk-more : {n x y : ℕ} → Walk e n x y → Walk e (suc n) x y
-  walk-more (edge h) = edge h
-  walk-more (step h l w) = step h (omega arith) (walk-more w)
+-- a position is mixed, and its variable shares the head's component
+unfoldable pub offends-at : Program → ℕ → Rule → ℕ → Bool
+offends-at P b r at = isMixed (direction (P .variables) r at) && share-test P b (r .head) (termIn (r .terms) at .variable)
 
-  walk-join : {n x m y : ℕ} → Walk e n x m → m < n → Walk e n m y → Walk e n x y
-  walk-join (edge h) l w = step h l w
-  walk-join (step h k v) l w = step h k (walk-join v l w)
+-- rule i is not idle, and has such a position
+unfoldable pub offends-test : Program → ℕ → ℕ → Bool
+offends-test P b i =
+    let r = ruleIn (P .rules) i in
+    not (isIdle (P .variables) r) && anyBelow (length (r .terms)) (offends-at P b r)
 
-module _ (e : ℕ → ℕ → Bool) where
-  reach-walk : (n x y : ℕ) → reach e n x y ≡ true → Walk e n x y
-  unfolding reach
-  reach-walk zero x y h = edge h
-  reach-walk (suc n) x y h = go (reach-walk n) (either (reach e n x y) _ h)
-    where
-      go : ((a b : ℕ) → reach e n a b ≡ true → Walk e n a b) → (reach e n x y ≡ true) ⊎ ((reach e n x n && reach e n n y) ≡ true) → Walk e (suc n) x y
-      go walk (inl a) = walk-more (walk x y a)
-      go walk (inr b) =
-          let c = both (reach e n x n) (reach e n n y) b in
-          walk-join (walk-more (walk x n (c .0))) (omega arith) (walk-more (walk n y (c .1)))
+-- one of the first n rules is such a rule
+abbrev pub offends-in : Program → ℕ → Bool
+offends-in P n = anyBelow n (offends-test P (length (P .variables)))
 
-  -- one stop more
-  module _ (n : ℕ) where
-    reach-short : (x y : ℕ) → reach e n x y ≡ true → reach e (suc n) x y ≡ true
-    unfolding reach
-    reach-short x y h = rw h
-
-    reach-over : (x y : ℕ) → reach e n x n ≡ true → reach e n n y ≡ true → reach e (suc n) x y ≡ true
-    unfolding reach
-    reach-over x y h k = rw (h, k) (or-true (reach e n x y))
-
-    -- reached below n, or over n
-    reach-ways : (x y : ℕ) → reach e (suc n) x y ≡ true → (reach e n x y ≡ true) ⊎ ((reach e n x n ≡ true) × (reach e n n y ≡ true))
-    unfolding reach
-    reach-ways x y h = go (either (reach e n x y) _ h)
-      where
-        go : (reach e n x y ≡ true) ⊎ ((reach e n x n && reach e n n y) ≡ true) → (reach e n x y ≡ true) ⊎ ((reach e n x n ≡ true) × (reach e n n y ≡ true))
-        go (inl a) = inl a
-        go (inr b) = inr (both (reach e n x n) (reach e n n y) b)
-
-    module _ (whole : (x y : ℕ) → Walk e n x y → reach e n x y ≡ true) where
-      -- an edge to a stop below n, to n
-      reach-below : (x m y : ℕ) → e x m ≡ true → m < n → (reach e n m y ≡ true) ⊎ ((reach e n m n ≡ true) × (reach e n n y ≡ true)) → reach e (suc n) x y ≡ true
-      reach-below x m y h l (inl a) = reach-short x y (whole x y (step h l (reach-walk n m y a)))
-      reach-below x m y h l (inr b) = reach-over x y (whole x n (step h l (reach-walk n m n (b .0)))) (b .1)
-
-      reach-last : (x y : ℕ) → e x n ≡ true → (reach e n n y ≡ true) ⊎ ((reach e n n n ≡ true) × (reach e n n y ≡ true)) → reach e (suc n) x y ≡ true
-      reach-last x y h (inl a) = reach-over x y (whole x n (edge h)) a
-      reach-last x y h (inr b) = reach-over x y (whole x n (edge h)) (b .1)
-
-      walk-reach-more : {x y : ℕ} → Walk e (suc n) x y → reach e (suc n) x y ≡ true
-      walk-reach-more {x} {y} (edge h) = reach-short x y (whole x y (edge h))
-      walk-reach-more {x} {y} (step {m = m} h l w) =
-          let r = walk-reach-more w in
-          last-or (λ i. e x i ≡ true → reach e (suc n) i y ≡ true → reach e (suc n) x y ≡ true) n m l
-          (λ k g q. reach-below x m y g k (reach-ways m y q)) (λ g q. reach-last x y g (reach-ways n y q)) h r
-
-  walk-reach : (n x y : ℕ) → Walk e n x y → reach e n x y ≡ true
-  unfolding reach
-  walk-reach zero x y (edge h) = h
-  walk-reach zero x y (step h l w) = let f : ⊥ = omega arith in absurd f
-  walk-reach (suc n) x y w = walk-reach-more n (walk-reach n) w
-
--- ---- a rule that offends
+-- ---- what it means
 
 -- every stop of a walk has an edge from it, so where edges start below b, stops are below b
 module _ (e : ℕ → ℕ → Bool) (b : ℕ) (starts : (x y : ℕ) → e x y ≡ true → x < b) where
@@ -109,71 +65,119 @@ module _ (e : ℕ → ℕ → Bool) (b : ℕ) (starts : (x y : ℕ) → e x y �
   walk-stops (edge h) = edge h
   walk-stops (step h l w) = step h (walk-start w) (walk-stops w)
 
-module _ (P : Program) where
-  -- every rule has its head below b
-  abbrev HeadsBelow : ℕ → Type 0
-  HeadsBelow b = (i : ℕ) → i < length (P .rules) → ruleIn (P .rules) i .head < b
+-- every rule has its head below b
+abbrev pub HeadsBelow : Program → ℕ → Type 0
+HeadsBelow P b = (i : ℕ) → i < length (P .rules) → ruleIn (P .rules) i .head < b
 
-  edge-start : (b : ℕ) → HeadsBelow b → (x y : ℕ) → drawn P x y ≡ true → x < b
+module _ (P : Program) (b : ℕ) (heads : HeadsBelow P b) where
+  edge-start : (x y : ℕ) → drawn P x y ≡ true → x < b
   unfolding drawn draws
-  edge-start b heads x y h =
+  edge-start x y h =
       let r = some-below (length (P .rules)) (λ i. draws P (ruleIn (P .rules) i) x y) h in
       let d = both (not (isIdle (P .variables) (ruleIn (P .rules) (r .0)))) _ (r .2) .1 in
       let e = eqb-true (ruleIn (P .rules) (r .0) .head) x (both (eqb (ruleIn (P .rules) (r .0) .head) x) _ d .0) in
       omega (arith, heads (r .0) (r .1))
 
-  module _ (b : ℕ) (heads : HeadsBelow b) where
-    reaches-told : (x y : ℕ) → reach (drawn P) b x y ≡ true → Reaches P x y
-    reaches-told x y h = (b, reach-walk (drawn P) b x y h)
+  reached : (x y : ℕ) → Reached (drawn P) (closed (drawn P) b) (b + x + y + 1) b
+  reached x y = closed-reached (drawn P) (b + x + y + 1) b (omega arith)
 
-    reaches-test : (x y : ℕ) → Reaches P x y → reach (drawn P) b x y ≡ true
-    reaches-test x y w = walk-reach (drawn P) b x y (walk-stops (drawn P) b (edge-start b heads) (w .1))
+  reaches-told : (x y : ℕ) → closed (drawn P) b x y ≡ true → Reaches P x y
+  reaches-told x y h = (b, reached x y .sound x y (omega arith) (omega arith) h)
 
-    share : ℕ → ℕ → Bool
-    share x y = eqb x y || (reach (drawn P) b x y && reach (drawn P) b y x)
+  reaches-test : (x y : ℕ) → Reaches P x y → closed (drawn P) b x y ≡ true
+  reaches-test x y w = reached x y .whole x y (omega arith) (omega arith) (walk-stops (drawn P) b edge-start (w .1))
 
-    share-told : (x y : ℕ) → share x y ≡ true → Share P x y
-    unfolding share
-    share-told x y h = go (either (eqb x y) _ h)
-      where
-        go : (eqb x y ≡ true) ⊎ ((reach (drawn P) b x y && reach (drawn P) b y x) ≡ true) → Share P x y
-        go (inl e) = inl (eqb-true x y e)
-        go (inr c) = let d = both (reach (drawn P) b x y) _ c in inr (reaches-told x y (d .0), reaches-told y x (d .1))
+  share-told : (x y : ℕ) → share-test P b x y ≡ true → Share P x y
+  unfolding share-test
+  share-told x y h = go (either (eqb x y) _ h)
+    where
+      go : (eqb x y ≡ true) ⊎ ((closed (drawn P) b x y && closed (drawn P) b y x) ≡ true) → Share P x y
+      go (inl e) = inl (eqb-true x y e)
+      go (inr c) = let d = both (closed (drawn P) b x y) _ c in inr (reaches-told x y (d .0), reaches-told y x (d .1))
 
-    share-test : (x y : ℕ) → Share P x y → share x y ≡ true
-    unfolding share
-    share-test x y (inl e) = rw (eq-eqb x y e)
-    share-test x y (inr w) = rw (reaches-test x y (w .0), reaches-test y x (w .1)) (or-true (eqb x y))
+  share-tested : (x y : ℕ) → Share P x y → share-test P b x y ≡ true
+  unfolding share-test
+  share-tested x y (inl e) = rw (eq-eqb x y e)
+  share-tested x y (inr w) = rw (reaches-test x y (w .0), reaches-test y x (w .1)) (or-true (eqb x y))
 
-    -- a rule whose test is idle does not offend; another does where a mixed position shares
-    decide-offends : (i : ℕ) → (h : i < length (P .rules)) → Dec (Idle P (ruleIn (P .rules) i)) → Dec (Offends P i)
-    decide-offends i h (yes q) = no (λ o. o .not-idle q)
-    decide-offends i h (no acts) = go (anyBelow n offending) refl
-      where
-        r : Rule
-        r = ruleIn (P .rules) i
+-- for the rules of a file whose fields passed
+module _ {s : List ℕ} {k : ℕ} (p : Passed s k) (b : ℕ) (heads : HeadsBelow (program s k) b) (i : ℕ) where
+  abbrev P : Program
+  P = program s k
 
-        n : ℕ
-        n = length (r .terms)
+  abbrev r : Rule
+  r = ruleIn (P .rules) i
 
-        offending : ℕ → Bool
-        offending at = isMixed (direction (P .variables) r at) && share (r .head) (termIn (r .terms) at .variable)
+  pub offends-told : i < length (P .rules) → offends-test P b i ≡ true → Offends P i
+  unfolding offends-test offends-at
+  offends-told h e =
+      let d = both (not (isIdle (P .variables) r)) _ e in
+      let f = some-below (length (r .terms)) (offends-at P b r) (d .1) in
+      let g = both (isMixed (direction (P .variables) r (f .0))) _ (f .2) in
+      record {
+        among = h;
+        not-idle = passed-acts p i h (not-true _ (d .0));
+        at = f .0;
+        inside = f .1;
+        pushes = g .0;
+        shares = share-told P b heads (r .head) (termIn (r .terms) (f .0) .variable) (g .1);
+      }
 
-        go : (t : Bool) → anyBelow n offending ≡ t → Dec (Offends P i)
-        go true e =
-            let f = some-below n offending e in
-            let g = both (isMixed (direction (P .variables) r (f .0))) _ (f .2) in
-            yes (record {
-              among = h;
-              not-idle = acts;
-              at = f .0;
-              inside = f .1;
-              pushes = g .0;
-              shares = share-told (r .head) (termIn (r .terms) (f .0) .variable) (g .1);
-            })
-        go false e = no (λ o. never (below-some n offending (o .at) (o .inside) (rw (o .pushes) (share-test (r .head) _ (o .shares)))) e)
+  pub offends-tested : Offends P i → offends-test P b i ≡ true
+  unfolding offends-test offends-at
+  offends-tested o =
+      rw (not-it (isIdle (P .variables) r) (λ e. o .not-idle (idle-told (passed-promises p) (passed-rule p i (o .among)) (is-test e))))
+      (below-some (length (r .terms)) (offends-at P b r) (o .at) (o .inside) (rw (o .pushes) (share-tested P b heads (r .head) _ (o .shares))))
 
-pub decide : {s : List ℕ} {k : ℕ} → Passed s k → (i : ℕ) → i < length (program s k .rules) → Dec (Offends (program s k) i)
-decide {s} {k} p i h =
-    decide-offends (program s k) (length (program s k .variables)) (λ i h. passed-rule p i h .head-declared) i h
-    (decide-idle (passed-promises p) (passed-rule p i h))
+-- ---- all heads are declared
+
+module _ {s : List ℕ} {k : ℕ} (p : Passed s k) where
+  declared : HeadsBelow (program s k) (length (program s k .variables))
+  declared i h = passed-rule p i h .head-declared
+
+  pub decide : (i : ℕ) → i < length (program s k .rules) → Dec (Offends (program s k) i)
+  decide i h = go (is-it (offends-test (program s k) (length (program s k .variables)) i))
+    where
+      go : Dec (offends-test (program s k) (length (program s k .variables)) i ≡ true) → Dec (Offends (program s k) i)
+      go (yes e) = yes (offends-told p _ declared i h e)
+      go (no f) = no (λ o. f (offends-tested p _ declared i o))
+
+  none-offends : (n : ℕ) → offends-in (program s k) n ≡ false → (i : ℕ) → i < n → Offends (program s k) i → ⊥
+  none-offends n e i h o = never (offends-tested p _ declared i o) (none-below n _ e i h)
+
+  pub valid-by : offends-in (program s k) (length (program s k .rules)) ≡ false → Valid (program s k)
+  valid-by e i o = none-offends _ e i (o .among) o
+
+  pub first-by : (i : ℕ) → i < length (program s k .rules) → offends-test (program s k) (length (program s k .variables)) i ≡ true
+      → offends-in (program s k) i ≡ false → FirstOffending (program s k) i
+  first-by i h t e = record { offends = offends-told p _ declared i h t; first = none-offends i e }
+
+-- ---- reading a small file
+
+-- one of the first k fields does not stand in the file or meets a refusal
+unfoldable pub unfit : List ℕ → ℕ → Bool
+unfit s k = anyBelow k (λ j. leb (length s) (place s j) || not (eqb (fieldRefusal s j) 0))
+
+pub whole-by : (s : List ℕ) (k : ℕ) → length s ≤ maxFile → unfit s k ≡ false → length s ≤ place s k → Whole s k
+unfolding unfit
+whole-by s k short fit ended = record {
+  passed = record {
+    short = short;
+    stands = λ j h. leb-false (length s) (place s j) (at j h .0);
+    fine = λ j h. eqb-true (fieldRefusal s j) 0 (not-false (eqb (fieldRefusal s j) 0) (at j h .1));
+  };
+  ended = ended;
+}
+  where
+    at : (j : ℕ) → j < k → (leb (length s) (place s j) ≡ false) × (not (eqb (fieldRefusal s j) 0) ≡ false)
+    at j h = neither (leb (length s) (place s j)) (not (eqb (fieldRefusal s j) 0)) (none-below k _ fit j h)
+
+module _ {s : List ℕ} {k : ℕ} (w : Whole s k) where
+  pub accepted-by : offends-in (program s k) (length (program s k .rules)) ≡ false
+      → Reads s (accepted (length (program s k .variables)) (length (program s k .rules)) (length (program s k .constraints)))
+  accepted-by e = whole w (valid-by (w .passed) e)
+
+  -- rules follow the variables
+  pub refused-by : (i : ℕ) → i < length (program s k .rules) → offends-test (program s k) (length (program s k .variables)) i ≡ true
+      → offends-in (program s k) i ≡ false → Reads s (refused 13 (place s (length (program s k .variables) + i)))
+  refused-by i h t e = let r = rule-at (w .passed) h in not-valid w (r .before) (r .field) (first-by (w .passed) i h t e)
