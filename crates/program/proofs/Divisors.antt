@@ -4,10 +4,11 @@ use mathlib.Core.Path.{_≡_, refl, sym, ap}
 use mathlib.Core.List.{List, [], _∷_}
 use lib.Dec.{lit<, lit≤}
 use native.Mathlib.Omega.{arith}
-use Rattle.program.specs.Reading.{Answer, accepted, refused, Reads, bad-field, whole}
+use Rattle.program.specs.Reading.{Answer, accepted, refused, Reads, bad-field}
 use Rattle.program.proofs.Places.{passed-none, passed-more}
+use Rattle.program.proofs.Decide.{whole-by, accepted-by}
 use Rattle.program.proofs.Examples as examples
-use Rattle.program.proofs.Examples.{variable, mixed-in, mixed-rule, none-mixed, accepted-not, answers}
+use Rattle.program.proofs.Examples.{variable, accepted-not, answers}
 
 -- so many zeros
 abbrev zeros : ℕ → List ℕ
@@ -67,14 +68,12 @@ divisor-1001 = bad-field {k = 1} (passed-more (passed-none _ (lit≤ tt)) (lit< 
 
 -- "a divisor from 1 to 1,000": both ends, with no other term
 pub divisor-1 : Reads (over 0 3 0 1) (accepted 1 1 0)
-unfolding examples.computes mixed-in mixed-rule
-divisor-1 =
-    whole {k = 2} (record { passed = passed-more (passed-more (passed-none _ (lit≤ tt)) (lit< tt) refl) (lit< tt) refl; ended = lit≤ tt }) (none-mixed _ refl)
+unfolding examples.computes
+divisor-1 = accepted-by (whole-by (over 0 3 0 1) 2 (lit≤ tt) refl (lit≤ tt)) refl
 
 pub divisor-1000 : Reads (over 0 3 3 232) (accepted 1 1 0)
-unfolding examples.computes mixed-in mixed-rule
-divisor-1000 =
-    whole {k = 2} (record { passed = passed-more (passed-more (passed-none _ (lit≤ tt)) (lit< tt) refl) (lit< tt) refl; ended = lit≤ tt }) (none-mixed _ refl)
+unfolding examples.computes
+divisor-1000 = accepted-by (whole-by (over 0 3 3 232) 2 (lit≤ tt) refl (lit≤ tt)) refl
 
 -- "a rule without terms 10"
 abbrev bare : List ℕ
@@ -89,9 +88,8 @@ abbrev own : List ℕ
 own = variable 1 (0x02 ∷ 0x00 ∷ 0x0C ∷ 0x08 ∷ 0x00 ∷ 0x00 ∷ 0x00 ∷ 0x00 ∷ 0x03 ∷ 0x00 ∷ 0x02 ∷ 0x00 ∷ 0x00 ∷ 0x00 ∷ 0x01 ∷ [])
 
 pub no-repeat : Reads own (accepted 1 1 0)
-unfolding examples.computes mixed-in mixed-rule
-no-repeat =
-    whole {k = 2} (record { passed = passed-more (passed-more (passed-none _ (lit≤ tt)) (lit< tt) refl) (lit< tt) refl; ended = lit≤ tt }) (none-mixed _ refl)
+unfolding examples.computes
+no-repeat = accepted-by (whole-by own 2 (lit≤ tt) refl (lit≤ tt)) refl
 
 -- ---- a reader whose every answer is the specification's
 

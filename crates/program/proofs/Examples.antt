@@ -1,31 +1,27 @@
 -- Document 01's small examples, shown of the specification; and wrong readers that it rules out.
-use Prim.Native.Nat.{ℕ, _<_}
+use Prim.Native.Nat.{ℕ}
 use mathlib.Core.Path.{_≡_, refl, sym, ap, _∙_}
-use mathlib.Core.Logic.{inl, inr}
 use mathlib.Core.List.{List, [], _∷_}
-use mathlib.Core.Bool.{Bool, false}
 use lib.Dec.{lit<, lit≤}
-use lib.ListN.{length}
 use native.Mathlib.Omega.{arith}
 use Rattle.format.specs.Numbers.{beyond}
-use Rattle.walks.specs.Walk as walk
+use Rattle.walks.specs.Walk.{closed}
 use Rattle.program.specs.Tables.{anyBelow}
 use Rattle.program.specs.Fields.{place, tagBefore}
-use Rattle.program.specs.Program.{Program, program, divisorTerms, termForm, termsOf, ruleIn}
+use Rattle.program.specs.Program.{program, divisorTerms, termForm, termsOf}
 use Rattle.program.specs.Refusals.{cutShort, unknownTag, tagBelow, oneTooMany, notTerms, wrongLength, literalPosition, wrongOp, mustBeZero, wrongTerm, unknownForm}
 use Rattle.program.specs.Refusals.{wrongDivisor, wrongConstraint, wrongForm, outsideTerm, outsideDivisor, outsideRange, undeclaredTerm, wrongHead, undeclared}
 use Rattle.program.specs.Refusals.{wrongCountOf, wrongDivisors, wrongCount, repeatedTerm, variableTwice, negativeTerm, negativeProduct, itemRefusal, valueRefusal}
 use Rattle.program.specs.Refusals.{fieldRefusal}
-use Rattle.program.specs.Directions.{plainDirection, termDirection, direction, isMixed}
+use Rattle.program.specs.Directions.{plainDirection, termDirection, direction}
 use Rattle.program.specs.Variables.{start, notPast}
 use Rattle.program.specs.Evaluate.{sumBelow, pickTo, allHold, overUp, amountOf, evaluate}
 use Rattle.program.specs.Idle.{demanding, most, isIdle}
-use Rattle.program.specs.Components.{draws, edge, Offends, Valid}
-use Rattle.program.specs.Reading.{Answer, accepted, refused, Passed, Reads, bad-field, not-valid, whole}
-use Rattle.program.proofs.Conditions.{never, none-below}
+use Rattle.program.specs.Components.{draws, edge}
+use Rattle.program.specs.Reading.{Answer, accepted, refused, Reads, bad-field}
 use Rattle.program.proofs.Places.{passed-none, passed-more}
 use Rattle.program.proofs.Unique.{reads-unique}
-use Rattle.program.proofs.IdleRules.{passed-acts}
+use Rattle.program.proofs.Decide.{share-test, offends-at, offends-test, unfit, whole-by, accepted-by, refused-by}
 
 -- unfolding this unfolds the specification
 fields-compute : Unit {0}
@@ -44,31 +40,20 @@ gives-compute : Unit {0}
 unfolding sumBelow pickTo allHold overUp amountOf evaluate start notPast demanding most isIdle
 gives-compute = tt
 
+valid-computes : Unit {0}
+unfolding plainDirection termDirection direction draws edge closed share-test offends-at offends-test unfit
+valid-computes = tt
+
 unfoldable pub computes : Unit {0}
-unfolding fields-compute terms-compute items-compute gives-compute plainDirection termDirection direction draws edge
+unfolding fields-compute terms-compute items-compute gives-compute valid-computes
 computes = tt
-
--- rule i has a mixed position, and some of the first n rules has
-unfoldable pub mixed-rule : Program → ℕ → Bool
-mixed-rule P i = anyBelow (length (ruleIn (P .rules) i .terms)) (λ j. isMixed (direction (P .variables) (ruleIn (P .rules) i) j))
-
-unfoldable pub mixed-in : Program → ℕ → Bool
-mixed-in P n = anyBelow n (mixed-rule P)
-
--- none of them offends where none has
-none-offends : (P : Program) (n : ℕ) → mixed-in P n ≡ false → (i : ℕ) → i < n → Offends P i → ⊥
-unfolding mixed-in mixed-rule
-none-offends P n e i h o = never (o .pushes) (none-below _ _ (none-below n (mixed-rule P) e i h) (o .at) (o .inside))
-
-pub none-mixed : (P : Program) → mixed-in P (length (P .rules)) ≡ false → Valid P
-none-mixed P e i o = none-offends P _ e i (o .among) o
 
 abbrev pub variable : ℕ → List ℕ → List ℕ
 variable kind rest = 0x01 ∷ 0x00 ∷ 0x05 ∷ kind ∷ 0x00 ∷ 0x00 ∷ 0x00 ∷ 0x01 ∷ rest
 
 pub empty : Reads [] (accepted 0 0 0)
-unfolding computes mixed-in mixed-rule
-empty = whole {k = 0} (record { passed = passed-none [] (lit≤ tt); ended = lit≤ tt }) (none-mixed _ refl)
+unfolding computes
+empty = accepted-by (whole-by [] 0 (lit≤ tt) refl (lit≤ tt)) refl
 
 pub row-2 : Reads (0x01 ∷ 0x00 ∷ 0x05 ∷ 0x01 ∷ []) (refused 2 0)
 unfolding computes
@@ -124,80 +109,30 @@ row-12 = bad-field {k = 3} (passed-more (passed-more (passed-more (passed-none _
 abbrev sized : ℕ → ℕ → List ℕ
 sized high low = variable 1 (1 ∷ 0 ∷ 5 ∷ 1 ∷ high ∷ low ∷ 0 ∷ 10 ∷ 2 ∷ 0 ∷ 8 ∷ 5 ∷ 0 ∷ 0 ∷ 0 ∷ 1 ∷ 0 ∷ 0 ∷ 0 ∷ 2 ∷ 0 ∷ 8 ∷ 1 ∷ 1 ∷ 255 ∷ 250 ∷ 0 ∷ 0 ∷ 0 ∷ 2 ∷ [])
 
-sized-passed : Passed (sized 255 246) 4
-unfolding computes
-sized-passed = passed-more (passed-more (passed-more (passed-more (passed-none _ (lit≤ tt)) (lit< tt) refl) (lit< tt) refl) (lit< tt) refl) (lit< tt) refl
-
 pub row-13 : Reads (sized 255 246) (refused 13 16)
 unfolding computes
-row-13 =
-    not-valid {k = 4} {j = 2} {i = 0}
-    (record { passed = sized-passed; ended = lit≤ tt })
-    (lit< tt)
-    (record { tagged = refl; number = refl })
-    (record {
-      offends = record {
-        among = lit< tt;
-        not-idle = passed-acts sized-passed 0 (lit< tt) refl;
-        at = 0;
-        inside = lit< tt;
-        pushes = refl;
-        shares = inr ((0, walk.edge refl), (0, walk.edge refl));
-      };
-      first = λ j h. absurd (omega arith);
-    })
+row-13 = refused-by (whole-by (sized 255 246) 4 (lit≤ tt) refl (lit≤ tt)) 0 (lit< tt) refl refl
 
 -- the same rules in the other order: the second one offends
 abbrev other-order : List ℕ
 other-order = variable 1 (1 ∷ 0 ∷ 5 ∷ 1 ∷ 255 ∷ 246 ∷ 0 ∷ 10 ∷ 2 ∷ 0 ∷ 8 ∷ 1 ∷ 1 ∷ 255 ∷ 250 ∷ 0 ∷ 0 ∷ 0 ∷ 2 ∷ 2 ∷ 0 ∷ 8 ∷ 5 ∷ 0 ∷ 0 ∷ 0 ∷ 1 ∷ 0 ∷ 0 ∷ 0 ∷ [])
 
-other-passed : Passed other-order 4
-unfolding computes
-other-passed = passed-more (passed-more (passed-more (passed-more (passed-none _ (lit≤ tt)) (lit< tt) refl) (lit< tt) refl) (lit< tt) refl) (lit< tt) refl
-
 pub row-13-last : Reads other-order (refused 13 27)
-unfolding computes mixed-in mixed-rule
-row-13-last =
-    not-valid {k = 4} {j = 3} {i = 1}
-    (record { passed = other-passed; ended = lit≤ tt })
-    (lit< tt)
-    (record { tagged = refl; number = refl })
-    (record {
-      offends = record {
-        among = lit< tt;
-        not-idle = passed-acts other-passed 1 (lit< tt) refl;
-        at = 0;
-        inside = lit< tt;
-        pushes = refl;
-        shares = inr ((0, walk.edge refl), (0, walk.edge refl));
-      };
-      first = none-offends _ 1 refl;
-    })
+unfolding computes
+row-13-last = refused-by (whole-by other-order 4 (lit≤ tt) refl (lit≤ tt)) 1 (lit< tt) refl refl
 
 -- the same rules with b from 0: nothing is mixed
 pub row-13-from-zero : Reads (sized 0 0) (accepted 2 2 0)
-unfolding computes mixed-in mixed-rule
-row-13-from-zero =
-    whole {k = 4}
-    (record {
-      passed = passed-more (passed-more (passed-more (passed-more (passed-none _ (lit≤ tt)) (lit< tt) refl) (lit< tt) refl) (lit< tt) refl) (lit< tt) refl;
-      ended = lit≤ tt;
-    })
-    (none-mixed _ refl)
+unfolding computes
+row-13-from-zero = accepted-by (whole-by (sized 0 0) 4 (lit≤ tt) refl (lit≤ tt)) refl
 
 -- a ≥ b × d, all in 0..1
 abbrev product : List ℕ
 product = variable 1 (variable 1 (variable 1 (2 ∷ 0 ∷ 12 ∷ 4 ∷ 0 ∷ 0 ∷ 0 ∷ 1 ∷ 0 ∷ 0 ∷ 0 ∷ 2 ∷ 0 ∷ 0 ∷ 0 ∷ [])))
 
 pub row-12-from-zero : Reads product (accepted 3 1 0)
-unfolding computes mixed-in mixed-rule
-row-12-from-zero =
-    whole {k = 4}
-    (record {
-      passed = passed-more (passed-more (passed-more (passed-more (passed-none _ (lit≤ tt)) (lit< tt) refl) (lit< tt) refl) (lit< tt) refl) (lit< tt) refl;
-      ended = lit≤ tt;
-    })
-    (none-mixed _ refl)
+unfolding computes
+row-12-from-zero = accepted-by (whole-by product 4 (lit≤ tt) refl (lit≤ tt)) refl
 
 -- a ≥ k·b
 abbrev scaled : ℕ → List ℕ
@@ -209,14 +144,8 @@ row-8-coefficient = bad-field {k = 2} (passed-more (passed-more (passed-none _ (
 
 -- coefficient 1, of the last declared variable
 pub row-8-from-one : Reads (scaled 1) (accepted 2 1 0)
-unfolding computes mixed-in mixed-rule
-row-8-from-one =
-    whole {k = 3}
-    (record {
-      passed = passed-more (passed-more (passed-more (passed-none _ (lit≤ tt)) (lit< tt) refl) (lit< tt) refl) (lit< tt) refl;
-      ended = lit≤ tt;
-    })
-    (none-mixed _ refl)
+unfolding computes
+row-8-from-one = accepted-by (whole-by (scaled 1) 3 (lit≤ tt) refl (lit≤ tt)) refl
 
 -- a ≥ b, where a is the last variable
 abbrev undeclared-next : List ℕ
@@ -230,21 +159,9 @@ row-9-next = bad-field {k = 1} (passed-more (passed-none _ (lit≤ tt)) (lit< tt
 abbrev own-size : List ℕ
 own-size = 1 ∷ 0 ∷ 5 ∷ 1 ∷ 255 ∷ 246 ∷ 0 ∷ 10 ∷ 2 ∷ 0 ∷ 8 ∷ 5 ∷ 0 ∷ 0 ∷ 0 ∷ 0 ∷ 0 ∷ 0 ∷ 0 ∷ []
 
-own-passed : Passed own-size 2
-unfolding computes
-own-passed = passed-more (passed-more (passed-none _ (lit≤ tt)) (lit< tt) refl) (lit< tt) refl
-
 pub row-13-own : Reads own-size (refused 13 8)
 unfolding computes
-row-13-own =
-    not-valid {k = 2} {j = 1} {i = 0}
-    (record { passed = own-passed; ended = lit≤ tt })
-    (lit< tt)
-    (record { tagged = refl; number = refl })
-    (record {
-      offends = record { among = lit< tt; not-idle = passed-acts own-passed 0 (lit< tt) refl; at = 0; inside = lit< tt; pushes = refl; shares = inl refl };
-      first = λ j h. absurd (omega arith);
-    })
+row-13-own = refused-by (whole-by own-size 2 (lit≤ tt) refl (lit≤ tt)) 0 (lit< tt) refl refl
 
 -- ---- a reader whose every answer is the specification's
 
@@ -252,7 +169,7 @@ row-13-own =
 pub accepted-not : (a b c n at : ℕ) → accepted a b c ≡ refused n at → ⊥
 accepted-not a b c n at e = let z : _≡_ {A = ℕ} 0 1 = cc in omega arith
 
-abbrev place-of : Answer → ℕ
+abbrev pub place-of : Answer → ℕ
 place-of (accepted a b c) = 0
 place-of (refused n at) = at
 

@@ -19,5 +19,6 @@ pub mod DividedSums
 pub mod Monotone
 pub mod IdleRules
 pub mod Examples
+pub mod IdleExamples
 pub mod Divisors
 pub mod WrongForms
