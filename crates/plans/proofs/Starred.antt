@@ -2,14 +2,15 @@
 use Prim.Native.Nat.{ℕ, _*_, _<_, _≤_}
 use mathlib.Core.Path.{_≡_, refl, subst}
 use mathlib.Core.List.{List, [], _∷_}
-use mathlib.Core.Bool.{Bool, false, not, _||_}
+use mathlib.Core.Bool.{Bool, false, not}
 use native.Mathlib.Omega.{arith}
-use borrow.Author.Tests.{leb-false, eqb-true, not-false}
-use lib.Dec.{T, lit<, lit≤, eqb, leb, ltb, ltb→lt, nltb→le}
+use borrow.Author.Tests.{not-false}
+use lib.Dec.{T, lit<, lit≤, ltb, ltb→lt, nltb→le}
 use lib.IntN.{ℤ, pos, negℤ}
 use lib.ListN.{length}
 use Rattle.format.specs.Limits.{maxFile}
 use Rattle.format.specs.Numbers.{beyond}
+use Rattle.walks.specs.Walk.{closed}
 use Rattle.program.specs.Tables.{anyBelow}
 use Rattle.program.specs.Fields.{place, tagBefore}
 use Rattle.program.specs.Program.{Program, program, divisorTerms, termsOf, variableIn, ruleIn}
@@ -17,10 +18,11 @@ use Rattle.program.specs.Refusals.{cutShort, unknownTag, tagBelow, oneTooMany, 
 use Rattle.program.specs.Refusals.{unknownForm, wrongDivisor, wrongConstraint, wrongForm, outsideTerm, outsideDivisor, outsideRange, undeclaredTerm, wrongHead, undeclared}
 use Rattle.program.specs.Refusals.{wrongCountOf, wrongDivisors, wrongCount, repeatedTerm, variableTwice, negativeTerm, negativeProduct, itemRefusal, valueRefusal}
 use Rattle.program.specs.Refusals.{fieldRefusal}
-use Rattle.program.specs.Directions.{direction, isMixed}
-use Rattle.program.specs.Components.{Valid}
+use Rattle.program.specs.Idle.{demanding, most, isIdle}
+use Rattle.program.specs.Components.{draws, edge}
 use Rattle.program.specs.Reading.{Accepts}
-use Rattle.program.proofs.Conditions.{never, neither, none-below}
+use Rattle.program.proofs.Conditions.{never, none-below}
+use Rattle.program.proofs.Decide.{share-test, offends-at, offends-test, offends-in, valid-by, unfit, whole-by}
 use Rattle.program.proofs.Promises.{accepts-promises}
 use Rattle.meaning.specs.Founded.{Model, Least}
 use Rattle.meaning.specs.Reduct.{system}
@@ -38,14 +40,6 @@ use Rattle.program.proofs.Variables.{past-refl, past-trans}
 use Rattle.program.specs.declared.Variable.{Variable}
 
 -- ---- the tests
-
--- one of the first k fields does not stand in the file or meets a refusal
-unfoldable pub unfit : List ℕ → ℕ → Bool
-unfit s k = anyBelow k (λ j. leb (length s) (place s j) || not (eqb (fieldRefusal s j) 0))
-
--- some rule has a mixed position
-unfoldable pub mixed-in : Program → Bool
-mixed-in P = anyBelow (length (P .rules)) (λ i. anyBelow (length (ruleIn (P .rules) i .terms)) (λ j. isMixed (direction (P .variables) (ruleIn (P .rules) i) j)))
 
 -- some variable is outside its range
 unfoldable pub outside-in : Program → Valuation → Bool
@@ -75,38 +69,22 @@ bodies-compute : Unit {0}
 unfolding wrongDivisor outsideDivisor wrongDivisors wrongCount repeatedTerm variableTwice negativeTerm negativeProduct
 bodies-compute = tt
 
+valid-compute : Unit {0}
+unfolding demanding most isIdle draws edge closed share-test offends-at offends-test unfit
+valid-compute = tt
+
 -- and this also the tests and the search
 unfoldable pub computes : Unit {0}
-unfolding fields-compute items-compute bodies-compute searching.computes unfit mixed-in outside-in unmet-in above-in
+unfolding fields-compute items-compute bodies-compute valid-compute searching.computes outside-in unmet-in above-in
 computes = tt
 
 -- ---- what they mean
 
-none-mixed : (P : Program) → mixed-in P ≡ false → Valid P
-unfolding mixed-in
-none-mixed P e i o = never (o .pushes) (none-below _ _ (none-below _ _ e i (o .among)) (o .at) (o .inside))
-
-pub read-valid : (s : List ℕ) (k : ℕ) → length s ≤ maxFile → unfit s k ≡ false → length s ≤ place s k → Valid (program s k) → Accepts s (program s k)
-unfolding unfit
-read-valid s k short fit ended valid = record {
-  fields = k;
-  whole = record {
-    passed = record {
-      short = short;
-      stands = λ j h. leb-false (length s) (place s j) (at j h .0);
-      fine = λ j h. eqb-true (fieldRefusal s j) 0 (not-false (eqb (fieldRefusal s j) 0) (at j h .1));
-    };
-    ended = ended;
-  };
-  means = refl;
-  valid = valid;
-}
-  where
-    at : (j : ℕ) → j < k → (leb (length s) (place s j) ≡ false) × (not (eqb (fieldRefusal s j) 0) ≡ false)
-    at j h = neither (leb (length s) (place s j)) (not (eqb (fieldRefusal s j) 0)) (none-below k _ fit j h)
-
-pub read : (s : List ℕ) (k : ℕ) → length s ≤ maxFile → unfit s k ≡ false → length s ≤ place s k → mixed-in (program s k) ≡ false → Accepts s (program s k)
-read s k short fit ended none = read-valid s k short fit ended (none-mixed (program s k) none)
+pub read : (s : List ℕ) (k : ℕ) → length s ≤ maxFile → unfit s k ≡ false → length s ≤ place s k
+    → offends-in (program s k) (length (program s k .rules)) ≡ false → Accepts s (program s k)
+read s k short fit ended none =
+    let w = whole-by s k short fit ended in
+    record { fields = k; whole = w; means = refl; valid = valid-by (w .passed) none }
 
 pub all-inside : (P : Program) (θ : Valuation) → outside-in P θ ≡ false → AllInside P θ
 unfolding outside-in

@@ -1,20 +1,13 @@
 -- Wrong calls on files with a mixed position: a small file of this kind is valid, since no walk leads back, and its one report has both marks.
-use Prim.Native.Nat.{ℕ, zero, suc, _<_, _≤_}
+use Prim.Native.Nat.{ℕ, _≤_}
 use mathlib.Core.Path.{_≡_, refl, ap}
-use mathlib.Core.Bool.{Bool, true, false, _&&_}
-use mathlib.Core.Logic.{inl, inr}
 use mathlib.Core.List.{List, [], _∷_}
 use native.Mathlib.Omega.{arith}
-use lib.Dec.{eqb, lit≤}
+use lib.Dec.{lit≤}
 use lib.IntN.{pos, negℤ}
 use lib.ListN.{length, getD, replicate}
-use Rattle.walks.specs.Walk as walk
-use Rattle.walks.specs.Walk.{Walk}
-use Rattle.program.specs.Program.{program, termIn, ruleIn}
-use Rattle.program.specs.Components.{draws, edge, Share, Valid}
-use Rattle.program.specs.Directions.{direction, isMixed}
+use Rattle.program.specs.Program.{program}
 use Rattle.program.specs.Reading.{Reads, refused, Accepts}
-use Rattle.program.proofs.Conditions.{never}
 use Rattle.program.proofs.Unique.{reads-unique, accepts-reads}
 use Rattle.verdict.specs.Checks.{Answer, unfounded, Checks}
 use Rattle.verdict.proofs.Demanded.{second}
@@ -22,7 +15,7 @@ use Rattle.verdict.proofs.Determined.{checks-unique}
 use Rattle.plans.specs.Starred.{UnfoundedPlan, variable, small}
 use Rattle.plans.specs.StarredChecks.{Checked}
 use Rattle.plans.proofs.Starred as plans
-use Rattle.plans.proofs.Starred.{read-valid, plan-of, unfounded-plan}
+use Rattle.plans.proofs.Starred.{read, plan-of, unfounded-plan}
 use Rattle.plans.proofs.StarredChecks as checks
 use Rattle.plans.proofs.StarredChecks.{unfounded-checked}
 
@@ -30,29 +23,9 @@ use Rattle.plans.proofs.StarredChecks.{unfounded-checked}
 abbrev sized : List ℕ
 sized = variable 1 0 0 0 10 (variable 0 0xFF 0xF6 0 10 (2 ∷ 0 ∷ 8 ∷ 5 ∷ 0 ∷ 0 ∷ 0 ∷ 1 ∷ 0 ∷ 0 ∷ 0 ∷ []))
 
--- b heads no rule, so no walk starts there
-none-from : {n : ℕ} → Walk (edge (program sized 3)) n 1 0 → ⊥
-unfolding plans.computes draws edge
-none-from (walk.edge e) = never e refl
-none-from (walk.step e h w) = never e refl
-
-apart : Share (program sized 3) 0 1 → ⊥
-apart (inl e) = omega arith
-apart (inr x) = none-from (x .1 .1)
-
-valid : Valid (program sized 3)
-unfolding plans.computes
-valid i o = at i (o .at) (o .among) (o .inside) (o .shares)
-  where
-    at : (i j : ℕ) → i < 1 → j < length (ruleIn (program sized 3 .rules) i .terms)
-        → Share (program sized 3) (ruleIn (program sized 3 .rules) i .head) (termIn (ruleIn (program sized 3 .rules) i .terms) j .variable) → ⊥
-    at zero zero h k s = apart s
-    at zero (suc j) h k s = omega arith
-    at (suc i) j h k s = omega arith
-
 sized-read : Accepts sized (program sized 3)
 unfolding plans.computes
-sized-read = read-valid sized 3 (lit≤ tt) refl (lit≤ tt) valid
+sized-read = read sized 3 (lit≤ tt) refl (lit≤ tt) refl
 
 -- a 5, b -3: bound a 3; b at most -3 and at least -3
 abbrev values : List ℕ
@@ -91,38 +64,9 @@ circle =
     variable 1 0 0 0 10 (variable 1 0xFF 0xF6 0 10
     (2 ∷ 0 ∷ 8 ∷ 5 ∷ 0 ∷ 0 ∷ 0 ∷ 1 ∷ 0 ∷ 0 ∷ 0 ∷ 2 ∷ 0 ∷ 8 ∷ 1 ∷ 1 ∷ 0 ∷ 0 ∷ 0 ∷ 0 ∷ 0xFF ∷ 0xFF ∷ []))
 
-and-false : (b : Bool) → (b && false) ≡ false
-and-false true = refl
-and-false false = refl
-
-no-edge : (m : ℕ) → edge (program circle 4) 1 m ≡ false
-unfolding plans.computes draws edge
-no-edge m = and-false (eqb 0 m)
-
-no-walk : {n : ℕ} → Walk (edge (program circle 4)) n 1 0 → ⊥
-no-walk (walk.edge e) = never e (no-edge _)
-no-walk (walk.step e h w) = never e (no-edge _)
-
-parted : Share (program circle 4) 0 1 → ⊥
-parted (inl e) = omega arith
-parted (inr x) = no-walk (x .1 .1)
-
-circle-valid : Valid (program circle 4)
-unfolding plans.computes
-circle-valid i o = at i (o .at) (o .among) (o .inside) (o .pushes) (o .shares)
-  where
-    at : (i j : ℕ) → i < 2 → j < length (ruleIn (program circle 4 .rules) i .terms)
-        → isMixed (direction (program circle 4 .variables) (ruleIn (program circle 4 .rules) i) j) ≡ true
-        → Share (program circle 4) (ruleIn (program circle 4 .rules) i .head) (termIn (ruleIn (program circle 4 .rules) i .terms) j .variable) → ⊥
-    at zero zero h k p s = parted s
-    at zero (suc j) h k p s = omega arith
-    at (suc zero) zero h k p s = never p refl
-    at (suc zero) (suc j) h k p s = omega arith
-    at (suc (suc i)) j h k p s = omega arith
-
 circle-read : Accepts circle (program circle 4)
 unfolding plans.computes
-circle-read = read-valid circle 4 (lit≤ tt) refl (lit≤ tt) circle-valid
+circle-read = read circle 4 (lit≤ tt) refl (lit≤ tt) refl
 
 -- one that draws edges at falling positions turns the file down
 pub not-falling-drawn : {at : ℕ} → Reads circle (refused 13 at) → ⊥
