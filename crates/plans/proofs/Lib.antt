@@ -1,6 +1,7 @@
 pub mod Starred
 pub mod StarredChecks
 pub mod Shared
+pub mod IdlePlans
 pub mod WrongCalls
 pub mod WrongChecks
 pub mod WrongLeast

@@ -1,3 +1,4 @@
 pub mod Starred
 pub mod StarredChecks
 pub mod Shared
+pub mod IdlePlans
