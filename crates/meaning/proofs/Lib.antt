@@ -7,6 +7,7 @@ pub mod Denials
 pub mod Determined
 pub mod LeastDemanded
 pub mod InRanges
+pub mod IdleRules
 pub mod Steps
 pub mod Search
 pub mod Total

@@ -38,7 +38,7 @@ module _ (P : Program) where
   moves-of m θ m′ θ′ x Mixed h = h
 
   -- a reading of two valuations in the ranges is in the range
-  read-between : {m θ : Valuation} → Within (system P) m → Within (system P) θ → (b : Bool) (x : ℕ) → Between (variableIn (P .variables) x) (cond b (m x) (θ x))
+  pub read-between : {m θ : Valuation} → Within (system P) m → Within (system P) θ → (b : Bool) (x : ℕ) → Between (variableIn (P .variables) x) (cond b (m x) (θ x))
   read-between {m} {θ} wm wθ true x = record { low = low-in (variableIn (P .variables) x) (m x) (wm .inside x); high = high-in (variableIn (P .variables) x) (m x) (wm .inside x) }
   read-between {m} {θ} wm wθ false x = record { low = low-in (variableIn (P .variables) x) (θ x) (wθ .inside x); high = high-in (variableIn (P .variables) x) (θ x) (wθ .inside x) }
 

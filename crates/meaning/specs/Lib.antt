@@ -1,6 +1,7 @@
 pub mod Founded
 pub mod Reduct
 pub mod Stable
+pub mod LeftOut
 pub mod Calls
 pub mod LeastCall
 pub mod LeastDemands

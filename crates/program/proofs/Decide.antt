@@ -20,10 +20,10 @@ use Rattle.program.specs.Idle.{isIdle}
 use Rattle.program.specs.Components.{draws, Reaches, Share, Offends, Valid, FirstOffending, edge as drawn}
 use Rattle.program.specs.Reading.{Passed, Whole, Reads, accepted, refused, not-valid, whole}
 use Rattle.program.proofs.Conditions.{never, neither, both, none-below, some-below, below-some}
-use Rattle.program.proofs.Tests.{is-it, is-test, not-it}
+use Rattle.program.proofs.Tests.{is-it}
 use Rattle.program.proofs.Places.{rule-at}
-use Rattle.program.proofs.Promises.{passed-rule, passed-promises}
-use Rattle.program.proofs.IdleRules.{idle-told, passed-acts}
+use Rattle.program.proofs.Promises.{passed-rule}
+use Rattle.program.proofs.IdleRules.{passed-acts, passed-not-idle}
 
 either : (a b : Bool) → (a || b) ≡ true → (a ≡ true) ⊎ (b ≡ true)
 either true b h = inl refl
@@ -126,7 +126,7 @@ module _ {s : List ℕ} {k : ℕ} (p : Passed s k) (b : ℕ) (heads : HeadsBelow
   pub offends-tested : Offends P i → offends-test P b i ≡ true
   unfolding offends-test offends-at
   offends-tested o =
-      rw (not-it (isIdle (P .variables) r) (λ e. o .not-idle (idle-told (passed-promises p) (passed-rule p i (o .among)) (is-test e))))
+      rw (passed-not-idle p i (o .among) (o .not-idle))
       (below-some (length (r .terms)) (offends-at P b r) (o .at) (o .inside) (rw (o .pushes) (share-tested P b heads (r .head) _ (o .shares))))
 
 -- ---- all heads are declared

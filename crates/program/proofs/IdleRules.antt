@@ -1,10 +1,10 @@
 -- The most that a rule can give over ranges, and that the test of an idle rule is right: each position read where it makes the rule give most bounds
 -- every other reading, and values of the variables give that reading, since no variable stands twice in a body.
 use Prim.Native.Nat.{ℕ, zero, suc, _<_, _≤_}
-use mathlib.Core.Path.{_≡_, refl, sym, ap, _∙_, subst}
+use mathlib.Core.Path.{_≡_, refl, sym, ap, _∙_}
 use mathlib.Core.Logic.{_≢_}
 use mathlib.Core.List.{List}
-use mathlib.Core.Bool.{Bool, true, false, not, cond}
+use mathlib.Core.Bool.{Bool, true, false, cond}
 use native.Mathlib.Omega.{arith}
 use lib.IntN.{ℤ, pos, natAbs, _+ℤ_}
 use lib.Signed.{_≤ℤ_, leZ, ltZ, ≤ℤ-refl}
@@ -19,7 +19,7 @@ use Rattle.program.specs.Directions.{bySign, plainDirection, termDirecti
 use Rattle.program.specs.Evaluate.{onlyIf, evaluate}
 use Rattle.program.specs.Readings.{Valuation, bodyVariable}
 use Rattle.program.specs.Reading.{Passed}
-use Rattle.program.specs.Idle.{BodyInRange, Idle, demanding, most, isIdle}
+use Rattle.program.specs.Idle.{Idle, demanding, most, isIdle}
 use Rattle.program.specs.declared.Direction.{Direction}
 use Rattle.program.specs.declared.Direction.the-variants.{Rising, Falling, Mixed}
 use Rattle.program.specs.declared.Given.{Given}
@@ -27,7 +27,7 @@ use Rattle.program.specs.declared.Given.the-variants.{Nothing, Value}
 use Rattle.program.specs.declared.Variable.{Variable}
 use Rattle.program.specs.declared.Term.{Term}
 use Rattle.program.proofs.Conditions.{never, last-or}
-use Rattle.program.proofs.Tests.{cases, is-true, is-test, and-both}
+use Rattle.program.proofs.Tests.{cases, is-true, is-test, not-it, and-both}
 use Rattle.program.proofs.Variables.{low-in, high-in, past-trans, between-small}
 use Rattle.program.proofs.Promises.{RulePromise, Promises, plain-position, passed-rule, passed-promises}
 use Rattle.program.proofs.Gives.{seven, amount-size, plain-hold, given-is, evaluate-same, promised-evaluable}
@@ -252,17 +252,20 @@ module _ {P : Program} (promises : Promises P) {r : Rule} (p : RulePromise (P .v
       in-range : (x : Variable) (a : ℤ) → Held (x .low) (x .high) a → T (inRange x a)
       in-range x a h = and-both (leZ (x .low) a) (leZ a (x .high)) (h .least .le) (h .greatest .le)
 
-  pub decide-idle : Dec (Idle P r)
-  decide-idle = cases (isIdle (P .variables) r) (λ b. isIdle (P .variables) r ≡ b → Dec (Idle P r)) (λ t e. yes (idle-told (is-test e)))
-      (λ t e. no (λ q. never (is-true _ (idle-test q)) e)) refl
-
--- the rules of a file whose fields passed: one for which the test says no is not idle, and the other way round
+-- for every rule of a file whose fields passed the test is `Idle`
 module _ {s : List ℕ} {k : ℕ} (w : Passed s k) (i : ℕ) (h : i < length (program s k .rules)) where
   abbrev tested : Bool
   tested = isIdle (program s k .variables) (ruleIn (program s k .rules) i)
 
+  pub passed-told : tested ≡ true → Idle (program s k) (ruleIn (program s k .rules) i)
+  passed-told e = idle-told (passed-promises w) (passed-rule w i h) (is-test e)
+
+  pub passed-test : Idle (program s k) (ruleIn (program s k .rules) i) → tested ≡ true
+  passed-test q = is-true tested (idle-test (passed-promises w) (passed-rule w i h) q)
+
+  -- and where the one says no, so does the other
   pub passed-acts : tested ≡ false → Idle (program s k) (ruleIn (program s k .rules) i) → ⊥
-  passed-acts e q = never (is-true tested (idle-test (passed-promises w) (passed-rule w i h) q)) e
+  passed-acts e q = never (passed-test q) e
 
   pub passed-not-idle : (Idle (program s k) (ruleIn (program s k .rules) i) → ⊥) → tested ≡ false
-  passed-not-idle f = cases tested (λ b. tested ≡ b → tested ≡ false) (λ t e. absurd (f (idle-told (passed-promises w) (passed-rule w i h) (is-test e)))) (λ t e. e) refl
+  passed-not-idle f = not-it tested (λ e. f (passed-told e))

@@ -26,7 +26,7 @@ Idle P r =
     let x = variableIn (P .variables) (r .head) in
     (a : Valuation) → BodyInRange P r a → T (noMore x (evaluate r (λ i. a (bodyVariable r i))) (start x))
 
--- ---- a test, by the directions: it is `Idle` for every rule of a file whose fields passed (laws `idle-told` and `idle-test`, proofs/IdleRules.antt)
+-- ---- a test, by the directions: for every rule of a file whose fields passed it is `Idle` (laws `passed-told` and `passed-test`, proofs/IdleRules.antt)
 
 -- the value from low to high at which a position that pushes this way makes its rule give most; a mixed one's size is largest further from 0
 unfoldable pub demanding : Direction → ℤ → ℤ → ℤ
