@@ -6,10 +6,13 @@ use native.Mathlib.Omega.{arith}
 use lib.Dec.{lit<, lit≤}
 use lib.IntN.{pos, negℤ}
 use lib.ListN.{length}
-use Rattle.program.specs.Program.{Program, program}
+use Rattle.program.specs.Program.{Program, program, ruleIn}
+use Rattle.program.specs.Idle.{Idle}
 use Rattle.program.specs.Reading.{Accepts}
 use Rattle.meaning.specs.LeastCall.{FirstOutside}
-use Rattle.meaning.specs.Stable.{assigned}
+use Rattle.program.proofs.Promises.{accepts-promises}
+use Rattle.program.proofs.IdleRules.{idle-told}
+use Rattle.meaning.specs.Stable.{assigned, RuleMet}
 use Rattle.meaning.proofs.Denials.{called}
 use Rattle.verdict.specs.Checks.{refusal, range, rule, unfounded, checkBytes, Checks, judged, outside}
 use Rattle.verdict.proofs.Demanded.{word, first, second}
@@ -63,6 +66,16 @@ idle-checks = record {
   needs-9-shown = unfounded-checked (unfounded-plan (plan-of _ needs-9-read refl refl) 9 (pos 3 ∷ negℤ (pos 10) ∷ pos 4 ∷ []) refl refl refl 1 refl)
       needs-9-read 3 refl 1 tt _ _ refl refl _ refl refl;
 }
+
+-- ---- out of its ranges an assignment can make an idle rule lift: b ≥ 2a - 30 at a = 11
+
+pub twice-idle : Idle (program twice 4) (ruleIn (program twice 4 .rules) 1)
+unfolding plans.computes
+twice-idle = let p = accepts-promises twice-read in idle-told p (p .rules 1 (lit< tt)) tt
+
+pub outside-lifts : RuleMet (program twice 4) (assigned (small 11 (below 10 []))) 1 → ⊥
+unfolding checks.computes
+outside-lifts t = t
 
 -- ---- wrong checks
 
