@@ -279,15 +279,15 @@ static void printing_example(void)
     term(1, OVER, 1);
 }
 
-/* a in 0..10, b in low..10, a >= |b|, b >= 2a - 6 */
-static void size_circle(int low)
+/* a in 0..10, b in low..10, a >= |b|, b >= 2a + c */
+static void size_circle(int low, int c)
 {
     fresh();
     variable(FOUNDED, 0, 10);
     variable(FOUNDED, low, 10);
     rule(SIZE, 0, 0);
     term(1, PLAIN, 0);
-    rule(SUM, 1, -6);
+    rule(SUM, 1, c);
     term(0, PLAIN, 2);
 }
 
@@ -320,7 +320,7 @@ static void rows(void)
     term(1, PLAIN, 0);
     term(2, PLAIN, 0);
     try_read("row 12");
-    size_circle(-10);
+    size_circle(-10, -6);
     try_read("row 13");
 }
 
@@ -476,9 +476,9 @@ static void plans(void)
     both("a >= (x + y + z) / 3: -2 -4 -1 -2", VALUES(-2, -4, -1, -2), 8, 48);
     both("a >= (x + y + z) / 3: -3 -4 -1 -2", VALUES(-3, -4, -1, -2), 8, 48);
     both("a >= (x + y + z) / 3: -1 -4 -1 -2", VALUES(-1, -4, -1, -2), 8, 48);
-    size_circle(-10);
+    size_circle(-10, -6);
     both("row 13", VALUES(0, 0), 4, 24);
-    size_circle(0);
+    size_circle(0, -6);
     both("row 13 with b from 0", VALUES(0, 0), 4, 24);
     longest();
     both("longest file, all 10", tens, FOUNDED_MAX_VARIABLES, 512, 3072);
@@ -486,6 +486,82 @@ static void plans(void)
     both("longest file, row 15", tens, FOUNDED_MAX_VARIABLES, 511, 3071);
     put(0);
     both("a byte more than the longest file", tens, FOUNDED_MAX_VARIABLES, 512, 3072);
+}
+
+/* ---- idle rules: they draw no edge and do not offend */
+
+/* a and d in 0..10, b in -10..10, s standard in 0..4, a >= |b|, b >= d, d >= 5 if a >= 1 and s >= n */
+static void needing(int n)
+{
+    fresh();
+    variable(FOUNDED, 0, 10);
+    variable(FOUNDED, -10, 10);
+    variable(FOUNDED, 0, 10);
+    variable(STANDARD, 0, 4);
+    rule(SIZE, 0, 0);
+    term(1, PLAIN, 0);
+    rule(SUM, 1, 0);
+    term(2, PLAIN, 1);
+    rule(IF, 2, 5);
+    term(0, OVER, 1);
+    term(3, OVER, n);
+}
+
+/* a in -5..5, a >= |a| + c */
+static void own_size(int c)
+{
+    fresh();
+    variable(FOUNDED, -5, 5);
+    rule(SIZE, 0, c);
+    term(0, PLAIN, 0);
+}
+
+/* all variables in -10..10, each at least the size of the one before it less 1, and the first at least the size of the last and c */
+static void sizes(int c)
+{
+    const unsigned last = FOUNDED_MAX_VARIABLES - 1;
+    fresh();
+    variables(FOUNDED_MAX_VARIABLES, FOUNDED, -10, 10);
+    for (unsigned v = 0; v < last; v++) {
+        rule(SIZE, v + 1, -1);
+        term(v, PLAIN, 0);
+    }
+    rule(SIZE, 0, c);
+    term(last, PLAIN, 0);
+}
+
+static void idle_rules(void)
+{
+    static int tens[FOUNDED_MAX_VARIABLES];
+    for (size_t v = 0; v < FOUNDED_MAX_VARIABLES; v++)
+        tens[v] = 10;
+    size_circle(-10, -29);
+    try_read("a >= |b|, b >= 2a - 29");
+    size_circle(-10, -30);
+    try_read("a >= |b|, b >= 2a - 30");
+    both("a >= |b|, b >= 2a - 30: 10 -10", VALUES(10, -10), 4, 24);
+    both("a >= |b|, b >= 2a - 30: 3 -3", VALUES(3, -3), 4, 24);
+    needing(4);
+    try_read("d >= 5 if a >= 1, s >= 4");
+    needing(9);
+    try_read("d >= 5 if a >= 1, s >= 9");
+    both("d >= 5 if a >= 1, s >= 9: 3 3 3 4", VALUES(3, 3, 3, 4), 8, 48);
+    both("d >= 5 if a >= 1, s >= 9: 3 3 3 9", VALUES(3, 3, 3, 9), 8, 48);
+    own_size(-9);
+    try_read("a >= |a| - 9");
+    own_size(-10);
+    try_read("a >= |a| - 10");
+    both("a >= |a| - 10: 0, row 15", VALUES(0), 1, 11);
+    both("a >= |a| - 10: 0", VALUES(0), 2, 12);
+    both("a >= |a| - 10: 0, more lent", VALUES(0), 3, 13);
+    rule(SUM, 0, 2);
+    both("the same with a >= 2: 0", VALUES(0), 2, 12);
+    sizes(-19);
+    try_read("256 sizes, the last rule not idle");
+    sizes(-20);
+    both("256 sizes, row 15", tens, FOUNDED_MAX_VARIABLES, 511, 3071);
+    both("256 sizes", tens, FOUNDED_MAX_VARIABLES, 512, 3072);
+    both("256 sizes, more lent", tens, FOUNDED_MAX_VARIABLES, 513, 3073);
 }
 
 /* ---- threads at the same time, over one file and one assignment */
@@ -541,6 +617,7 @@ int main(int argc, char **argv)
     rows();
     limits();
     plans();
+    idle_rules();
     at_once();
     for (int i = 0; i < 3; i++)
         if (deepest[i] + MARGIN > STACKS[i])
