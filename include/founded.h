@@ -1,7 +1,7 @@
 /*
  * Founded cover for C: reads a rule file, finds the least model for an assignment, checks an assignment. Link with libfounded.a (x86-64
  * Linux); it needs memset of the C library and nothing else. The calls are proved: each returns, for every input that is passed as said
- * here, and answers and writes what document 01 and document 02's first wish define (crates/founded).
+ * here, and answers and writes what document 01 and document 02's first two wishes define (crates/founded).
  *
  * What a caller passes:
  * - Each buffer is a pointer and its length in bytes. So many bytes can be read there, and written where the pointer is not const.
@@ -38,10 +38,10 @@ extern "C" {
 
 #define FOUNDED_ASSIGNMENT_BYTES 2u /* exactly */
 #define FOUNDED_LEAST_BYTES 2u      /* at least, of the buffer that founded_least writes */
-#define FOUNDED_CHECK_BYTES 12u     /* at least, of the report that founded_check writes */
+#define FOUNDED_CHECK_BYTES 12u     /* at least, of the report that founded_check writes: they are enough, and can all be used */
 
 /*
- * ---- stack of a thread that makes the call and little else. In the tests the calls touched at most 8,700, 102,900 and 103,200 bytes; the
+ * ---- stack of a thread that makes the call and little else. In the tests the calls touched at most 10,800, 105,000 and 105,300 bytes; the
  * rest is for the thread's own start and a margin.
  */
 
