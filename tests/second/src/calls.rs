@@ -2,7 +2,7 @@
 
 use crate::graph;
 use crate::meaning::Direction;
-use crate::program::{signed, Program, QUOTIENT};
+use crate::program::{signed, Program, Rule, QUOTIENT};
 use crate::reader::{parse, Refusal};
 use crate::wrong::Wrong;
 
@@ -43,10 +43,16 @@ pub fn read_with(file: &[u8], wrong: Wrong) -> Reading {
         Err(Refusal { number, place }) => Reading::Refused { number, place },
         Ok(program) => Reading::Accepted {
             variables: program.variables.len(),
-            rules: program.rules.len(),
+            rules: rule_number(&program, program.rules.len(), Wrong::IdleNotCounted),
             constraints: program.constraints.len(),
         },
     }
+}
+
+/// How many rules stand before this one; for one wrong variant, not idle ones.
+fn rule_number(program: &Program, rule: usize, passes_over: Wrong) -> usize {
+    let counts = |r: &&Rule| program.wrong != passes_over || !program.idle(r);
+    program.rules[..rule].iter().filter(counts).count()
 }
 
 /// The program and the assigned values, or a refusal from 1 to 15.
@@ -119,7 +125,7 @@ pub fn check_with(file: &[u8], assignment: &[u8], report: &mut [u8], wrong: Wron
         return Verdict::Constraint(constraint);
     }
     if let Some(rule) = unmet_rule {
-        return Verdict::Rule(rule);
+        return Verdict::Rule(rule_number(&program, rule, Wrong::IdleNotNumbered));
     }
     if let Some(constraint) = unmet_constraint {
         return Verdict::Constraint(constraint);
@@ -175,7 +181,8 @@ fn conditions(program: &Program, assigned: &[i64], bounds: &[Entry]) -> Vec<Entr
     // For every variable: how often "at most" and "at least" are needed.
     let mut at_most = vec![0; assigned.len()];
     let mut at_least = vec![0; assigned.len()];
-    for rule in program.rules.iter().filter(|rule| in_set(rule.head)) {
+    let asks = |rule: &&Rule| program.wrong != Wrong::IdleNoConditions || !program.idle(rule);
+    for rule in program.rules.iter().filter(|rule| in_set(rule.head)).filter(asks) {
         if rule.form == QUOTIENT && program.wrong == Wrong::DivisorIsCondition && !in_set(0) {
             at_most[0] += 1;
         }

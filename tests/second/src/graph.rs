@@ -6,8 +6,19 @@ use crate::wrong::Wrong;
 
 /// For each variable, the variables an edge runs to.
 pub fn edges(program: &Program) -> Vec<Vec<usize>> {
+    edges_of(program, &program.idle_rules())
+}
+
+/// The edges where these rules are idle.
+fn edges_of(program: &Program, idle: &[bool]) -> Vec<Vec<usize>> {
     let mut edges = vec![Vec::new(); program.variables.len()];
-    for rule in &program.rules {
+    for (rule, &idle) in program.rules.iter().zip(idle) {
+        if idle && program.wrong == Wrong::IdleEndsEdges {
+            break;
+        }
+        if idle && program.wrong != Wrong::IdleDraws {
+            continue;
+        }
         if rule.form == QUOTIENT && program.wrong == Wrong::DivisorDrawsEdge {
             edges[rule.head].push(0);
         }
@@ -37,26 +48,47 @@ pub fn reached(edges: &[Vec<usize>], from: usize) -> Vec<bool> {
     seen
 }
 
-/// The first rule with a mixed variable in its head's component.
+/// The first rule that is not idle and has a mixed variable in its head's
+/// component.
 pub fn first_offending_rule(program: &Program) -> Option<usize> {
-    let edges = edges(program);
+    let idle = program.idle_rules();
+    let offending = offending_rules(program, &idle);
+    match program.wrong {
+        Wrong::LastOffender => offending.last().copied(),
+        Wrong::IdleNamesPlace if !offending.is_empty() => {
+            mixed_rules(program, &edges_of(program, &idle)).first().copied()
+        }
+        _ => offending.first().copied(),
+    }
+}
+
+/// All offending rules where these rules are idle.
+pub fn offending_rules(program: &Program, idle: &[bool]) -> Vec<usize> {
+    let mut rules = mixed_rules(program, &edges_of(program, idle));
+    rules.retain(|&r| match program.wrong {
+        Wrong::IdleOffends => true,
+        Wrong::IdleEndsSearch => !idle[..=r].contains(&true),
+        _ => !idle[r],
+    });
+    rules
+}
+
+/// All rules with a mixed variable in their head's component.
+fn mixed_rules(program: &Program, edges: &[Vec<usize>]) -> Vec<usize> {
     let reach_from = |v: usize| match program.wrong {
         Wrong::ShortCircles => (0..edges.len()).map(|to| edges[v].contains(&to)).collect(),
-        _ => reached(&edges, v),
+        _ => reached(edges, v),
     };
     let reach: Vec<Vec<bool>> = (0..edges.len()).map(reach_from).collect();
     let together = |a: usize, b: usize| {
         (a == b && program.wrong != Wrong::LoopPasses) || (a != b && reach[a][b] && reach[b][a])
     };
-    let offends = |rule: &usize| {
+    let mixed = |rule: &usize| {
         let rule = &program.rules[*rule];
         (0..rule.terms.len()).any(|position| {
             program.direction(rule, position) == Direction::Mixed
                 && together(rule.head, rule.terms[position].variable)
         })
     };
-    if program.wrong == Wrong::LastOffender {
-        return (0..program.rules.len()).rev().find(offends);
-    }
-    (0..program.rules.len()).find(offends)
+    (0..program.rules.len()).filter(mixed).collect()
 }

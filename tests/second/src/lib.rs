@@ -10,6 +10,8 @@ pub mod brute;
 pub mod calls;
 pub mod gen;
 pub mod graph;
+pub mod idle;
+pub mod idling;
 pub mod meaning;
 pub mod printing;
 pub mod program;

@@ -22,6 +22,7 @@ impl Program {
             (_, BELOW) => Direction::Falling,
             (QUOTIENT, _) if self.wrong == Wrong::QuotientRises => Direction::Rising,
             (SUM | QUOTIENT, _) if term.number < 0 => Direction::Falling,
+            (SIZE, _) if self.wrong == Wrong::IdleNotMixed && self.idle(rule) => Direction::Rising,
             (SIZE, _) if variable.low <= mixed_low && variable.high > 0 => Direction::Mixed,
             (SIZE, _) if variable.low < 0 => Direction::Falling,
             _ => Direction::Rising,
@@ -41,6 +42,7 @@ impl Program {
             }
             Wrong::HeadAlwaysKept if rule.terms[position].variable == rule.head => true,
             Wrong::KeepsFalling => founded && direction != Direction::Mixed,
+            Wrong::IdleNotKept if self.idle(rule) => false,
             _ => founded && direction == Direction::Rising,
         }
     }

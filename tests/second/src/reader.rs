@@ -83,6 +83,9 @@ fn refuses(number: usize, program: &Program, previous_tag: u8, rest: &[u8]) -> b
 fn full(program: &Program, tag: u8) -> bool {
     match tag {
         VARIABLE => program.variables.len() == VARIABLES,
+        RULE if program.wrong == Wrong::IdleNotLimited => {
+            program.rules.iter().filter(|rule| !program.idle(rule)).count() == RULES
+        }
         RULE => program.rules.len() == RULES,
         _ => program.constraints.len() == CONSTRAINTS,
     }

@@ -5,6 +5,7 @@ use std::collections::{BTreeMap, BTreeSet};
 use crate::calls::{check_with, least_with, read_with, Reading, Solved, Verdict};
 use crate::gen::Input;
 use crate::graph;
+use crate::idling;
 use crate::meaning::Direction;
 use crate::program::*;
 use crate::reader::parse;
@@ -68,6 +69,9 @@ impl Tally {
         }
         if let Solved::Refused { number: 15, .. } = seen.solved {
             self.hit("refusal 15 of least");
+        }
+        for name in idling::names(input, seen) {
+            self.hit(name);
         }
         let Ok(program) = parse(&input.file, Wrong::Nothing) else { return };
         self.add_program(input, &program);
@@ -276,6 +280,7 @@ fn required() -> Vec<(String, usize)> {
         }
     }
     names.push(("report: one entry short of full".to_string(), 5));
+    names.extend(idling::required());
     names.extend(refused::CASES.iter().map(|case| (refused::name(case), 6)));
     names.push(("form 8: 16 terms".to_string(), 5));
     for name in [

@@ -120,10 +120,106 @@ pub enum Wrong {
     NoGroupIsEight,
     /// Form 8 with the divisor alone is called 10.
     AloneIsTen,
+    /// No rule is idle.
+    IdleNever,
+    /// A rule that gives one more than its head's low is idle.
+    IdleOneMore,
+    /// A rule that gives its head's low is not idle.
+    IdleBelowOnly,
+    /// A rule is idle by its head's high.
+    IdleByHigh,
+    /// A rule is idle when it gives at most 0.
+    IdleByZero,
+    /// A rule is idle by the least that it can give.
+    IdleByLeast,
+    /// An idle rule draws edges.
+    IdleDraws,
+    /// An idle rule may offend.
+    IdleOffends,
+    /// Where another rule offends, an idle one before it is named.
+    IdleNamesPlace,
+    /// No edge is drawn by a rule after an idle one.
+    IdleEndsEdges,
+    /// No rule after an idle one offends.
+    IdleEndsSearch,
+    /// Every rule is idle whose head has an idle rule.
+    IdleWholeHead,
+    /// Only rules with literals can be idle.
+    IdleLiteralsOnly,
+    /// Only sizes can be idle.
+    IdleSizesOnly,
+    /// A rule of form 8 is never idle.
+    IdleNoQuotients,
+    /// Only a rule with a literal that never holds is idle.
+    IdleFailingOnly,
+    /// `if` is not idle by its c.
+    IdleIfFailingOnly,
+    /// A literal that never holds is passed over.
+    IdleFailingGives,
+    /// A rule can give when one of its literals can hold.
+    IdleAllFail,
+    /// Op 1 never holds when its number is the high.
+    IdleAtLeastEarly,
+    /// Op 1 can hold when its number is one above the high.
+    IdleAtLeastLate,
+    /// Op 2 never holds when its number is one above the low.
+    IdleBelowEarly,
+    /// Op 2 can hold when its number is the low.
+    IdleBelowLate,
+    /// The most of a mixed size is at the low.
+    IdleSizeAtLow,
+    /// The most of a mixed size is at the high.
+    IdleSizeAtHigh,
+    /// The most over a divisor is rounded down.
+    IdleRoundsDown,
+    /// The most over a divisor is rounded towards 0.
+    IdleRoundsToZero,
+    /// A negative most over a divisor is rounded away from 0.
+    IdleRoundsAway,
+    /// The most of form 8 is not divided.
+    IdleUndivided,
+    /// The most of form 8 has c added after dividing.
+    IdleConstantLate,
+    /// The most is without c.
+    IdleNoConstant,
+    /// The most is cut to two bytes.
+    IdleShort,
+    /// The most of form 2 is by the smallest high.
+    IdleMaxAsMin,
+    /// The most of form 3 is by the largest high.
+    IdleMinAsMax,
+    /// The most of form 7 is c alone.
+    IdleCarriesNothing,
+    /// For the most, every variable is at its high.
+    IdleAllHigh,
+    /// For the most, only the first term counts.
+    IdleFirstTerm,
+    /// For the most, the head in its own body is at its low.
+    IdleHeadAtLow,
+    /// For the most, standard variables are 0.
+    IdleStandardZero,
+    /// For the most, standard variables are passed over.
+    IdleStandardSkipped,
+    /// A rule with a standard variable is never idle.
+    IdleNoStandard,
+    /// For the most, founded variables without a rule are at their low.
+    IdleUnlifted,
+    /// An idle rule asks no condition.
+    IdleNoConditions,
+    /// A mixed position of an idle rule is rising.
+    IdleNotMixed,
+    /// No position of an idle rule is kept.
+    IdleNotKept,
+    /// Reading does not count idle rules.
+    IdleNotCounted,
+    /// `rule` does not number idle rules.
+    IdleNotNumbered,
+    /// Idle rules do not count for refusal 5.
+    IdleNotLimited,
 }
 
 impl Wrong {
-    pub const ALL: [Wrong; 58] = [
+    pub const ALL: [Wrong; 106] = [
         Wrong::KeepsStandard,
         Wrong::StartsAtZero,
         Wrong::DropsAllOfSet,
@@ -182,5 +278,53 @@ impl Wrong {
         Wrong::ConstraintLikeEight,
         Wrong::NoGroupIsEight,
         Wrong::AloneIsTen,
+        Wrong::IdleNever,
+        Wrong::IdleOneMore,
+        Wrong::IdleBelowOnly,
+        Wrong::IdleByHigh,
+        Wrong::IdleByZero,
+        Wrong::IdleByLeast,
+        Wrong::IdleDraws,
+        Wrong::IdleOffends,
+        Wrong::IdleNamesPlace,
+        Wrong::IdleEndsEdges,
+        Wrong::IdleEndsSearch,
+        Wrong::IdleWholeHead,
+        Wrong::IdleLiteralsOnly,
+        Wrong::IdleSizesOnly,
+        Wrong::IdleNoQuotients,
+        Wrong::IdleFailingOnly,
+        Wrong::IdleIfFailingOnly,
+        Wrong::IdleFailingGives,
+        Wrong::IdleAllFail,
+        Wrong::IdleAtLeastEarly,
+        Wrong::IdleAtLeastLate,
+        Wrong::IdleBelowEarly,
+        Wrong::IdleBelowLate,
+        Wrong::IdleSizeAtLow,
+        Wrong::IdleSizeAtHigh,
+        Wrong::IdleRoundsDown,
+        Wrong::IdleRoundsToZero,
+        Wrong::IdleRoundsAway,
+        Wrong::IdleUndivided,
+        Wrong::IdleConstantLate,
+        Wrong::IdleNoConstant,
+        Wrong::IdleShort,
+        Wrong::IdleMaxAsMin,
+        Wrong::IdleMinAsMax,
+        Wrong::IdleCarriesNothing,
+        Wrong::IdleAllHigh,
+        Wrong::IdleFirstTerm,
+        Wrong::IdleHeadAtLow,
+        Wrong::IdleStandardZero,
+        Wrong::IdleStandardSkipped,
+        Wrong::IdleNoStandard,
+        Wrong::IdleUnlifted,
+        Wrong::IdleNoConditions,
+        Wrong::IdleNotMixed,
+        Wrong::IdleNotKept,
+        Wrong::IdleNotCounted,
+        Wrong::IdleNotNumbered,
+        Wrong::IdleNotLimited,
     ];
 }

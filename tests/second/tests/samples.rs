@@ -1,5 +1,5 @@
-//! The sample plans and the small refusal examples of document 01, and those
-//! of form 8.
+//! The sample plans and the small refusal examples of document 01, those of
+//! form 8, and idle rules.
 
 use second::gen::fields::{assignment, bytes, constraint, quotient, rule, variable, Field, Piece};
 use second::{check, least, print, read, Reading, Solved, Verdict};
@@ -308,4 +308,148 @@ fn circles_over_a_divisor() {
     assert_eq!(says(&own(-1, 5), &[1]), "rule 0\n");
     assert_eq!(says(&own(-1, 5), &[2]), "stable\n");
     assert_eq!(says(&own(-1, 5), &[3]), "unfounded 1 1\nmost 0 1\nwhen 0 >= 3\n");
+}
+
+#[test]
+fn row_thirteen_idle() {
+    let two = [variable(1, 0, 10), variable(1, -10, 10)];
+    let rules = |c| [rule(5, 0, 0, &[(1, 0, 0)]), rule(1, 1, c, &[(0, 0, 2)])];
+    let turned = |c| [rules(c)[1].clone(), rules(c)[0].clone()];
+    let with = |rules: [Field; 2]| [two.to_vec(), rules.to_vec()].concat();
+    // The most of 2a - 30 is -10.
+    assert_eq!(refused(&bytes(&with(rules(-29)))), (13, 16));
+    assert_eq!(refused(&bytes(&with(turned(-29)))), (13, 27));
+    assert_eq!(refused(&bytes(&with(rules(-30)))), (0, 0));
+    assert_eq!(refused(&bytes(&with(turned(-30)))), (0, 0));
+    assert_eq!(says(&with(rules(-30)), &[10, -10]), "stable\n");
+    assert_eq!(says(&with(rules(-30)), &[0, 0]), "unfounded 1 1\nmost 1 -10\nwhen 0 <= 0\n");
+    assert_eq!(says(&with(rules(-30)), &[1, 2]), "rule 0\n");
+    assert_eq!(says(&with(turned(-30)), &[1, 2]), "rule 1\n");
+}
+
+#[test]
+fn nine_from_a_variable_ending_at_four() {
+    let file = |end| {
+        let variables = [variable(1, 0, 1), variable(1, -1, 1), variable(0, 0, end)];
+        let rules = [rule(5, 0, 0, &[(1, 0, 0)]), rule(6, 1, 1, &[(0, 1, 1), (2, 1, 9)])];
+        [variables.to_vec(), rules.to_vec()].concat()
+    };
+    assert_eq!(refused(&bytes(&file(4))), (0, 0));
+    assert_eq!(refused(&bytes(&file(8))), (0, 0));
+    assert_eq!(refused(&bytes(&file(9))), (13, 24));
+    assert_eq!(says(&file(4), &[1, -1, 4]), "stable\n");
+    let shown = "unfounded 1 2\nmost 1 -1\nwhen 0 <= 1\nwhen 2 <= 4\n";
+    assert_eq!(says(&file(4), &[1, 1, 4]), shown);
+}
+
+#[test]
+fn each_form_at_the_line() {
+    let with = |made: Field| {
+        let variables = [variable(1, 0, 3), variable(1, -2, 2), variable(0, 1, 4)];
+        let rules = [rule(5, 0, 0, &[(1, 0, 0)]), made];
+        refused(&bytes(&[variables.to_vec(), rules.to_vec()].concat()))
+    };
+    // Form, terms, and the largest constant with which the rule gives -2 at most.
+    let forms: [(u8, &[Piece], i64); 12] = [
+        (1, &[(0, 0, 2), (2, 0, -1)], -7),
+        (1, &[(0, 0, 1), (1, 0, 1)], -7),
+        (1, &[(1, 0, -1), (0, 0, 1)], -7),
+        (2, &[(0, 0, 0), (2, 0, 0)], -6),
+        (3, &[(0, 0, 0), (2, 0, 0)], -5),
+        (3, &[(0, 0, 0), (1, 0, 0)], -4),
+        (4, &[(0, 0, 0), (2, 0, 0)], -14),
+        (5, &[(0, 0, 0)], -5),
+        (6, &[(0, 1, 3), (2, 2, 2)], -2),
+        (7, &[(0, 0, 0), (2, 1, 4)], -5),
+        (7, &[(2, 0, 0), (1, 2, -1), (0, 1, 1)], -6),
+        (8, &[(0, 3, 3), (0, 0, 2), (2, 0, -1)], -11),
+    ];
+    for (form, terms, c) in forms {
+        assert_eq!(with(rule(form, 1, c, terms)), (0, 0), "form {form}");
+        assert_eq!(with(rule(form, 1, -30_000, terms)), (0, 0), "form {form}");
+        assert_eq!(with(rule(form, 1, c + 1, terms)), (13, 24), "form {form}");
+        assert_eq!(with(rule(form, 1, 30_000, terms)), (13, 24), "form {form}");
+    }
+    // One literal never holds: whatever c is, nothing is given.
+    for literal in [(0, 1, 4), (0, 2, 0), (2, 1, 5), (2, 2, 1)] {
+        let both = if literal.0 == 0 { vec![literal] } else { vec![(0, 1, 1), literal] };
+        assert_eq!(with(rule(6, 1, 30_000, &both)), (0, 0), "{literal:?}");
+        let carried = if literal.0 == 0 { (2, 0, 0) } else { (0, 0, 0) };
+        assert_eq!(with(rule(7, 1, 30_000, &[carried, literal])), (0, 0), "{literal:?}");
+    }
+}
+
+#[test]
+fn quotients_at_the_line() {
+    // b >= (c + a) over 3, b from `low`: idle up to 3 * low, not one above it.
+    for low in [-2, 0, 2] {
+        for above in [-1, 0, 1, 2, 3] {
+            let variables = [variable(1, 0, 3), variable(1, low, 9), variable(1, -1, 1)];
+            let rules = [
+                rule(5, 0, 0, &[(2, 0, 0)]),
+                quotient(1, 3 * low + above - 3, 3, &[(0, 0, 1)]),
+                rule(1, 2, -9, &[(1, 0, 1)]),
+            ];
+            let file = bytes(&[variables.to_vec(), rules.to_vec()].concat());
+            assert_eq!(refused(&file), if above > 0 { (13, 24) } else { (0, 0) }, "{low}, {above}");
+        }
+    }
+}
+
+#[test]
+fn full_reports() {
+    let own = |c| [variable(1, -5, 5), rule(5, 0, c, &[(0, 0, 0)])];
+    assert_eq!(refused(&bytes(&own(0))), (13, 8));
+    assert_eq!(refused(&bytes(&own(-9))), (13, 8));
+    assert_eq!(says(&own(-10), &[-5]), "stable\n");
+    assert_eq!(says(&own(-10), &[0]), "unfounded 1 2\nmost 0 -5\nwhen 0 <= 0\nwhen 0 >= 0\n");
+    let file = bytes(&own(-10));
+    let shown = [0, 0, 0xFF, 0xFB, 0, 1, 0, 0, 0, 2, 0, 0];
+    for room in [11, 12, 13] {
+        let mut report = vec![0xA5; room];
+        let verdict = check(&file, &[0, 0], &mut report);
+        if room < 12 {
+            assert_eq!(verdict, Verdict::Refused { number: 15, place: 0 });
+            assert_eq!(report, vec![0xA5; 11]);
+        } else {
+            assert_eq!(verdict, Verdict::Unfounded(1, 2));
+            assert_eq!(report[..12], shown);
+            assert!(report[12..].iter().all(|&b| b == 0xA5));
+        }
+    }
+    let mut model = [0xA5; 2];
+    assert_eq!(least(&file, &[0, 0], &mut model), Solved::Found);
+    assert_eq!(model, [0xFF, 0xFB]);
+    // Each of two by the other; 1 is lifted to 0 besides.
+    let rules = [rule(5, 0, -2, &[(1, 0, 0)]), rule(5, 1, -2, &[(0, 0, 0)]), rule(1, 1, 0, &[])];
+    let two = [vec![variable(1, -1, 1); 2], rules.to_vec()].concat();
+    let lines = "most 0 -1\nmost 1 0\nwhen 0 <= 1\nwhen 0 >= 1\nwhen 1 <= 1\nwhen 1 >= 1\n";
+    assert_eq!(says(&two, &[1, 1]), format!("unfounded 2 4\n{lines}"));
+    let mut report = [0xA5; 24];
+    assert_eq!(check(&bytes(&two), &[0, 1, 0, 1], &mut report), Verdict::Unfounded(2, 4));
+    assert_eq!(report[20..], [1, 2, 0, 1]);
+}
+
+#[test]
+fn idle_rules_count() {
+    // Two idle sizes stand before one that is not.
+    let idle = rule(5, 0, -2, &[(0, 0, 0)]);
+    let line = |c| rule(5, 0, c, &[(0, 0, 0)]);
+    let one = variable(1, -1, 1);
+    assert_eq!(refused(&bytes(&[one.clone(), idle.clone(), idle.clone(), line(-1)])), (13, 30));
+    let file = bytes(&[one.clone(), idle.clone(), rule(1, 0, 1, &[]), idle]);
+    assert_eq!(read(&file), Reading::Accepted { variables: 1, rules: 3, constraints: 0 });
+    let verdict = check(&file, &[0, 0], &mut [0; 12]);
+    assert_eq!(verdict, Verdict::Rule(1));
+    // An idle rule is still turned down for what 2 to 12 say.
+    let product = [one.clone(), variable(1, 0, 1), rule(4, 0, -30_000, &[(0, 0, 0), (1, 0, 0)])];
+    assert_eq!(refused(&bytes(&product)), (12, 16));
+    let twice = [one, rule(1, 0, -30_000, &[(0, 0, 1), (0, 0, 1)])];
+    assert_eq!(refused(&bytes(&twice)), (11, 8));
+    // A falling and a rising position of an idle rule: conditions as before.
+    let three = [variable(1, 0, 2), variable(0, 0, 2), variable(1, 0, 2)];
+    let terms = [(0, 0, 1), (1, 0, 1), (2, 0, -1)];
+    let asks = [three.to_vec(), vec![rule(1, 0, -9, &terms)]].concat();
+    let shown = "unfounded 2 2\nmost 0 0\nmost 2 0\nwhen 1 <= 1\nwhen 2 >= 1\n";
+    assert_eq!(says(&asks, &[2, 1, 1]), shown);
 }

@@ -237,14 +237,29 @@ impl Small {
         })
     }
 
-    /// The place of the first rule with a mixed variable in its component.
-    pub fn invalid(&self) -> Option<usize> {
+    /// For every rule, whether it is idle: each choice of values for its body,
+    /// every variable in its range, gives nothing, or no more than the low.
+    pub fn idle(&self) -> Vec<bool> {
+        let variables = &self.program.variables;
+        let can_do_nothing = |rule: &Rule| {
+            let range = |t: &Term| (variables[t.variable].low..=variables[t.variable].high).collect();
+            let ranges: Vec<Vec<i64>> = rule.terms.iter().map(range).collect();
+            choices(&ranges).iter().all(|values| given(rule, values) <= variables[rule.head].low)
+        };
+        self.program.rules.iter().map(can_do_nothing).collect()
+    }
+
+    /// Of the rules that are not idle, the place of the first one with a mixed
+    /// variable in its component.
+    pub fn invalid(&self, idle: &[bool]) -> Option<usize> {
         let n = self.program.variables.len();
+        let rules: Vec<&Rule> =
+            self.program.rules.iter().zip(idle).filter(|(_, idle)| !**idle).map(|(r, _)| r).collect();
         let mut path = vec![vec![false; n]; n];
         for v in 0..n {
             path[v][v] = true;
         }
-        for rule in &self.program.rules {
+        for rule in &rules {
             for i in 0..rule.terms.len() {
                 path[rule.head][rule.terms[i].variable] |= push(&self.program, rule, i) >= 0;
             }
@@ -256,12 +271,12 @@ impl Small {
                 }
             }
         }
-        let offends = |rule: &&Rule| {
+        let offends = |rule: &&&Rule| {
             (0..rule.terms.len()).any(|i| {
                 let v = rule.terms[i].variable;
                 push(&self.program, rule, i) == 0 && path[rule.head][v] && path[v][rule.head]
             })
         };
-        self.program.rules.iter().find(offends).map(|rule| rule.place)
+        rules.iter().find(offends).map(|rule| rule.place)
     }
 }

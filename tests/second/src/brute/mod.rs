@@ -41,11 +41,20 @@ pub struct Tried {
     /// Stable and unfounded ones among those with a remainder.
     pub uneven_stable: usize,
     pub uneven_unfounded: usize,
+    /// Programs that are valid only because some rule is idle, and those in
+    /// which another rule offends because of that.
+    pub idle_valid: usize,
+    pub idle_moved: usize,
+    /// Stable and unfounded assignments of programs that are so valid.
+    pub idle_stable: usize,
+    pub idle_unfounded: usize,
+    /// Reports without room for another entry.
+    pub full: usize,
 }
 
 impl Tried {
     /// What has to be tried often enough.
-    pub fn each(&self) -> [usize; 11] {
+    pub fn each(&self) -> [usize; 16] {
         [
             self.invalid,
             self.stable,
@@ -58,6 +67,11 @@ impl Tried {
             self.uneven_below,
             self.uneven_stable,
             self.uneven_unfounded,
+            self.idle_valid,
+            self.idle_moved,
+            self.idle_stable,
+            self.idle_unfounded,
+            self.full,
         ]
     }
 }
@@ -74,14 +88,22 @@ pub fn try_file(calls: &Calls, file: &[u8], tried: &mut Tried) -> Result<(), Str
     };
     let small = Small { program };
     tried.programs += 1;
-    if let Some(place) = small.invalid() {
+    let idle = small.idle();
+    if idle != small.program.idle_rules() {
+        return Err(format!("{idle:?} are idle, not {:?}", small.program.idle_rules()));
+    }
+    let without = small.invalid(&vec![false; idle.len()]);
+    let invalid = small.invalid(&idle);
+    if let Some(place) = invalid {
         tried.invalid += 1;
+        tried.idle_moved += usize::from(without != invalid);
         let due = Reading::Refused { number: 13, place };
         return if (calls.read)(file) == due { Ok(()) } else { Err(format!("{due:?} was due")) };
     }
     if !matches!((calls.read)(file), Reading::Accepted { .. }) {
         return Err("refused".to_string());
     }
+    tried.idle_valid += usize::from(without.is_some());
     let ranges: Vec<Vec<i64>> =
         small.program.variables.iter().map(|v| (v.low..=v.high).collect()).collect();
     let all = choices(&ranges);
@@ -102,6 +124,8 @@ pub fn try_file(calls: &Calls, file: &[u8], tried: &mut Tried) -> Result<(), Str
         try_check(calls, &small, file, a, &stable, tried).map_err(|e| format!("{a:?}: {e}"))?;
         tried.uneven_stable += usize::from(uneven && tried.stable > before.0);
         tried.uneven_unfounded += usize::from(uneven && tried.unfounded > before.1);
+        tried.idle_stable += usize::from(without.is_some() && tried.stable > before.0);
+        tried.idle_unfounded += usize::from(without.is_some() && tried.unfounded > before.1);
     }
     Ok(())
 }
@@ -190,6 +214,10 @@ fn try_check(
     };
     tried.unfounded += 1;
     tried.sets += sets.len();
+    if bounds + conditions == 3 * n {
+        tried.full += 1;
+        try_full(calls, file, a, verdict, &report[..12 * n])?;
+    }
     if report[4 * (bounds + conditions)..].iter().any(|&b| b != 0xA5) {
         return Err("wrote beyond the last entry".to_string());
     }
@@ -234,6 +262,28 @@ fn try_check(
         if first.iter().any(|&(v, _, bound)| other[v] > bound) {
             return Err(format!("stable {other:?} meets the conditions and is above a bound"));
         }
+    }
+    Ok(())
+}
+
+/// A full report again, with a buffer that is just long enough, and with one
+/// that is a byte too short.
+fn try_full(
+    calls: &Calls,
+    file: &[u8],
+    a: &[i64],
+    verdict: Verdict,
+    report: &[u8],
+) -> Result<(), String> {
+    let mut filled = vec![0xA5; report.len()];
+    let again = (calls.check)(file, &bytes(a), &mut filled);
+    if again != verdict || filled != report {
+        return Err(format!("{again:?} with a buffer just long enough, {filled:?}"));
+    }
+    let mut short = vec![0xA5; report.len() - 1];
+    let refused = (calls.check)(file, &bytes(a), &mut short);
+    if refused != (Verdict::Refused { number: 15, place: 0 }) || short.iter().any(|&b| b != 0xA5) {
+        return Err(format!("{refused:?} with a buffer one byte short, {short:?}"));
     }
     Ok(())
 }

@@ -4,6 +4,7 @@ pub mod assignments;
 pub mod damage;
 pub mod divisors;
 pub mod fields;
+pub mod idle;
 pub mod limits;
 pub mod prng;
 pub mod programs;
@@ -23,13 +24,17 @@ pub struct Input {
     /// Which part of the generator made it.
     pub label: &'static str,
     /// The refusal (number, place) that reading must give, where the way the
-    /// file was made says so. Place `usize::MAX`: not said.
+    /// file was made says so. Number 0: the file is accepted. Place
+    /// `usize::MAX`: not said.
     pub due: Option<(usize, usize)>,
 }
 
 /// The input of this seed.
 pub fn input(seed: u64) -> Input {
     let random = &mut Random::new(seed);
+    if seed % 6 == 5 {
+        return idle(random);
+    }
     let drawn = random.below(100);
     let mut made = match drawn {
         0..=19 => plan(random, "small", programs::SMALL),
@@ -76,12 +81,17 @@ pub fn input(seed: u64) -> Input {
             input
         }
     };
-    // Buffers at, above and below their least size.
+    made.buffer = lent(random, &made);
+    made
+}
+
+/// Buffers at, above and below their least size.
+fn lent(random: &mut Random, made: &Input) -> usize {
     let variables = match crate::read(&made.file) {
         crate::Reading::Accepted { variables, .. } => variables,
         crate::Reading::Refused { .. } => made.assignment.len() / 2,
     };
-    made.buffer = match random.below(40) {
+    match random.below(40) {
         0 => (12 * variables).saturating_sub(1),
         1 => 2 * variables,
         2 => (2 * variables).saturating_sub(1),
@@ -89,6 +99,22 @@ pub fn input(seed: u64) -> Input {
         4 => 12 * variables + random.below(40),
         5 => random.below(12 * variables + 1),
         _ => 12 * variables,
+    }
+}
+
+/// A file in which it matters whether a rule is idle.
+fn idle(random: &mut Random) -> Input {
+    let idle::Made { fields, witness, due, label } = idle::made(random);
+    let room = 12 * witness.len();
+    let full = label == idle::FULL;
+    let mut made = dress(random, label, &(fields, witness.clone()));
+    made.due = due;
+    if full && random.percent(80) {
+        made.assignment = fields::assignment(&witness);
+    }
+    made.buffer = match full {
+        true => random.pick(&[room, room, room - 1, room + 1, room + 5]),
+        false => lent(random, &made),
     };
     made
 }
@@ -148,6 +174,9 @@ fn misdivided(random: &mut Random) -> Input {
 /// A small program for the brute force: few variables, short ranges.
 pub fn small(seed: u64) -> Vec<u8> {
     let random = &mut Random::new(seed ^ 0xB207_E0F0_0000_0000);
+    if seed % 4 == 3 {
+        return fields::bytes(&idle::small(random));
+    }
     let mut list = programs::program(random, programs::SMALL).0;
     if random.percent(10) {
         whole::knot(random, &mut list);

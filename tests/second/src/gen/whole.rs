@@ -37,23 +37,25 @@ pub fn cut(random: &mut Random, fields: &[Field]) -> (Vec<u8>, Option<(usize, us
 }
 
 /// Refusal 13: a mixed variable in its head's component, after other rules.
+/// Most of the rules put in are not idle.
 pub fn knot(random: &mut Random, fields: &mut Vec<Field>) -> Option<(usize, usize)> {
     let all = fields::variables(fields);
+    let (low, high) = (|v: u8| all[usize::from(v)].1, |v: u8| all[usize::from(v)].2);
     let heads = heads(fields);
-    let able: Vec<u8> = heads
-        .iter()
-        .copied()
-        .filter(|&v| all[usize::from(v)].1 < 0 && all[usize::from(v)].2 > 0)
-        .collect();
+    let able: Vec<u8> = heads.iter().copied().filter(|&v| low(v) < 0 && high(v) > 0).collect();
     if able.is_empty() {
         return None;
     }
     let mixed = random.pick(&able);
+    let size = high(mixed).max(-low(mixed));
     let mut at = fields.iter().take_while(|f| f.tag < 3).count();
     if random.percent(20) {
-        fields.insert(at, fields::rule(5, mixed, -5, &[(mixed, 0, 0)]));
+        let c = low(mixed) + random.between(1, 3) - size;
+        fields.insert(at, fields::rule(5, mixed, c, &[(mixed, 0, 0)]));
         return Some((13, usize::MAX));
     }
+    // What such a rule gives at most, above its head's low.
+    let more = |random: &mut Random| if random.percent(10) { -20 } else { random.between(1, 3) };
     // mixed -> ... -> head -> |mixed|
     let chain: Vec<u8> = random.distinct(heads.len(), 4).iter().map(|&i| heads[i]).collect();
     let mut from = mixed;
@@ -61,17 +63,22 @@ pub fn knot(random: &mut Random, fields: &mut Vec<Field>) -> Option<(usize, usiz
     for &to in &chain {
         // A falling edge breaks the circle.
         let number = if turns && random.percent(50) { -1 } else { 1 };
+        let most = if number < 0 { -low(to) } else { high(to) };
+        let wanted = low(from) + more(random);
         let link = match random.percent(20) {
-            true => fields::quotient(from, -50, 1 + random.below(4) as i64, &[(to, 0, number)]),
-            false => fields::rule(1, from, -50, &[(to, 0, number)]),
+            true => {
+                let divisor = 1 + random.below(4) as i64;
+                fields::quotient(from, divisor * wanted - most, divisor, &[(to, 0, number)])
+            }
+            false => fields::rule(1, from, wanted - most, &[(to, 0, number)]),
         };
         fields.insert(at, link);
         from = to;
         at += 1;
     }
-    fields.insert(at, fields::rule(5, from, -50, &[(mixed, 0, 0)]));
-    if random.percent(30) {
-        fields.insert(at, fields::rule(5, from, -50, &[(mixed, 0, 0)]));
+    for _ in 0..random.pick(&[1, 1, 1, 2]) {
+        let c = low(from) + more(random) - size;
+        fields.insert(at, fields::rule(5, from, c, &[(mixed, 0, 0)]));
     }
     None
 }
