@@ -100,8 +100,11 @@ pub fn try_file(calls: &Calls, file: &[u8], tried: &mut Tried) -> Result<(), Str
         let due = Reading::Refused { number: 13, place };
         return if (calls.read)(file) == due { Ok(()) } else { Err(format!("{due:?} was due")) };
     }
-    if !matches!((calls.read)(file), Reading::Accepted { .. }) {
-        return Err("refused".to_string());
+    let (variables, rules, constraints) =
+        (small.program.variables.len(), idle.len(), small.program.constraints.len());
+    let due = Reading::Accepted { variables, rules, constraints };
+    if (calls.read)(file) != due {
+        return Err(format!("{due:?} was due"));
     }
     tried.idle_valid += usize::from(without.is_some());
     let ranges: Vec<Vec<i64>> =
