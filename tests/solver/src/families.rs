@@ -1,8 +1,13 @@
-//! Seeded families that `gen` has too little of: circles, and layers in which
-//! size may be mixed.
+//! Seeded families that `gen` has too little of: circles, layers in which size
+//! may be mixed, and both with rules that are idle or only just not.
 
 use second::gen::fields::{self, Field, Piece};
+use second::gen::idle;
 use second::gen::prng::Random;
+use second::graph;
+use second::program::Program;
+use second::reader::parse;
+use second::Wrong;
 
 /// Founded variables in a ring, each lifted through the one before it, and a
 /// few rules that lift them from outside or against one another.
@@ -127,5 +132,33 @@ pub fn layers(random: &mut Random) -> Vec<Field> {
     if random.percent(30) {
         out.push(fields::constraint(1, random.between(-2, 1), &[(0, 0, 1), (1, 0, -1)]));
     }
+    out
+}
+
+/// A program that is valid because some rule is idle: layers, a circle, or
+/// what `gen` makes of this kind. After so many draws any program will do.
+pub fn near_idle(random: &mut Random) -> Vec<Field> {
+    let mut out = Vec::new();
+    for _ in 0..DRAWS {
+        out = match random.below(3) {
+            0 => idle::small(random),
+            1 => near_the_line(random, layers),
+            _ => near_the_line(random, circle),
+        };
+        let needs_one = |p: &Program| !graph::offending_rules(p, &vec![false; p.rules.len()]).is_empty();
+        if parse(&fields::bytes(&out), Wrong::Nothing).is_ok_and(|program| needs_one(&program)) {
+            break;
+        }
+    }
+    out
+}
+
+const DRAWS: usize = 30;
+
+/// Rules near the line between idle and not, among the others. An idle one may
+/// draw any edge and have any mixed variable.
+fn near_the_line(random: &mut Random, family: fn(&mut Random) -> Vec<Field>) -> Vec<Field> {
+    let mut out = family(random);
+    idle::sprinkle(random, &mut out, idle::FEW);
     out
 }

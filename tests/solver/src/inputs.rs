@@ -12,6 +12,7 @@ const WIDE: Shape = Shape { variables: 6, span: 2, rules: 9, constraints: 2, ter
 pub fn seeded(seed: u64) -> (String, Vec<u8>) {
     let random = &mut Random::new(seed ^ 0x0A5B_0000_0000_0000);
     let (label, file) = match seed % 5 {
+        _ if seed % 6 == 5 => ("near idle", fields::bytes(&families::near_idle(random))),
         0 | 1 => ("small", second::gen::small(seed)),
         2 => ("wide", fields::bytes(&programs::program(random, WIDE).0)),
         3 => ("circle", fields::bytes(&families::circle(random))),
@@ -110,6 +111,28 @@ pub fn samples() -> Vec<(String, Vec<u8>)> {
         (
             "a >= b + 1, b >= a",
             vec![founded(0, 5), founded(0, 5), sum(0, 1, &[(1, 0, 1)]), sum(1, 0, &[(0, 0, 1)])],
+        ),
+        (
+            "row 13 with b >= 2a - 30",
+            vec![
+                founded(0, 10),
+                founded(-10, 10),
+                fields::rule(5, 0, 0, &[(1, 0, 0)]),
+                sum(1, -30, &[(0, 0, 2)]),
+                when(1, 3, &[(0, 2, 5)]),
+            ],
+        ),
+        ("a >= |a| - 10", vec![founded(-5, 5), fields::rule(5, 0, -10, &[(0, 0, 0)]), sum(0, -3, &[])]),
+        (
+            "9 from a variable ending at 4",
+            vec![
+                founded(0, 2),
+                founded(-2, 2),
+                standard(0, 4),
+                fields::rule(5, 0, 0, &[(1, 0, 0)]),
+                when(1, 2, &[(0, 1, 1), (2, 1, 9)]),
+                when(1, 1, &[(2, 1, 3)]),
+            ],
         ),
         (
             "row 13 with b in 0..10",

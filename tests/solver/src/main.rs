@@ -29,7 +29,7 @@ use tally::Tally;
 const PRINTED: usize = 3;
 
 /// Mistakes of the second checker that change what is stable.
-const WRONG_CHECKERS: [Wrong; 14] = [
+const WRONG_CHECKERS: [Wrong; 20] = [
     Wrong::KeepsStandard,
     Wrong::StartsAtZero,
     Wrong::BelowOrEqual,
@@ -44,6 +44,13 @@ const WRONG_CHECKERS: [Wrong; 14] = [
     Wrong::RoundsAway,
     Wrong::ConstantLate,
     Wrong::QuotientRises,
+    // These turn a file down.
+    Wrong::IdleNever,
+    Wrong::IdleBelowOnly,
+    Wrong::IdleDraws,
+    Wrong::IdleOffends,
+    Wrong::IdleSizesOnly,
+    Wrong::IdleFailingGives,
 ];
 
 /// A program to compare, taken apart, with the check's words.
@@ -85,12 +92,25 @@ impl Case {
         all.filter(|values| is_stable(values)).cloned().collect()
     }
 
+    /// The assignment of every answer set, or what went wrong.
+    fn solved(&self, reading: Reading) -> Result<Vec<Vec<i64>>, String> {
+        let text = translate::translate(&self.program, reading);
+        let answers = answers::answers(&text, self.program.variables.len());
+        answers.map_err(|what| format!("{}\n{text}{what}\n", self.title()))
+    }
+
+    /// Does a wrong reading have other answer sets? One that the solver cannot
+    /// read has none.
+    fn notices(&self, reading: Reading) -> bool {
+        let others = |list: Vec<Vec<i64>>| BTreeSet::from_iter(list) != self.stable();
+        self.solved(reading).is_ok_and(others)
+    }
+
     /// What differs between the check and the solver, in readable form.
     fn difference(&self, reading: Reading) -> Option<String> {
-        let text = translate::translate(&self.program, reading);
-        let list = match answers::answers(&text, self.program.variables.len()) {
+        let list = match self.solved(reading) {
             Ok(list) => list,
-            Err(what) => return Some(format!("{}\n{text}{what}\n", self.title())),
+            Err(what) => return Some(what),
         };
         let solver: BTreeSet<Vec<i64>> = list.iter().cloned().collect();
         let check = self.stable();
@@ -176,7 +196,7 @@ fn sharp(cases: &[Case]) -> Vec<String> {
         }
     };
     for reading in Reading::WRONG {
-        let found = cases.iter().filter(|case| case.difference(reading).is_some()).take(PRINTED);
+        let found = cases.iter().filter(|case| case.notices(reading)).take(PRINTED);
         note(format!("wrong reading {reading:?}"), found.collect());
     }
     for wrong in WRONG_CHECKERS {
@@ -206,7 +226,9 @@ fn main() {
     let cases = cases(amount(0, 0), amount(1, 300) as usize);
     let mut failed = compare(&cases, reading) > 0;
     if reading == Reading::Right {
-        failed |= compare(&cases, Reading::MixedSupports) > 0;
+        for other in Reading::OTHERS {
+            failed |= compare(&cases, other) > 0;
+        }
         let mut failures = sharp(&cases);
         failures.extend(count(&cases));
         for failure in &failures {

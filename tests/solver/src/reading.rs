@@ -49,14 +49,23 @@ pub enum Reading {
     RoundsDown,
     /// Wrong: c is added after dividing.
     ConstantLate,
+    /// Wrong: rules that give one more than their head's low at most are left out.
+    IdleOneMore,
+    /// Wrong: rules are left out by the least that they can give.
+    IdleByLeast,
+    /// Wrong: rules that give their head's high at most are left out.
+    IdleByHigh,
     /// Another right one: the value of a mixed occurrence must be supported.
-    /// A valid file has no mixed variable in its head's component (000), so
-    /// the support never comes back to the head and nothing changes.
+    /// A valid file has a mixed variable in its head's component only in a rule
+    /// that is idle (000, 02), so the support never comes back to the head, or
+    /// nothing is supported, and nothing changes.
     MixedSupports,
+    /// Another right one: idle rules are left out.
+    IdleLeftOut,
 }
 
 impl Reading {
-    pub const WRONG: [Reading; 11] = [
+    pub const WRONG: [Reading; 14] = [
         Reading::StandardFounded,
         Reading::FallingSupports,
         Reading::FallingKept,
@@ -68,10 +77,16 @@ impl Reading {
         Reading::BelowOrEqual,
         Reading::RoundsDown,
         Reading::ConstantLate,
+        Reading::IdleOneMore,
+        Reading::IdleByLeast,
+        Reading::IdleByHigh,
     ];
 
+    /// Right ones that say the same in other words.
+    pub const OTHERS: [Reading; 2] = [Reading::MixedSupports, Reading::IdleLeftOut];
+
     pub fn named(name: &str) -> Option<Reading> {
-        let others = [Reading::Right, Reading::MixedSupports];
-        Reading::WRONG.into_iter().chain(others).find(|r| format!("{r:?}") == name)
+        let right = [Reading::Right].into_iter().chain(Reading::OTHERS);
+        right.chain(Reading::WRONG).find(|r| format!("{r:?}") == name)
     }
 }

@@ -27,6 +27,42 @@ fn occurrence(form: u8, op: u8, way: Direction, founded: bool) -> String {
     format!("form {form} {what} {way:?} {}", kind(founded)).to_lowercase()
 }
 
+/// What the rules that are idle, or only just not, make of a program.
+fn idle(program: &Program, words: &[(Vec<i64>, Word)]) -> BTreeSet<String> {
+    let mut names = BTreeSet::new();
+    let idle = program.idle_rules();
+    let low = |rule: &Rule| program.variables[rule.head].low;
+    // Would the file be turned down if each rule counted?
+    let needed = !graph::offending_rules(program, &vec![false; idle.len()]).is_empty();
+    let mixed =
+        |rule: &Rule| (0..rule.terms.len()).any(|i| direction(program, rule, i) == Direction::Mixed);
+    let shown = |x: usize| {
+        words.iter().any(|(_, word)| matches!(word, Word::Unfounded(set) if set.contains(&x)))
+    };
+    for (rule, &idle) in program.rules.iter().zip(&idle) {
+        if idle {
+            names.insert(format!("form {}", rule.form));
+        } else if program.most(rule) == Some(low(rule) + 1) {
+            names.insert(format!("just not, form {}", rule.form));
+        }
+        if idle && rule.terms.iter().any(|t| t.variable == rule.head) {
+            names.insert("head in its own body".to_string());
+        }
+        if idle && needed && mixed(rule) && shown(rule.head) {
+            names.insert("mixed in a rule into an unfounded set".to_string());
+        }
+    }
+    for (_, word) in words.iter().filter(|_| needed) {
+        names.insert("valid by it".to_string());
+        match word {
+            Word::Stable => names.insert("valid by it, some assignment stable".to_string()),
+            Word::Unfounded(_) => names.insert("valid by it, some assignment unfounded".to_string()),
+            _ => false,
+        };
+    }
+    names
+}
+
 impl Tally {
     pub fn add(&mut self, program: &Program, words: &[(Vec<i64>, Word)]) {
         let mut names = BTreeSet::new();
@@ -45,6 +81,7 @@ impl Tally {
                 }
             }
         }
+        names.extend(idle(program, words).into_iter().map(|name| format!("idle: {name}")));
         names.extend(program.constraints.iter().map(|c| format!("constraint form {}", c.form)));
         names.extend(self.verdicts(program, words));
         for name in names {
@@ -131,6 +168,8 @@ fn required() -> Vec<(String, usize)> {
     let mut names: Vec<(String, usize)> = Vec::new();
     names.extend((1..=8).map(|form| (format!("rule form {form}"), 10)));
     names.extend((1..=2).map(|form| (format!("constraint form {form}"), 10)));
+    names.extend((1..=8).map(|form| (format!("idle: form {form}"), 1)));
+    names.extend((1..=8).map(|form| (format!("idle: just not, form {form}"), 1)));
     for founded in [false, true] {
         let mut ways = vec![(SUM, PLAIN, Direction::Falling), (SIZE, PLAIN, Direction::Falling)];
         ways.push((SIZE, PLAIN, Direction::Mixed));
@@ -158,6 +197,11 @@ fn required() -> Vec<(String, usize)> {
         ("form 8: stable, negative sum, a remainder", 2),
         ("form 8: circle, lifted and stable", 2),
         ("form 8: circle, in an unfounded set", 2),
+        ("idle: head in its own body", 2),
+        ("idle: mixed in a rule into an unfounded set", 3),
+        ("idle: valid by it", 8),
+        ("idle: valid by it, some assignment stable", 6),
+        ("idle: valid by it, some assignment unfounded", 6),
         ("some assignment unfounded", 30),
         ("some assignment against a constraint", 10),
         ("some assignment against a rule", 30),

@@ -16,8 +16,8 @@ pub fn translate(program: &Program, reading: Reading) -> String {
     for (x, variable) in program.variables.iter().enumerate() {
         out += &from.variable(x, variable);
     }
-    for rule in &program.rules {
-        out += &from.rule(rule);
+    for (number, rule) in program.rules.iter().enumerate() {
+        out += &from.rule(number, rule);
     }
     for constraint in &program.constraints {
         out += &from.constraint(constraint);
@@ -102,53 +102,76 @@ impl Translation<'_> {
 
     /// 000: a rule is a constraint with a head; 01: "each head is at least
     /// what its rule gives". For every way to bind the body, [head >= V].
-    fn rule(&self, rule: &Rule) -> String {
+    fn rule(&self, number: usize, rule: &Rule) -> String {
         let Variable { low, high, .. } = self.program.variables[rule.head];
+        let (mut out, unless_idle) = self.idle(number, rule);
         let mut body: Vec<String> = (0..rule.terms.len()).map(|i| self.bound(rule, i)).collect();
-        if rule.form == QUOTIENT {
-            return self.quotient(rule, body);
-        }
+        body.extend(unless_idle);
         body.extend(self.given(rule));
         let body = body.join(", ");
         // [head >= V] for V up to low is there already.
-        let mut out = format!("ge({},V) :- {body}, V > {low}, V <= {high}.\n", rule.head);
+        let values = match rule.form {
+            QUOTIENT => format!("V = {}..{high}, {}", low + 1, self.more_than(rule, "V - 1")),
+            _ => format!("V > {low}, V <= {high}"),
+        };
+        let _ = writeln!(out, "ge({},V) :- {body}, {values}.", rule.head);
         // 000: "<- [x >= U + 1]"; 01: "founded values lie in low..high".
         if self.reading != Reading::NoCeiling {
-            let _ = writeln!(out, ":- {body}, V > {high}.");
+            let _ = writeln!(out, ":- {body}, {}.", self.more_than(rule, &high.to_string()));
         }
         out
     }
 
-    /// 02, wish 1: "the smallest whole number not below the sum, c included,
-    /// over the divisor". 000 states such rules without dividing, as "2x >= y"
-    /// in example 1: [head >= V] follows where V - 1, taken divisor times, is
-    /// below the sum.
-    fn quotient(&self, rule: &Rule, mut body: Vec<String>) -> String {
-        let Variable { low, high, .. } = self.program.variables[rule.head];
+    /// The rule gives more than `n`. 02, wish 1: "the smallest whole number not
+    /// below the sum, c included, over the divisor". 000 states such rules
+    /// without dividing, as "2x >= y" in example 1: more than n is given where
+    /// n, taken divisor times, is below the sum.
+    fn more_than(&self, rule: &Rule, n: &str) -> String {
         let (c, divisor) = (rule.c, rule.divisor);
-        let too_little = |n: String| match self.reading {
-            Reading::RoundsDown => format!("({n} + 1) * {divisor} <= S"),
-            Reading::ConstantLate => format!("({n} - ({c})) * {divisor} < S - ({c})"),
-            _ => format!("({n}) * {divisor} < S"),
-        };
-        body.push(sum("S", c, &rule.terms));
-        let body = body.join(", ");
-        let below = too_little("V - 1".to_string());
-        let mut out = format!("ge({},V) :- {body}, V = {}..{high}, {below}.\n", rule.head, low + 1);
-        // 000: "<- [x >= U + 1]", as for every rule.
-        if self.reading != Reading::NoCeiling {
-            let _ = writeln!(out, ":- {body}, {}.", too_little(high.to_string()));
+        match (rule.form, self.reading) {
+            (QUOTIENT, Reading::RoundsDown) => format!("({n} + 1) * {divisor} <= S"),
+            (QUOTIENT, Reading::ConstantLate) => format!("({n} - ({c})) * {divisor} < S - ({c})"),
+            (QUOTIENT, _) => format!("({n}) * {divisor} < S"),
+            _ => format!("V > {n}"),
         }
-        out
     }
 
-    /// What the rule gives, as `V`, and when it gives anything (01, rule forms).
+    /// Where a reading leaves out rules: what decides that, and what the body
+    /// asks. 02, wish 2: a rule is idle when "the most it can give, over all
+    /// values in the ranges, is at most its head's low, or it can never give
+    /// anything". The grounder goes through all values; `can` says that some of
+    /// them give more, `may` that some give no more.
+    fn idle(&self, number: usize, rule: &Rule) -> (String, Option<String>) {
+        let Variable { low, high, .. } = self.program.variables[rule.head];
+        let line = match self.reading {
+            Reading::IdleLeftOut | Reading::IdleByLeast => low,
+            Reading::IdleOneMore => low + 1,
+            Reading::IdleByHigh => high,
+            _ => return (String::new(), None),
+        };
+        let variable = |i: usize| &self.program.variables[rule.terms[i].variable];
+        let range = |i: usize| format!("X{i} = {}..{}", variable(i).low, variable(i).high);
+        let mut body: Vec<String> = (0..rule.terms.len()).map(range).collect();
+        body.extend(self.given(rule));
+        let (body, more) = (body.join(", "), self.more_than(rule, &line.to_string()));
+        if self.reading == Reading::IdleByLeast {
+            return (
+                format!("may({number}) :- {body}, not {more}.\n"),
+                Some(format!("not may({number})")),
+            );
+        }
+        (format!("can({number}) :- {body}, {more}.\n"), Some(format!("can({number})")))
+    }
+
+    /// What the rule gives, as `V`, and when it gives anything (01, rule forms);
+    /// of form 8 the sum alone, as `S`.
     fn given(&self, rule: &Rule) -> Vec<String> {
         let c = rule.c;
         let all: Vec<String> = (0..rule.terms.len()).map(|i| format!("X{i}")).collect();
         let holds = |i: usize| self.literal(&rule.terms[i], i, true);
         match rule.form {
             SUM => vec![sum("V", c, &rule.terms)],
+            QUOTIENT => vec![sum("S", c, &rule.terms)],
             MAX => vec![format!("M = #max {{ {} }}", all.join("; ")), format!("V = {c} + M")],
             MIN => vec![format!("M = #min {{ {} }}", all.join("; ")), format!("V = {c} + M")],
             PRODUCT => vec![format!("V = {c} + X0 * X1")],

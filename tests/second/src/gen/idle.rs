@@ -429,26 +429,30 @@ fn full(random: &mut Random, scale: Scale, count: usize) -> Made {
 
 pub const FULL: &str = "idle: full";
 
-/// A program of the other kind with rules near the line among its own.
-fn among(random: &mut Random, shape: Shape, scale: Scale) -> Made {
-    let (mut list, witness) = programs::program(random, shape);
-    let made = |fields, witness| Made { fields, witness, due: None, label: "idle: among others" };
-    let heads = programs::heads(&list);
+/// Puts rules near the line among the rules of a file.
+pub fn sprinkle(random: &mut Random, list: &mut Vec<Field>, scale: Scale) {
+    let heads = programs::heads(list);
     let mut program = empty();
-    for (kind, low, high) in fields::variables(&list) {
+    for (kind, low, high) in fields::variables(list) {
         program.variables.push(Variable { founded: kind == 1, low, high });
     }
-    if heads.is_empty() || program.variables.len() < 2 {
-        return made(list, witness);
+    let count = program.variables.len();
+    if heads.is_empty() || count < 2 {
+        return;
     }
     for _ in 0..1 + random.below(scale.more) {
-        let head = usize::from(random.pick(&heads));
-        let through = random.below(program.variables.len());
+        let (head, through) = (usize::from(random.pick(&heads)), random.below(count));
         let rule = near(random, &program, head, through, scale);
-        let (first, end) = (program.variables.len(), list.iter().take_while(|f| f.tag < 3).count());
-        list.insert(random.between(first as i64, end as i64) as usize, rule_field(&rule));
+        let end = list.iter().take_while(|f| f.tag < 3).count();
+        list.insert(random.between(count as i64, end as i64) as usize, rule_field(&rule));
     }
-    made(list, witness)
+}
+
+/// A program of the other kind with rules near the line among its own.
+fn among(random: &mut Random, shape: Shape, scale: Scale) -> Made {
+    let (mut fields, witness) = programs::program(random, shape);
+    sprinkle(random, &mut fields, scale);
+    Made { fields, witness, due: None, label: "idle: among others" }
 }
 
 /// Examples: row 13 with another constant, a rule needing 9 from a variable
