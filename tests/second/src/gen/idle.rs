@@ -101,45 +101,43 @@ fn tune(random: &mut Random, program: &Program, rule: &mut Rule, more: i64) {
     rule.divisor = divisor;
 }
 
+/// A literal that can hold, perhaps at one end of the range only.
+fn literal(random: &mut Random, program: &Program, v: usize, rises: bool) -> Term {
+    let Variable { low, high, .. } = program.variables[v];
+    let at_end = random.percent(40);
+    let op = if rises || random.percent(60) { AT_LEAST } else { BELOW };
+    let number = match op {
+        AT_LEAST if at_end => high,
+        AT_LEAST => random.between(low, high),
+        _ if at_end => low + 1,
+        _ => random.between(low + 1, high + 2),
+    };
+    Term { variable: v, op, number: number.clamp(-VALUE, VALUE) }
+}
+
 /// A rule of this form with these variables in its body, not tuned yet. Every
 /// literal can hold. The first variable rises.
 fn draft(random: &mut Random, program: &Program, form: u8, head: usize, body: &[usize]) -> Rule {
-    let literal = |random: &mut Random, v: usize, rises: bool| {
-        let Variable { low, high, .. } = program.variables[v];
-        let near = random.percent(40);
-        let op = if rises || random.percent(60) { AT_LEAST } else { BELOW };
-        let number = match op {
-            AT_LEAST if near => high,
-            AT_LEAST => random.between(low, high),
-            _ if near => low + 1,
-            _ => random.between(low + 1, high + 2),
-        };
-        Term { variable: v, op, number: number.clamp(-VALUE, VALUE) }
-    };
+    let plain = |v: usize, number: i64| Term { variable: v, op: PLAIN, number };
     let mut terms = Vec::new();
     for (i, &v) in body.iter().enumerate() {
         terms.push(match form {
             SUM | QUOTIENT => {
                 let size = random.pick(&[1, 1, 1, 2, 3, 1_000]);
                 let turned = i > 0 && random.percent(50);
-                Term { variable: v, op: PLAIN, number: if turned { -size } else { size } }
+                plain(v, if turned { -size } else { size })
             }
-            IF => literal(random, v, i == 0),
-            CARRY if i > 0 => literal(random, v, false),
-            _ => Term { variable: v, op: PLAIN, number: 0 },
+            IF => literal(random, program, v, i == 0),
+            CARRY if i > 0 => literal(random, program, v, false),
+            _ => plain(v, 0),
         });
     }
     if form == CARRY && random.percent(50) {
         // The first one is a literal, another is carried.
-        terms[0] = literal(random, body[0], true);
-        terms[1] = Term { variable: body[1], op: PLAIN, number: 0 };
-        terms.swap(0, 1);
+        terms[0] = plain(body[1], 0);
+        terms[1] = literal(random, program, body[0], true);
     }
-    let fixed = usize::from(form == CARRY);
-    for i in fixed..terms.len() {
-        let j = i + random.below(terms.len() - i);
-        terms.swap(i, j);
-    }
+    shuffle(random, &mut terms[usize::from(form == CARRY)..]);
     let divisor = if form == QUOTIENT { divisor(random) } else { 1 };
     Rule { place: 0, form, head, c: 0, divisor, terms }
 }
@@ -172,8 +170,8 @@ fn amount(random: &mut Random, scale: Scale) -> i64 {
 /// A rule with `through` rising in its body, near the line between idle and
 /// not, or with a literal that never holds.
 fn near(random: &mut Random, program: &Program, head: usize, through: usize, scale: Scale) -> Rule {
-    // Sums above 0 matter only where the low is above 0.
-    if program.variables[head].low > 0 && random.percent(50) {
+    // Sums above 0 decide only where the low is 0 or above.
+    if program.variables[head].low >= 0 && random.percent(35) {
         return near_quotient(random, program, head, through, scale);
     }
     let mut forms = vec![SUM, MAX, MIN, IF, CARRY, QUOTIENT, QUOTIENT];
