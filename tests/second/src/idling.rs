@@ -54,6 +54,7 @@ pub fn required() -> Vec<(String, usize)> {
         "least none",
         "report full, with a byte more",
         "report full but for a byte",
+        "report full, 256 variables",
     ] {
         names.push((format!("idle: {name}"), 4));
     }
@@ -222,6 +223,7 @@ fn answered(input: &Input, program: &Program, idle: &[bool], seen: &Seen) -> Vec
             matches!(seen.verdict, Verdict::Rule(r) if idle[..r].contains(&true)),
         ),
         ("report full", filled),
+        ("report full, 256 variables", filled && program.variables.len() == VARIABLES),
         ("report full to the last byte lent", filled && input.buffer == room),
         ("report full, with a byte more", filled && input.buffer == room + 1),
         ("report full but for a byte", input.buffer + 1 == room && full(with_room(input, room))),

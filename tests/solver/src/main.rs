@@ -92,6 +92,16 @@ impl Case {
         all.filter(|values| is_stable(values)).cloned().collect()
     }
 
+    /// Does the reading say anything else here than the right one?
+    fn reads_otherwise(&self, reading: Reading) -> bool {
+        let text = |reading| translate::translate(&self.program, reading);
+        match reading {
+            Reading::Right => true,
+            Reading::IdleLeftOut => self.program.idle_rules().contains(&true),
+            _ => text(reading) != text(Reading::Right),
+        }
+    }
+
     /// The assignment of every answer set, or what went wrong.
     fn solved(&self, reading: Reading) -> Result<Vec<Vec<i64>>, String> {
         let text = translate::translate(&self.program, reading);
@@ -103,7 +113,7 @@ impl Case {
     /// read has none.
     fn notices(&self, reading: Reading) -> bool {
         let others = |list: Vec<Vec<i64>>| BTreeSet::from_iter(list) != self.stable();
-        self.solved(reading).is_ok_and(others)
+        self.reads_otherwise(reading) && self.solved(reading).is_ok_and(others)
     }
 
     /// What differs between the check and the solver, in readable form.
@@ -155,8 +165,9 @@ fn cases(first: u64, programs: usize) -> Vec<Case> {
 
 /// How many programs differ; the first few are printed.
 fn compare(cases: &[Case], reading: Reading) -> usize {
+    let cases: Vec<&Case> = cases.iter().filter(|case| case.reads_otherwise(reading)).collect();
     let mut differing = 0;
-    for case in cases {
+    for case in &cases {
         if let Some(what) = case.difference(reading) {
             differing += 1;
             if differing <= PRINTED {
