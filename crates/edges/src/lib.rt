@@ -1,4 +1,4 @@
-// One rule: the edges that it draws, from its head to each rising or mixed body variable, and whether it offends.
+// One rule that is not idle: the edges that it draws, from its head to each rising or mixed body variable, and whether it offends.
 ghost use mathlib.Core.Path.{_≡_};
 ghost use Prim.Native.Nat.{_<_};
 ghost use lib.ListN.{length};
