@@ -196,6 +196,78 @@ pub const UNDIVIDED: &[u8] = &[1, 2, 3, 4, 5, 6, 7];
 pub const DIVIDED: &[u8] = &[8];
 pub const ALL: &[u8] = &[1, 2, 3, 4, 5, 6, 7, 8];
 
+/// A term: variable, op and number.
+type Term = (usize, u8, i64);
+
+/// So many different variables below a number that are fit.
+fn names(s: &mut Seed, most: usize, below: usize, fit: impl Fn(usize) -> bool) -> Vec<usize> {
+    let mut names = Vec::new();
+    while names.len() < most {
+        let x = s.next(below);
+        if fit(x) && !names.contains(&x) {
+            names.push(x);
+        }
+    }
+    names
+}
+
+/// How many terms a rule of this form has where it may have so many.
+fn terms_of(form: u8, terms: usize) -> usize {
+    match form {
+        4 => 2,
+        5 => 1,
+        _ => terms,
+    }
+}
+
+/// The body of a rule of this form; its literals hold for these values.
+fn body(s: &mut Seed, form: u8, names: &[usize], value: &[i64]) -> Vec<Term> {
+    let literal = |x: usize| (x, 1 + (x % 2) as u8, value[x] + (x % 2) as i64);
+    let plain = |x: usize| (x, 0, 0);
+    match form {
+        1 | 8 => names.iter().map(|&x| (x, 0, [-2, -1, 1, 2, 3][s.next(5)])).collect(),
+        6 => names.iter().map(|&x| literal(x)).collect(),
+        7 => names.iter().enumerate().map(|(i, &x)| if i == 0 { plain(x) } else { literal(x) }).collect(),
+        _ => names.iter().map(|&x| plain(x)).collect(),
+    }
+}
+
+/// What a rule of this form whose literals hold gives without c, each term's variable read so.
+fn without_c(form: u8, body: &[Term], at: impl Fn(&Term) -> i64) -> i64 {
+    let values = body.iter().map(&at);
+    match form {
+        1 | 8 => body.iter().map(|t| t.2 * at(t)).sum(),
+        2 => values.max().unwrap_or(0),
+        3 => values.min().unwrap_or(0),
+        4 => values.product(),
+        5 => at(&body[0]).abs(),
+        7 => at(&body[0]),
+        _ => 0,
+    }
+}
+
+/// A rule of this form that gives so much where its body without c amounts to this.
+fn giving(b: &mut Builder, s: &mut Seed, (form, head): (u8, usize), gives: i64, without_c: i64, body: &[Term]) {
+    if form == 8 {
+        let d = [2, 3, 4, 7, 10, 60, 100][s.next(7)];
+        let over = s.next(d as usize) as i64;
+        b.divided(head, d * gives - over - without_c, d, body);
+    } else {
+        b.rule(form, head, gives - without_c, body);
+    }
+}
+
+/// Constraints that these values just meet.
+fn met(b: &mut Builder, s: &mut Seed, constraints: usize, value: &[i64]) {
+    for i in 0..constraints {
+        let x = s.next(value.len());
+        match i % 2 {
+            0 => b.constraint(1, -value[x], &[(x, 0, 1)]),
+            _ => b.constraint(2, 0, &[(x, 1, value[x])]),
+        }
+    }
+}
+
 /// A stable plan with rules of these forms: each founded variable is held at its value by those before it, and other rules give as much or less.
 pub fn roster(name: &str, variables: usize, rules: usize, constraints: usize, terms: usize, forms: &[u8]) -> Plan {
     let mut s = Seed(0xD1B5_4A32_D192_ED03 ^ variables as u64);
@@ -209,79 +281,169 @@ pub fn roster(name: &str, variables: usize, rules: usize, constraints: usize, te
         let head = fixed + i % (variables - fixed);
         let first = i < variables - fixed;
         let form = forms[s.next(forms.len())];
-        let most = match form {
-            4 => 2,
-            5 => 1,
-            _ => terms,
-        };
-        let mut names: Vec<usize> = Vec::new();
-        while names.len() < most {
-            let x = s.next(if first { head } else { variables });
-            if !names.contains(&x) {
-                names.push(x);
-            }
-        }
-        let literal = |x: usize| (x, 1 + (x % 2) as u8, value[x] + (x % 2) as i64);
-        let plain = |x: usize| (x, 0, 0);
-        let body: Vec<(usize, u8, i64)> = match form {
-            1 | 8 => names.iter().map(|&x| (x, 0, [-2, -1, 1, 2, 3][s.next(5)])).collect(),
-            6 => names.iter().map(|&x| literal(x)).collect(),
-            7 => names.iter().enumerate().map(|(i, &x)| if i == 0 { plain(x) } else { literal(x) }).collect(),
-            _ => names.iter().map(|&x| plain(x)).collect(),
-        };
-        let values = names.iter().map(|&x| value[x]);
-        let without_c: i64 = match form {
-            1 | 8 => body.iter().map(|t| t.2 * value[t.0]).sum(),
-            2 => values.max().unwrap_or(0),
-            3 => values.min().unwrap_or(0),
-            4 => values.product(),
-            5 | 7 => value[names[0]],
-            _ => 0,
-        };
+        let names = names(&mut s, terms_of(form, terms), if first { head } else { variables }, |_| true);
+        let body = body(&mut s, form, &names, &value);
         let spare = if first { 0 } else { s.next(4) as i64 };
-        if form == 8 {
-            let d = [2, 3, 4, 7, 10, 60, 100][s.next(7)];
-            let over = s.next(d as usize) as i64;
-            b.divided(head, d * (value[head] - spare) - over - without_c, d, &body);
-        } else {
-            b.rule(form, head, value[head] - without_c - spare, &body);
-        }
+        giving(&mut b, &mut s, (form, head), value[head] - spare, without_c(form, &body, |t| value[t.0]), &body);
     }
-    for i in 0..constraints {
-        let x = s.next(variables);
-        match i % 2 {
-            0 => b.constraint(1, -value[x], &[(x, 0, 1)]),
-            _ => b.constraint(2, 0, &[(x, 1, value[x])]),
-        }
-    }
+    met(&mut b, &mut s, constraints, &value);
     b.plan(name)
 }
 
+/// The undivided forms but that of a size, and the forms that take 16 terms.
+pub const WITHOUT_SIZE: &[u8] = &[1, 2, 3, 4, 6, 7];
+pub const LONG: &[u8] = &[1, 2, 3, 6, 7, 8];
+
+/// A stable plan with closed posts: over the standard variables stand two floors of founded ones. Rules in use read their own floor and those below
+/// it, so many of them in the upper floor the size of a variable below it, a mixed place. Idle rules of either floor read all variables, so that the
+/// file would not be valid if they drew edges. Odd variables may be below 0.
+pub struct Posts {
+    pub variables: usize,
+    pub rules: usize,
+    pub constraints: usize,
+    pub terms: usize,
+    pub forms: &'static [u8],
+    pub mixed: usize,
+    pub idle: usize,
+}
+
+/// What a rule of such a plan is there for: it holds its head at its value, gives as much or less, does so by a mixed place, or is idle.
+#[derive(Clone, Copy, PartialEq)]
+enum Use {
+    Hold,
+    Open,
+    Size,
+    Idle,
+}
+
+impl Posts {
+    const HIGH: i64 = 100;
+
+    fn low(v: usize) -> i64 {
+        if v % 2 == 1 {
+            -Self::HIGH
+        } else {
+            0
+        }
+    }
+
+    fn fixed(&self) -> usize {
+        self.variables / 4
+    }
+
+    /// The first variable of the upper floor.
+    fn upper(&self) -> usize {
+        (self.fixed() + self.variables) / 2
+    }
+
+    /// What the rules are there for, by number: the idle ones are spread evenly after those that hold.
+    fn uses(&self) -> Vec<Use> {
+        let founded = self.variables - self.fixed();
+        let mut sizes = self.mixed;
+        let later = self.rules - founded;
+        let idle = |i: usize| (i + 1) * self.idle / later > i * self.idle / later;
+        let mut one = |i: usize| {
+            if i < founded {
+                Use::Hold
+            } else if idle(i - founded) {
+                Use::Idle
+            } else if sizes > 0 && self.fixed() + i % founded >= self.upper() {
+                sizes -= 1;
+                Use::Size
+            } else {
+                Use::Open
+            }
+        };
+        (0..self.rules).map(&mut one).collect()
+    }
+
+    /// The variables of the body of a rule of this form.
+    fn names(&self, s: &mut Seed, why: Use, form: u8, head: usize) -> Vec<usize> {
+        let below = match why {
+            Use::Hold => head,
+            Use::Size => self.upper(),
+            Use::Open if head < self.upper() => self.upper(),
+            _ => self.variables,
+        };
+        let fit = |x: usize| match (form, why) {
+            (5, Use::Size | Use::Idle) => x % 2 == 1,
+            (4 | 5, _) => x % 2 == 0,
+            _ => true,
+        };
+        names(s, terms_of(form, self.terms), below, fit)
+    }
+
+    fn rule(&self, b: &mut Builder, s: &mut Seed, why: Use, head: usize, value: &[i64]) {
+        let form = if why == Use::Size { 5 } else { self.forms[s.next(self.forms.len())] };
+        let names = self.names(s, why, form, head);
+        let mut body = body(s, form, &names, value);
+        let spare = if why == Use::Hold { 0 } else { s.next(4) as i64 };
+        let barred = why == Use::Idle && (form == 6 || form == 7) && s.next(2) == 0;
+        let (gives, without_c) = if why != Use::Idle || barred {
+            (value[head], without_c(form, &body, |t| value[t.0]))
+        } else {
+            (Self::low(head), without_c(form, &body, |t| if t.2 < 0 { Self::low(t.0) } else { Self::HIGH }))
+        };
+        if barred {
+            // a literal that holds for no value of the range
+            let last = body.len() - 1;
+            let x = names[last];
+            body[last] = if s.next(2) == 0 { (x, 1, Self::HIGH + 1) } else { (x, 2, Self::low(x)) };
+        }
+        giving(b, s, (form, head), gives - spare, without_c, &body);
+    }
+
+    pub fn plan(&self, name: &str) -> Plan {
+        let mut s = Seed(0xE703_7ED1_A0B4_28DB ^ self.variables as u64);
+        let mut b = Builder::new();
+        let fixed = self.fixed();
+        let value: Vec<i64> = (0..self.variables).map(|_| 4 + s.next(60) as i64).collect();
+        for (v, &z) in value.iter().enumerate() {
+            b.variable((v >= fixed) as u8, Self::low(v), Self::HIGH, z);
+        }
+        for (i, &why) in self.uses().iter().enumerate() {
+            self.rule(&mut b, &mut s, why, fixed + i % (self.variables - fixed), &value);
+        }
+        met(&mut b, &mut s, self.constraints, &value);
+        b.plan(name)
+    }
+}
+
 /// The upper and the lower half are dense circles, and rules of the upper one have mixed places of the lower one. With `closed` the last rule has
-/// one of its own circle, so that the file is refused there.
+/// one of its own circle. All rules are idle.
 pub fn mixed(name: &str, closed: bool) -> Plan {
+    circles(name, -1_000, -1_000, closed.then_some(-1_000), -10)
+}
+
+/// The same with rules that are just not idle, so that the file is refused at the last one; with `idle` that one is just idle.
+pub fn mixed_in_use(name: &str, idle: bool) -> Plan {
+    circles(name, -169, -19, Some(if idle { -20 } else { -19 }), -9)
+}
+
+/// By the c of the sums, of the sizes and of the last rule, and the value of the upper half.
+fn circles(name: &str, sum: i64, size: i64, last: Option<i64>, value: i64) -> Plan {
     let mut s = Seed(0xA076_1D64_78BD_642F);
     let mut b = Builder::new();
     let (half, n) = (128, 256);
-    for _ in 0..n {
-        b.variable(1, -10, 10, -10);
+    for v in 0..n {
+        b.variable(1, -10, 10, if v < half { -10 } else { value });
     }
     for v in 0..n {
         let from = if v < half { 0 } else { half };
-        let mut body: Vec<(usize, u8, i64)> = vec![(from + (v + 1) % half, 0, 1)];
+        let mut body: Vec<Term> = vec![(from + (v + 1) % half, 0, 1)];
         while body.len() < 16 {
             let x = if v < half { s.next(half) } else { s.next(n) };
             if body.iter().all(|t| t.0 != x) {
                 body.push((x, 0, 1));
             }
         }
-        b.rule(1, v, -1_000, &body);
+        b.rule(1, v, sum, &body);
     }
     for i in 0..1_024 {
-        b.rule(5, half + i % half, -1_000, &[(s.next(half), 0, 0)]);
+        b.rule(5, half + i % half, size, &[(s.next(half), 0, 0)]);
     }
-    if closed {
-        b.rule(5, n - 1, -1_000, &[(half, 0, 0)]);
+    if let Some(c) = last {
+        b.rule(5, n - 1, c, &[(half, 0, 0)]);
     }
     b.plan(name)
 }

@@ -7,8 +7,8 @@ mod fast;
 mod files;
 mod port;
 
-use files::{capped, circle, desk, followers, halves, led, led_by_two, mixed, ring, roster, row_13};
-use files::{Plan, Seed, ALL, DIVIDED, UNDIVIDED};
+use files::{capped, circle, desk, followers, halves, led, led_by_two, mixed, mixed_in_use, ring, roster, row_13};
+use files::{Plan, Posts, Seed, ALL, DIVIDED, LONG, UNDIVIDED, WITHOUT_SIZE};
 use std::hint::black_box;
 use std::process::exit;
 use std::time::{Duration, Instant};
@@ -182,8 +182,10 @@ fn plans() -> Vec<Plan> {
     let divided = roster("file at the limits, 17 groups a rule", 256, 704, 512, 16, DIVIDED);
     let mut plans = vec![
         row_13("mixed circle of 2, refused 13"),
-        mixed("mixed circle of 128, refused 13", true),
-        mixed("1,024 mixed places, accepted", false),
+        mixed_in_use("mixed 128, just not idle, refused 13", false),
+        mixed_in_use("mixed 128, last rule idle, accepted", true),
+        mixed("mixed circle of 128, all idle", true),
+        mixed("1,024 mixed places, all idle", false),
         damaged(&limit, "file at the limits, a bit flipped", 7),
         damaged(&limit, "file at the limits, another bit", 8),
         damaged(&divided, "17 groups a rule, a bit flipped", 7),
@@ -199,6 +201,7 @@ fn plans() -> Vec<Plan> {
         divided,
         roster("2,048 rules, forms 1 to 7", 256, 2_048, 512, 4, UNDIVIDED),
     ];
+    plans.extend(idle_plans());
     for n in [64, 128, 256] {
         plans.push(ring(&format!("unfounded ring of {n}"), n));
     }
@@ -220,6 +223,18 @@ fn plans() -> Vec<Plan> {
     }
     plans.push(led_by_two("followers of two in one circle", 256));
     plans
+}
+
+/// Plans that are accepted thanks to their idle rules.
+fn idle_plans() -> [Plan; 3] {
+    let small = Posts { variables: 16, rules: 40, constraints: 4, terms: 3, forms: WITHOUT_SIZE, mixed: 1, idle: 12 };
+    let week = Posts { variables: 64, rules: 300, constraints: 20, terms: 4, forms: UNDIVIDED, mixed: 40, idle: 150 };
+    let limit = Posts { variables: 256, rules: 748, constraints: 512, terms: 16, forms: LONG, mixed: 16, idle: 180 };
+    [
+        small.plan("small roster, a mixed place, 12 idle"),
+        week.plan("week's desk, mixed places, half idle"),
+        limit.plan("file at the limits, mixed, some idle"),
+    ]
 }
 
 fn main() {

@@ -313,34 +313,66 @@ fn rule_value(file: &[u8], at: usize) -> &[u8] {
     &file[at + 3..at + 3 + word(file, at + 1)]
 }
 
-/// The place of the first rule with a mixed variable in its head's component.
-fn first_offending(file: &[u8], k: Counts) -> Option<usize> {
-    let rules = |mut f: Box<dyn FnMut(usize, &[u8]) -> bool + '_>| {
-        let mut at = 8 * k.variables;
-        for _ in 0..k.rules {
-            let v = rule_value(file, at);
-            if f(at, v) {
-                return Some(at);
-            }
-            at += 3 + v.len();
+// ---- idle rules: they give nothing, or no more than their head's low, whatever values their variables have in their ranges
+
+/// The value from low to high at which a position that pushes this way makes its rule give most.
+fn demanding(d: Direction, low: i64, high: i64) -> i64 {
+    match d {
+        Direction::Rising => high,
+        Direction::Falling => low,
+        Direction::Mixed if low.abs() < high.abs() => high,
+        Direction::Mixed => low,
+    }
+}
+
+fn set_position(values: &mut Values, file: &[u8], v: &[u8], i: usize) {
+    let x = body(v)[4 * i] as usize;
+    let d = direction(file, v, i);
+    values[x] = demanding(d, low(file, x), high(file, x));
+}
+
+/// Gives every variable of the body that value.
+fn set_most(values: &mut Values, file: &[u8], v: &[u8]) {
+    for i in 0..positions(v) {
+        set_position(values, file, v, i);
+    }
+}
+
+/// Whether what is given is nothing or no more than the low of a head.
+fn is_no_more(low: i64, given: Option<i64>) -> bool {
+    let Some(a) = given else { return true };
+    a <= low
+}
+
+/// Whether the rule in a field's value is idle. The values are lent for it.
+fn is_idle(values: &mut Values, file: &[u8], v: &[u8]) -> bool {
+    set_most(values, file, v);
+    let most = gives(v, 0, values, values);
+    is_no_more(low(file, v[1] as usize), most)
+}
+
+// ---- validity: for each variable a row of those that it reaches
+
+type Rows = [[u64; 4]; VARIABLES];
+
+/// The edges that a rule draws: an idle one draws none.
+fn mark_rule(rows: &mut Rows, values: &mut Values, file: &[u8], v: &[u8]) {
+    if is_idle(values, file, v) {
+        return;
+    }
+    for i in 0..positions(v) {
+        if direction(file, v, i) != Direction::Falling {
+            let x = body(v)[4 * i] as usize;
+            rows[v[1] as usize][x / 64] |= 1 << (x % 64);
         }
-        None
-    };
-    let mixed = |v: &[u8]| (0..positions(v)).any(|i| direction(file, v, i) == Direction::Mixed);
-    rules(Box::new(|_, v| mixed(v)))?;
-    let mut rows = [[0u64; 4]; VARIABLES];
-    rules(Box::new(|_, v| {
-        for i in 0..positions(v) {
-            if direction(file, v, i) != Direction::Falling {
-                let x = body(v)[4 * i] as usize;
-                rows[v[1] as usize][x / 64] |= 1 << (x % 64);
-            }
-        }
-        false
-    }));
-    for m in 0..k.variables {
+    }
+}
+
+/// What the variables reach over one edge or more.
+fn close(rows: &mut Rows, n: usize) {
+    for m in 0..n {
         let row = rows[m];
-        for i in 0..k.variables {
+        for i in 0..n {
             if bit(&rows[i], m) {
                 for w in 0..4 {
                     rows[i][w] |= row[w];
@@ -348,13 +380,47 @@ fn first_offending(file: &[u8], k: Counts) -> Option<usize> {
             }
         }
     }
-    rules(Box::new(|_, v| {
-        let h = v[1] as usize;
-        (0..positions(v)).any(|i| {
-            let x = body(v)[4 * i] as usize;
-            direction(file, v, i) == Direction::Mixed && (x == h || bit(&rows[h], x) && bit(&rows[x], h))
-        })
-    }))
+}
+
+fn share(rows: &Rows, x: usize, y: usize) -> bool {
+    x == y || bit(&rows[x], y) & bit(&rows[y], x)
+}
+
+/// Whether a rule offends by the rows; only one with a mixed variable in its head's component is asked whether it is idle.
+fn offends(rows: &Rows, values: &mut Values, file: &[u8], v: &[u8]) -> bool {
+    let mixed = |i: usize| direction(file, v, i) == Direction::Mixed && share(rows, v[1] as usize, body(v)[4 * i] as usize);
+    if !(0..positions(v)).fold(false, |found, i| found | mixed(i)) {
+        return false;
+    }
+    !is_idle(values, file, v)
+}
+
+/// The rules' values, each with the place of its field.
+fn rules(file: &[u8], k: Counts) -> impl Iterator<Item = (usize, &[u8])> {
+    let mut next = 8 * k.variables;
+    (0..k.rules).map(move |_| {
+        let at = next;
+        let v = rule_value(file, at);
+        next += 3 + v.len();
+        (at, v)
+    })
+}
+
+fn any_mixed(file: &[u8], k: Counts) -> bool {
+    let mixed = |v: &[u8]| (0..positions(v)).fold(false, |found, i| found | (direction(file, v, i) == Direction::Mixed));
+    rules(file, k).fold(false, |found, (_, v)| found | mixed(v))
+}
+
+/// The place of the first rule that is not idle and has a mixed variable in its head's component.
+fn first_offending(file: &[u8], k: Counts) -> Option<usize> {
+    if !any_mixed(file, k) {
+        return None;
+    }
+    let mut rows = [[0u64; 4]; VARIABLES];
+    let mut values = [0; VARIABLES];
+    rules(file, k).for_each(|(_, v)| mark_rule(&mut rows, &mut values, file, v));
+    close(&mut rows, k.variables);
+    rules(file, k).find(|(_, v)| offends(&rows, &mut values, file, v)).map(|(at, _)| at)
 }
 
 pub fn read(file: &[u8]) -> Result<Counts, (usize, usize)> {

@@ -59,7 +59,7 @@ pub fn check_call(file: &[u8], assignment: &[u8], report: &mut [u8]) -> u64 {
         Ok(opened) => opened,
         Err(answer) => return answer,
     };
-    let unmet = |r: &read::Rule| run::above(&program, r, &assigned, &assigned, assigned[r.head as usize]).is_some();
+    let unmet = |r: &read::Rule| run::above(program.variables, r, &assigned, &assigned, assigned[r.head as usize]).is_some();
     if let Some(i) = program.rules.iter().position(unmet) {
         return pack(4, i, 0, 0);
     }

@@ -1,5 +1,6 @@
 //! Reading. A field that is in order takes the short way; one that is not ends the reading, and `why` finds its number.
 use super::graph::Graph;
+use super::run::{above, Values};
 
 const BYTES: usize = 60_000;
 const VARIABLES: usize = 256;
@@ -134,7 +135,8 @@ struct Bodies<'a> {
     /// The last body in which a variable stood.
     stood: [u16; VARIABLES],
     body: u16,
-    /// The mixed places: the number of bytes from the rule's field on, its head and its variable.
+    /// The mixed places that may offend: the number of bytes from the rule's field on, its head and its variable. Those of idle rules and of standard
+    /// variables, which head no rule, are left out.
     mixed: Vec<(usize, u8, u8)>,
 }
 
@@ -174,7 +176,7 @@ impl Bodies<'_> {
                 (4, 2) => self.plain(terms) && terms.iter().all(|t| low(&self.variables[t[0] as usize]) >= 0),
                 (5, 1) => {
                     let fine = self.plain(terms);
-                    if fine && directions(self.variables, rule, 0) == (true, true) {
+                    if fine && may_offend(self.variables, rule) {
                         self.mixed.push((left, rule.head, terms[0][0]));
                     }
                     fine
@@ -261,28 +263,65 @@ pub fn directions(variables: &[Variable], rule: &Rule, i: usize) -> (bool, bool)
     (!falls, falls)
 }
 
+/// Whether a rule of form 5 is idle.
+fn idle_size(variables: &[Variable], rule: &Rule) -> bool {
+    let x = &variables[rule.terms[0][0] as usize];
+    let most = (high(x) as i32).max(-(low(x) as i32));
+    rule.c as i32 + most <= low(&variables[rule.head as usize]) as i32
+}
+
+/// Whether a rule of form 5 has a founded variable at a mixed place and is not idle.
+fn may_offend(variables: &[Variable], rule: &Rule) -> bool {
+    let x = &variables[rule.terms[0][0] as usize];
+    directions(variables, rule, 0) == (true, true) && founded(x) && !idle_size(variables, rule)
+}
+
+/// The lows and the highs.
+fn ends(variables: &[Variable]) -> (Values, Values) {
+    let (mut lows, mut highs) = ([0; VARIABLES], [0; VARIABLES]);
+    for (v, x) in variables.iter().enumerate() {
+        (lows[v], highs[v]) = (low(x), high(x));
+    }
+    (lows, highs)
+}
+
 /// The first rule with a mixed variable in its head's component, by the number of bytes from its field on.
 fn first_offending(file: &[u8], n: &Counted, mixed: &[(usize, u8, u8)]) -> Option<usize> {
     if mixed.is_empty() {
         return None;
     }
     let mut graph = Graph::new(n.variables.len());
+    let (lows, highs) = ends(n.variables);
     let mut rest = &file[8 * n.variables.len()..];
     while let Some((start, terms, after)) = value(rest, 2, 4, TERMS + 1) {
-        let rule = rule(start, terms);
-        let terms = terms.iter();
-        match rule.form {
-            1 => graph.edges(rule.head, terms.filter(|t| number(t) > 0).map(|t| t[0])),
-            8 => graph.edges(rule.head, terms.skip(1).filter(|t| number(t) > 0).map(|t| t[0])),
-            5 if !directions(n.variables, &rule, 0).0 => {}
-            6 | 7 => graph.edges(rule.head, terms.filter(|t| t[1] != 2).map(|t| t[0])),
-            _ => graph.edges(rule.head, terms.map(|t| t[0])),
-        }
         rest = after;
+        let mut rule = rule(start, terms);
+        if rule.form == 8 {
+            (rule.divisor, rule.terms) = (number(&terms[0]), &terms[1..]);
+        }
+        // a rule gives most where its rising places have their highs and its falling ones their lows
+        let idle = match rule.form {
+            5 => idle_size(n.variables, &rule),
+            _ => above(n.variables, &rule, &highs, &lows, lows[rule.head as usize]).is_none(),
+        };
+        if !idle {
+            draw(&mut graph, n.variables, &rule);
+        }
     }
     let places = graph.components();
     let component = |v: u8| places[v as usize].0;
     mixed.iter().find(|(_, head, x)| component(*head) == component(*x)).map(|(left, ..)| *left)
+}
+
+/// The edges of a rule that is not idle.
+fn draw(graph: &mut Graph, variables: &[Variable], rule: &Rule) {
+    let terms = rule.terms.iter();
+    match rule.form {
+        1 | 8 => graph.edges_where(rule.head, terms.map(|t| (t[0], number(t) > 0))),
+        5 if !directions(variables, rule, 0).0 => {}
+        6 | 7 => graph.edges_where(rule.head, terms.map(|t| (t[0], t[1] != 2))),
+        _ => graph.edges(rule.head, terms.map(|t| t[0])),
+    }
 }
 
 /// The number of the first refusal from 2 to 12 of the field at the start of `rest`, after so many fields.

@@ -1,7 +1,7 @@
 //! The least model. A few sweeps over the rules as they stand are enough for most plans; then the reduct is written out, its constant parts
 //! folded, and run component by component, each round by round over the rules that wait.
 use super::graph::Graph;
-use super::read::{founded, high, low, number, Constraint, Program, Rule, Term};
+use super::read::{founded, high, low, number, Constraint, Program, Rule, Term, Variable};
 use super::set::Set;
 
 pub type Values = [i16; 256];
@@ -30,7 +30,7 @@ fn divided(sum: i32, d: i16, than: i16) -> Option<i32> {
 }
 
 /// What the rule gives where that is more than `than`. Standard variables have their assigned values in the model, so rising places read it.
-pub fn above(program: &Program, rule: &Rule, model: &Values, assigned: &Values, than: i16) -> Option<i32> {
+pub fn above(variables: &[Variable], rule: &Rule, model: &Values, assigned: &Values, than: i16) -> Option<i32> {
     let at = |t: &Term| model[t[0] as usize] as i32;
     let c = rule.c as i32;
     let sum = |terms: &[Term]| {
@@ -47,7 +47,7 @@ pub fn above(program: &Program, rule: &Rule, model: &Values, assigned: &Values, 
         (3, terms) => c + terms.iter().map(at).min()?,
         (4, [a, b]) => c + at(a) * at(b),
         (5, [t]) => {
-            let rising = low(&program.variables[t[0] as usize]) >= 0;
+            let rising = low(&variables[t[0] as usize]) >= 0;
             c + if rising { at(t) } else { (assigned[t[0] as usize] as i32).abs() }
         }
         (6, literals) => return (rule.c > than && literals.iter().all(|t| holds(t, model, assigned))).then_some(c),
@@ -111,7 +111,7 @@ impl<const CHECK: bool> Run<'_, CHECK> {
                 if self.full(rule.head) {
                     continue;
                 }
-                if let Some(to) = above(self.program, rule, &self.model, self.assigned, self.model[rule.head as usize]) {
+                if let Some(to) = above(self.program.variables, rule, &self.model, self.assigned, self.model[rule.head as usize]) {
                     self.raise(rule.head, to)?;
                     raised = true;
                 }

@@ -32,6 +32,10 @@ impl Set {
         self.0[v as usize / 64] |= 1 << (v % 64);
     }
 
+    pub fn put_where(&mut self, v: u8, put: bool) {
+        self.0[v as usize / 64] |= u64::from(put) << (v % 64);
+    }
+
     pub fn drop(&mut self, v: u8) {
         self.0[v as usize / 64] &= !(1 << (v % 64));
     }
