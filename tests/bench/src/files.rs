@@ -415,9 +415,13 @@ pub fn mixed(name: &str, closed: bool) -> Plan {
     circles(name, -1_000, -1_000, closed.then_some(-1_000), -10)
 }
 
-/// The same with rules that are just not idle, so that the file is refused at the last one; with `idle` that one is just idle.
-pub fn mixed_in_use(name: &str, idle: bool) -> Plan {
-    circles(name, -169, -19, Some(if idle { -20 } else { -19 }), -9)
+/// The c of a size there that is just not idle, and of one that just is.
+pub const USED: i64 = -19;
+pub const UNUSED: i64 = -20;
+
+/// The same with rules that are just not idle; a last one of its own circle has this c.
+pub fn mixed_in_use(name: &str, last: Option<i64>) -> Plan {
+    circles(name, -169, USED, last, -9)
 }
 
 /// By the c of the sums, of the sizes and of the last rule, and the value of the upper half.

@@ -8,7 +8,7 @@ mod files;
 mod port;
 
 use files::{capped, circle, desk, followers, halves, led, led_by_two, mixed, mixed_in_use, ring, roster, row_13};
-use files::{Plan, Posts, Seed, ALL, DIVIDED, LONG, UNDIVIDED, WITHOUT_SIZE};
+use files::{Plan, Posts, Seed, ALL, DIVIDED, LONG, UNDIVIDED, UNUSED, USED, WITHOUT_SIZE};
 use std::hint::black_box;
 use std::process::exit;
 use std::time::{Duration, Instant};
@@ -182,8 +182,9 @@ fn plans() -> Vec<Plan> {
     let divided = roster("file at the limits, 17 groups a rule", 256, 704, 512, 16, DIVIDED);
     let mut plans = vec![
         row_13("mixed circle of 2, refused 13"),
-        mixed_in_use("mixed 128, just not idle, refused 13", false),
-        mixed_in_use("mixed 128, last rule idle, accepted", true),
+        mixed_in_use("mixed 128, just not idle, refused 13", Some(USED)),
+        mixed_in_use("mixed 128, last rule idle, accepted", Some(UNUSED)),
+        mixed_in_use("1,024 mixed places, none idle", None),
         mixed("mixed circle of 128, all idle", true),
         mixed("1,024 mixed places, all idle", false),
         damaged(&limit, "file at the limits, a bit flipped", 7),
