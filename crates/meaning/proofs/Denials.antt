@@ -66,7 +66,7 @@ module _ (n : ℕ) (C : Type 0) where
 -- ---- a call
 
 -- a file is turned down or accepted
-refused-or : {s : List ℕ} {n at : ℕ} {P : Program} → Reads s (refused n at) → Accepts s P → ⊥
+pub refused-or : {s : List ℕ} {n at : ℕ} {P : Program} → Reads s (refused n at) → Accepts s P → ⊥
 refused-or r x = let e = reads-unique r (accepts-reads x) in let z : _≡_ {A = ℕ} 0 1 = cc in omega arith
 
 module _ {table : Program → List Denial} {s : List ℕ} where

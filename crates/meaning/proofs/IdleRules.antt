@@ -37,13 +37,13 @@ module _ {P : Program} (promises : Promises P) where
 
   module _ {rs : List Rule} (left : LeftOut P rs) where
     -- what rule r asks of m
-    abbrev Asked : Valuation → Valuation → Rule → Type 0
+    abbrev pub Asked : Valuation → Valuation → Rule → Type 0
     Asked θ m r = T (noMore (variableIn (P .variables) (r .head)) (gives (P .variables) r m θ) (m (r .head)))
 
-    all-left : (θ m : Valuation) → ((i : ℕ) → i < length (P .rules) → Asked θ m (ruleIn (P .rules) i)) → (j : ℕ) → j < length rs → Asked θ m (ruleIn rs j)
+    pub all-left : (θ m : Valuation) → ((i : ℕ) → i < length (P .rules) → Asked θ m (ruleIn (P .rules) i)) → (j : ℕ) → j < length rs → Asked θ m (ruleIn rs j)
     all-left θ m h j l = let o = left .only j l in subst (Asked θ m) (o .is) (h (o .number) (o .inside))
 
-    all-back : {θ m : Valuation} → Within (system P) m → Within (system P) θ → ((j : ℕ) → j < length rs → Asked θ m (ruleIn rs j))
+    pub all-back : {θ m : Valuation} → Within (system P) m → Within (system P) θ → ((j : ℕ) → j < length rs → Asked θ m (ruleIn rs j))
         → (i : ℕ) → i < length (P .rules) → Asked θ m (ruleIn (P .rules) i)
     all-back {θ} {m} wm wθ h i l = go (left .rest i l)
       where
@@ -96,7 +96,7 @@ among-first : {r : Rule} {rs : List Rule} → Among r (r ∷ rs)
 among-first = record { number = 0; inside = omega arith; is = refl }
 
 module _ (vs : List Variable) where
-  acting-only : (rs : List Rule) (j : ℕ) → j < length (acting vs rs) → Among (ruleIn (acting vs rs) j) rs
+  pub acting-only : (rs : List Rule) (j : ℕ) → j < length (acting vs rs) → Among (ruleIn (acting vs rs) j) rs
   unfolding acting
   acting-only [] j l = absurd (omega arith)
   acting-only (r ∷ rs) j l = go (acting-only rs) (isIdle vs r) j l

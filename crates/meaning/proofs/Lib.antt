@@ -8,6 +8,8 @@ pub mod Determined
 pub mod LeastDemanded
 pub mod InRanges
 pub mod IdleRules
+pub mod IdleCalls
+pub mod IdleFiles
 pub mod Steps
 pub mod Search
 pub mod Total

@@ -1,4 +1,5 @@
--- Document 02, wish 2: "Verdicts use the same reduct as before." A program of which some idle rules are left out; the laws are in proofs/IdleRules.antt.
+-- Document 02, wish 2: "Verdicts use the same reduct as before." A program of which some idle rules are left out; the laws are in
+-- proofs/IdleRules.antt, IdleCalls.antt and IdleFiles.antt.
 use Prim.Native.Nat.{ℕ, _<_}
 use mathlib.Core.Path.{_≡_}
 use mathlib.Core.Logic.{_⊎_}
@@ -7,6 +8,7 @@ use mathlib.Core.List.{List, [], _∷_}
 use lib.ListN.{length}
 use Rattle.program.specs.Program.{Program, Rule, ruleIn}
 use Rattle.program.specs.Idle.{Idle, isIdle}
+use Rattle.program.specs.Encode.{encode}
 use Rattle.program.specs.declared.Variable.{Variable}
 
 -- the program with these rules in place of its own
@@ -28,3 +30,7 @@ pub record LeftOut (P : Program) (rs : List Rule) : Type 0 where
 unfoldable pub acting : List Variable → List Rule → List Rule
 acting vs [] = []
 acting vs (r ∷ rs) = cond (isIdle vs r) (acting vs rs) (r ∷ acting vs rs)
+
+-- the file of the program without its idle rules
+abbrev pub struck : Program → List ℕ
+struck P = encode (withRules P (acting (P .variables) (P .rules)))

@@ -3,3 +3,4 @@ pub mod Total
 pub mod Listed
 pub mod Shown
 pub mod Demanded
+pub mod IdleChecks

@@ -1,2 +1,3 @@
 pub mod Checks
+pub mod LeftOut
 pub mod Demands

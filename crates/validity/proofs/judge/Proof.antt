@@ -23,7 +23,9 @@ close-requires : tie.Need-close-requires
 close-requires c κs = (omega (arith, variables-few (c .before .before .before .before .before .before .before .pre)), c .before .mark-edges .ensures .0)
 
 first-offending-requires : tie.Need-first-offending-requires
-first-offending-requires c κs = (c .before .before .before .before .before .before .before .before .before .before .pre, c .before .before .before .before .mark-edges .ensures .1 .0)
+first-offending-requires c κs =
+    let m = c .before .before .before .before in
+    (m .before .before .before .before .before .before .pre, m .mark-edges .ensures .1 .0)
 
 returns-2 : tie.Need-returns-2
 returns-2 c =
