@@ -4,7 +4,7 @@ use mathlib.Core.Path.{_≡_, refl, sym, ap, _∙_}
 use mathlib.Core.List.{List}
 use mathlib.Core.Bool.{Bool, true, false, not, cond}
 use native.Mathlib.Omega.{arith}
-use lib.Dec.{ltb, eqb}
+use lib.Dec.{eqb}
 use lib.IntN.{ℤ, pos, natAbs}
 use lib.Signed.{ltZ}
 use lib.ListN.{length, set, length-set}
@@ -19,15 +19,16 @@ use Rattle.program.specs.Variables.{start, notPast, noMore}
 use Rattle.program.specs.Evaluate.{evaluate}
 use Rattle.program.specs.Evaluable.{Small, Evaluable}
 use Rattle.program.specs.Readings.{valued, bodyVariable}
-use Rattle.program.specs.Idle.{demanding, most, isIdle}
+use Rattle.program.specs.Idle.{demanding, mostAt, most, lows, highs, isIdle}
 use Rattle.program.specs.declared.Direction.{Direction}
 use Rattle.program.specs.declared.Direction.the-variants.{Rising, Falling, Mixed}
 use Rattle.program.specs.declared.Given.{Given}
 use Rattle.program.specs.declared.Given.the-variants.{Nothing, Value}
 use Rattle.program.specs.declared.Variable.{Variable}
 use Rattle.program.proofs.Gives.{evaluate-same}
+use Rattle.program.proofs.IdleRules.{demanding-end}
 use Rattle.bodies.specs.Readings.{readingOf}
-use Rattle.idleness.specs.Most.{mostAt, Ready}
+use Rattle.idleness.specs.Most.{mostDeclared, Ready}
 
 -- ---- one position
 
@@ -50,20 +51,9 @@ module _ (d : Direction) (low high : ℤ) where
     unfolding demanding
     demanding-low h = rw (e, rw (p, q) at h)
 
--- one of two small ends is small
-pub demanding-small : (d : Direction) (low high : ℤ) → natAbs low ≤ maxNumber → natAbs high ≤ maxNumber → natAbs (demanding d low high) ≤ maxNumber
-unfolding demanding
-demanding-small Rising low high l h = h
-demanding-small Falling low high l h = l
-demanding-small Mixed low high l h = go (ltb (natAbs low) (natAbs high))
-  where
-    go : (t : Bool) → natAbs (cond t high low) ≤ maxNumber
-    go true = h
-    go false = l
-
 module _ (vs : List Variable) (r : Rule) (i : ℕ) where
   pub most-read : {d : Direction} {x : Variable} {z : ℤ} → d ≡ direction vs r i → x ≡ variableIn vs (bodyVariable r i)
-      → z ≡ demanding d (x .low) (x .high) → z ≡ mostAt vs r i
+      → z ≡ demanding d (x .low) (x .high) → z ≡ mostDeclared vs r i
   unfolding mostAt
   most-read p q e = e ∙ rw (p, q)
 
@@ -82,9 +72,9 @@ module _ {s : List ℕ} {n : ℕ} {v : List ℕ} (p : Ready s n v) (i : ℕ) (l 
   pub declared-few : bodyVariable (ruleOf v) i < maxVariables
   declared-few = omega (arith, p .standing .declared i l, p .standing .few)
 
-  pub position-most : natAbs (mostAt (variablesAt s n) (ruleOf v) i) ≤ maxNumber
+  pub position-most : natAbs (mostDeclared (variablesAt s n) (ruleOf v) i) ≤ maxNumber
   unfolding mostAt
-  position-most = demanding-small _ _ _ (position-low refl) (position-high refl)
+  position-most = demanding-end (λ z. natAbs z ≤ maxNumber) (direction (variablesAt s n) (ruleOf v) i) (position-low refl) (position-high refl)
 
 -- ---- position after position
 
@@ -98,7 +88,7 @@ set-small ms v a l s h x = go (eqb v x) refl
 
 -- the variables at the first i positions have their values
 abbrev pub Taken : List Variable → Rule → ℕ → List ℤ → Type 0
-Taken vs r i ms = (j : ℕ) → j < i → valued ms (bodyVariable r j) ≡ mostAt vs r j
+Taken vs r i ms = (j : ℕ) → j < i → valued ms (bodyVariable r j) ≡ mostDeclared vs r j
 
 -- an array of small values, with those of the first i positions
 pub record TakenTo (s : List ℕ) (n : ℕ) (v : List ℕ) (i : ℕ) (ms : List ℤ) : Type 0 where
@@ -112,15 +102,15 @@ module _ (s : List ℕ) (n : ℕ) (v : List ℕ) where
 
   -- one position more, whose variable stands at no earlier one
   pub taken-more : {i : ℕ} {ms ms′ : List ℤ} → Ready s n v → i < length (ruleOf v .terms) → TakenTo s n v i ms
-      → ms′ ≡ set ms (bodyVariable (ruleOf v) i) (mostAt (variablesAt s n) (ruleOf v) i) → TakenTo s n v (i + 1) ms′
+      → ms′ ≡ set ms (bodyVariable (ruleOf v) i) (mostDeclared (variablesAt s n) (ruleOf v) i) → TakenTo s n v (i + 1) ms′
   taken-more {i} {ms} p l t e =
       let x = bodyVariable (ruleOf v) i in
-      let a = mostAt (variablesAt s n) (ruleOf v) i in
+      let a = mostDeclared (variablesAt s n) (ruleOf v) i in
       let f : x < length ms = omega (arith, declared-few p i l, t .long) in
       rw e (record {
         long = length-set ms x a ∙ t .long;
         small = set-small ms x a f (t .small) (position-most p i l);
-        taken = below-more (λ (j : ℕ). valued (set ms x a) (bodyVariable (ruleOf v) j) ≡ mostAt (variablesAt s n) (ruleOf v) j) i
+        taken = below-more (λ (j : ℕ). valued (set ms x a) (bodyVariable (ruleOf v) j) ≡ mostDeclared (variablesAt s n) (ruleOf v) j) i
             (λ j k. getD-set-other ms x (bodyVariable (ruleOf v) j) a (pos 0) (p .distinct i j l k) ∙ t .taken j k) (getD-set-same ms x a (pos 0) f);
       })
 
@@ -144,8 +134,8 @@ module _ (x : Variable) {g : Given} where
 module _ (vs : List Variable) (r : Rule) where
   -- whichever list a position is read in, the rule gives the most that it can
   pub most-is : (ms : List ℤ) → Evaluable r → Taken vs r (length (r .terms)) ms
-      → evaluate r (readingOf 0 ms ms (r .terms)) ≡ most vs r (λ v. variableIn vs v .low) (λ v. variableIn vs v .high)
-  unfolding most mostAt readingOf
+      → evaluate r (readingOf 0 ms ms (r .terms)) ≡ most vs r (lows vs) (highs vs)
+  unfolding most readingOf
   most-is ms e g = evaluate-same r (readingOf 0 ms ms (r .terms)) _ (λ i l. either (bit 0 i) ∙ g i l) e
     where
       either : {a : ℤ} (b : Bool) → cond b a a ≡ a
@@ -153,6 +143,6 @@ module _ (vs : List Variable) (r : Rule) where
       either false = refl
 
   pub idle-is : {x : Variable} {g : Given} {b : Bool} → b ≡ noMore x g (start x) → x ≡ variableIn vs (r .head)
-      → g ≡ most vs r (λ v. variableIn vs v .low) (λ v. variableIn vs v .high) → b ≡ isIdle vs r
+      → g ≡ most vs r (lows vs) (highs vs) → b ≡ isIdle vs r
   unfolding isIdle
   idle-is p q e = p ∙ rw (q, e)

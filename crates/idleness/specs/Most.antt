@@ -6,16 +6,15 @@ use lib.IntN.{ℤ, natAbs}
 use lib.ListN.{length}
 use Rattle.format.specs.Limits.{maxNumber}
 use Rattle.program.specs.Program.{Rule, ruleOf, variableIn, variablesAt}
-use Rattle.program.specs.Directions.{direction}
 use Rattle.program.specs.Readings.{bodyVariable}
 use Rattle.program.specs.Evaluable.{Evaluable}
-use Rattle.program.specs.Idle.{demanding}
+use Rattle.program.specs.Idle.{mostAt, lows, highs}
 use Rattle.program.specs.declared.Variable.{Variable}
 use Rattle.parts.specs.Values.{Standing}
 
 -- the value of its declared range at which position i makes the rule give most
-unfoldable pub mostAt : List Variable → Rule → ℕ → ℤ
-mostAt vs r i = let x = variableIn vs (bodyVariable r i) in demanding (direction vs r i) (x .low) (x .high)
+abbrev pub mostDeclared : List Variable → Rule → ℕ → ℤ
+mostDeclared vs r = mostAt vs r (lows vs) (highs vs)
 
 -- v is the value of a rule in a file of n variables, which can be evaluated; no variable stands twice in its body, and the ends of their ranges are small
 pub record Ready (s : List ℕ) (n : ℕ) (v : List ℕ) : Type 0 where

@@ -9,7 +9,7 @@ ghost use Rattle.program.specs.Variables.{start, noMore};
 ghost use Rattle.program.specs.Readings.{valued, bodyVariable};
 ghost use Rattle.program.specs.Evaluable.{Small};
 ghost use Rattle.program.specs.Idle.{demanding, isIdle};
-ghost use Rattle.idleness.specs.Most.{Ready, mostAt};
+ghost use Rattle.idleness.specs.Most.{Ready, mostDeclared};
 use bodies::numbers;
 use evaluation::rules::gives;
 use format::Format;
@@ -36,7 +36,7 @@ fn demanding(d: Direction, low: i64, high: i64) -> i64
     }
 }
 
-// Gives the variable at position i of the rule in a field's value that value.
+// Sets the variable at position i of the rule in a field's value to the value of its range at which the rule gives most.
 fn set_position(
     values: &mut [i64; Format::MAX_VARIABLES],
     file: &[u8],
@@ -47,7 +47,7 @@ fn set_position(
     requires { ⌜ Ready (now file) variables (now value) ⌝ }
     requires { ⌜ (i < length (ruleOf (now value) .terms)) × (length (now values) ≡ maxVariables) ⌝ }
     ensures { λ _. ⌜ now (values .exit) ≡ set (now (values .entry)) (bodyVariable (ruleOf (now (value .entry))) i)
-        (mostAt (variablesAt (now (file .entry)) variables) (ruleOf (now (value .entry))) i) ⌝ }
+        (mostDeclared (variablesAt (now (file .entry)) variables) (ruleOf (now (value .entry))) i) ⌝ }
 {
     let p = position_at(file, variables, value, i);
     let x = variables::variable(file, p.variable);
@@ -57,14 +57,14 @@ fn set_position(
     values[v] = most;
 }
 
-// Gives every variable of the body that value.
+// Sets every variable of the body so.
 fn set_most(values: &mut [i64; Format::MAX_VARIABLES], file: &[u8], variables: usize, value: &[u8])
     requires { ⌜ Ready (now file) variables (now value) ⌝ }
     requires { ⌜ (length (now values) ≡ maxVariables) × Small (now values) ⌝ }
     ensures { λ _. ⌜ (length (now (values .exit)) ≡ maxVariables) × Small (now (values .exit)) ⌝ }
     ensures { λ _. ⌜ ((i : ℕ) → i < length (ruleOf (now (value .entry)) .terms)
         → valued (now (values .exit)) (bodyVariable (ruleOf (now (value .entry))) i)
-        ≡ mostAt (variablesAt (now (file .entry)) variables) (ruleOf (now (value .entry))) i) ⌝ }
+        ≡ mostDeclared (variablesAt (now (file .entry)) variables) (ruleOf (now (value .entry))) i) ⌝ }
 {
     let n = rules::positions(value);
     let mut i = 0;

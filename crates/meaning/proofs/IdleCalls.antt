@@ -27,6 +27,9 @@ use Rattle.meaning.proofs.IdleFiles.{struck-accepted}
 pub meant : {s : List ℕ} {P Q : Program} (C : Program → Type 0) → Accepts s P → Accepts s Q → C P → C Q
 meant C x z c = subst C (accepts-unique x z) c
 
+pub outside-left : {P : Program} (rs : List Rule) {θ : Valuation} {v : ℕ} → FirstOutside P θ v → FirstOutside (withRules P rs) θ v
+outside-left rs o = record { declared = o .declared; outside = o .outside; first = o .first }
+
 module _ {s s′ : List ℕ} {P : Program} {rs : List Rule} (x : Accepts s P) (y : Accepts s′ (withRules P rs)) where
   -- the table of a call's refusals goes by the variables
   module _ (bytes : ℕ) (a b : List ℕ) where
@@ -36,9 +39,6 @@ module _ {s s′ : List ℕ} {P : Program} {rs : List Rule} (x : Accepts s P) (y
 
     pub called-left : Called (lengths bytes a b) s P → Called (lengths bytes a b) s′ (withRules P rs)
     called-left c = record { accepts = y; passes = c .passes }
-
-  pub outside-left : {θ : Valuation} {v : ℕ} → FirstOutside P θ v → FirstOutside (withRules P rs) θ v
-  outside-left o = record { declared = o .declared; outside = o .outside; first = o .first }
 
   module _ (left : LeftOut P rs) (a b : List ℕ) where
     abbrev Begins : Program → Type 0
@@ -59,7 +59,7 @@ module _ {s s′ : List ℕ} {P : Program} {rs : List Rule} (x : Accepts s P) (y
     least-call-left (turned-down p) = turned-down (refused-left leastBytes a b p)
     least-call-left (outside {v = v} c o) =
         meant (λ R. Begins R → FirstOutside R (assigned a) v → LeastCall s′ a b (range v) b) x (c .accepts)
-        (λ d f. outside (called-left leastBytes a b d) (outside-left f)) c o
+        (λ d f. outside (called-left leastBytes a b d) (outside-left rs f)) c o
     least-call-left (no-model c i n) =
         meant (λ R. Begins R → AllInside R (assigned a) → ((m : Valuation) → Model (system R) (assigned a) m → ⊥) → LeastCall s′ a b none b) x (c .accepts) none-on c i n
     least-call-left (least-model {m = m} c i l) =

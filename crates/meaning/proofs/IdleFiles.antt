@@ -6,8 +6,7 @@ use mathlib.Core.Bool.{Bool, true, false, cond}
 use mathlib.Core.List.{List, [], _∷_, _++_}
 use native.Mathlib.Omega.{arith}
 use lib.ListN.{length, length-append}
-use Rattle.walks.specs.Walk.{Walk}
-use Rattle.walks.specs.Walk as walk
+use Rattle.walks.proofs.Walks.{over}
 use Rattle.program.specs.Program.{Program, Rule, rule, ruleIn, termIn}
 use Rattle.program.specs.Refusals.{itemRefusal}
 use Rattle.program.specs.Idle.{Idle, isIdle}
@@ -54,10 +53,6 @@ module _ (vs : List Variable) where
 
 -- ---- fewer rules of a valid program are valid
 
-walk-over : {e e′ : ℕ → ℕ → Bool} → ((x y : ℕ) → e x y ≡ true → e′ x y ≡ true) → {n x y : ℕ} → Walk e n x y → Walk e′ n x y
-walk-over f (walk.edge {i = i} {j = j} h) = walk.edge (f i j h)
-walk-over f (walk.step {i = i} {m = m} h l w) = walk.step (f i m h) l (walk-over f w)
-
 module _ (P : Program) (rs : List Rule) (only : (j : ℕ) → j < length rs → Among (ruleIn rs j) (P .rules)) where
   abbrev Q : Program
   Q = withRules P rs
@@ -72,7 +67,7 @@ module _ (P : Program) (rs : List Rule) (only : (j : ℕ) → j < length rs → 
 
   share-over : {x y : ℕ} → Share Q x y → Share P x y
   share-over (inl e) = inl e
-  share-over (inr w) = inr ((w .0 .0, walk-over edge-over (w .0 .1)), (w .1 .0, walk-over edge-over (w .1 .1)))
+  share-over (inr w) = inr ((w .0 .0, over edge-over (w .0 .1)), (w .1 .0, over edge-over (w .1 .1)))
 
   pub valid-left : Valid P → Valid Q
   valid-left v j o =

@@ -15,8 +15,7 @@ use Rattle.program.specs.declared.Given.{Given}
 use Rattle.program.specs.declared.Given.the-variants.{Nothing, Value}
 use Rattle.program.proofs.Promises.{Promises}
 use Rattle.program.proofs.Tests.{is-test}
-use Rattle.program.proofs.Variables.{low-in, high-in}
-use Rattle.program.proofs.Monotone.{Moves, Under, Between, evaluate-up}
+use Rattle.program.proofs.Monotone.{Moves, Under, Between, in-between, evaluate-up}
 use Rattle.meaning.specs.Founded.{Within}
 use Rattle.meaning.specs.Reduct.{system}
 use Rattle.meaning.proofs.Laws.{NoMore, Less, Laws}
@@ -39,8 +38,8 @@ module _ (P : Program) where
 
   -- a reading of two valuations in the ranges is in the range
   pub read-between : {m θ : Valuation} → Within (system P) m → Within (system P) θ → (b : Bool) (x : ℕ) → Between (variableIn (P .variables) x) (cond b (m x) (θ x))
-  read-between {m} {θ} wm wθ true x = record { low = low-in (variableIn (P .variables) x) (m x) (wm .inside x); high = high-in (variableIn (P .variables) x) (m x) (wm .inside x) }
-  read-between {m} {θ} wm wθ false x = record { low = low-in (variableIn (P .variables) x) (θ x) (wθ .inside x); high = high-in (variableIn (P .variables) x) (θ x) (wθ .inside x) }
+  read-between {m} {θ} wm wθ true x = in-between (variableIn (P .variables) x) (m x) (wm .inside x)
+  read-between {m} {θ} wm wθ false x = in-between (variableIn (P .variables) x) (θ x) (wθ .inside x)
 
 gives-up : {P : Program} → Promises P → (i : ℕ) → i < length (P .rules) → (m θ m′ θ′ : Valuation)
     → Within (system P) m → Within (system P) θ → Within (system P) m′ → Within (system P) θ′

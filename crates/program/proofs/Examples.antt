@@ -16,7 +16,7 @@ use Rattle.program.specs.Refusals.{fieldRefusal}
 use Rattle.program.specs.Directions.{plainDirection, termDirection, direction}
 use Rattle.program.specs.Variables.{start, notPast}
 use Rattle.program.specs.Evaluate.{sumBelow, pickTo, allHold, overUp, amountOf, evaluate}
-use Rattle.program.specs.Idle.{demanding, most, isIdle}
+use Rattle.program.specs.Idle.{demanding, mostAt, most, isIdle}
 use Rattle.program.specs.Components.{draws, edge}
 use Rattle.program.specs.Reading.{Answer, accepted, refused, Reads, bad-field}
 use Rattle.program.proofs.Places.{passed-none, passed-more}
@@ -37,7 +37,7 @@ unfolding unknownForm wrongConstraint wrongForm outsideRange wrongHead undeclare
 items-compute = tt
 
 gives-compute : Unit {0}
-unfolding sumBelow pickTo allHold overUp amountOf evaluate start notPast demanding most isIdle
+unfolding sumBelow pickTo allHold overUp amountOf evaluate start notPast demanding mostAt most isIdle
 gives-compute = tt
 
 valid-computes : Unit {0}

@@ -19,7 +19,7 @@ use Rattle.program.specs.Directions.{bySign, plainDirection, termDirecti
 use Rattle.program.specs.Evaluate.{onlyIf, evaluate}
 use Rattle.program.specs.Readings.{Valuation, bodyVariable}
 use Rattle.program.specs.Reading.{Passed}
-use Rattle.program.specs.Idle.{Idle, demanding, most, isIdle}
+use Rattle.program.specs.Idle.{Idle, demanding, mostAt, most, lows, highs, isIdle}
 use Rattle.program.specs.declared.Direction.{Direction}
 use Rattle.program.specs.declared.Direction.the-variants.{Rising, Falling, Mixed}
 use Rattle.program.specs.declared.Given.{Given}
@@ -28,18 +28,20 @@ use Rattle.program.specs.declared.Variable.{Variable}
 use Rattle.program.specs.declared.Term.{Term}
 use Rattle.program.proofs.Conditions.{never, last-or}
 use Rattle.program.proofs.Tests.{cases, is-true, is-test, not-it, and-both}
-use Rattle.program.proofs.Variables.{low-in, high-in, past-trans, between-small}
+use Rattle.program.proofs.Variables.{past-trans, between-small}
 use Rattle.program.proofs.Promises.{RulePromise, Promises, plain-position, passed-rule, passed-promises}
 use Rattle.program.proofs.Gives.{seven, amount-size, plain-hold, given-is, evaluate-same, promised-evaluable}
 use Rattle.program.proofs.Pushes.{plain-sum, plain-rising, plain-carried, term-plain, term-least, term-below, direction-is}
-use Rattle.program.proofs.Monotone.{Moves, Under, Between, evaluate-up}
+use Rattle.program.proofs.Monotone.{Moves, Under, Held, Between, in-between, evaluate-up}
 
 -- ---- one position
 
--- a value from low to high
-pub record Held (low high x : ℤ) : Type 0 where
-  pub least : low ≤ℤ x
-  pub greatest : x ≤ℤ high
+-- of the two ends it is one
+pub demanding-end : (C : ℤ → Type 0) (d : Direction) {low high : ℤ} → C low → C high → C (demanding d low high)
+unfolding demanding
+demanding-end C Rising l h = h
+demanding-end C Falling l h = l
+demanding-end C Mixed {low} {high} l h = cases (ltb (natAbs low) (natAbs high)) (λ t. C (cond t high low)) (λ t. h) (λ t. l)
 
 -- the end further from 0 has the largest size
 further-size : (low high x : ℤ) → Held low high x → pos (natAbs x) ≤ℤ pos (natAbs (demanding Mixed low high))
@@ -47,7 +49,7 @@ unfolding demanding
 further-size low high x h = go (ltb (natAbs low) (natAbs high)) refl
   where
     within : (n : ℕ) → natAbs low ≤ n → natAbs high ≤ n → natAbs x ≤ n
-    within n a b = between-small n low x high (h .least) (h .greatest) a b
+    within n a b = between-small n low x high (h .low) (h .high) a b
 
     go : (t : Bool) → ltb (natAbs low) (natAbs high) ≡ t → pos (natAbs x) ≤ℤ pos (natAbs (cond t high low))
     go true e = omega (int, within (natAbs high) (omega (arith, ltb-true (natAbs low) (natAbs high) e)) (omega arith))
@@ -56,20 +58,9 @@ further-size low high x h = go (ltb (natAbs low) (natAbs high)) refl
 -- a position that is not mixed moves towards the value that demands most
 demanding-moves : (d : Direction) {low high x : ℤ} → isMixed d ≡ false → Held low high x → Moves d x (demanding d low high)
 unfolding demanding
-demanding-moves Rising e h = h .greatest
-demanding-moves Falling e h = h .least
+demanding-moves Rising e h = h .high
+demanding-moves Falling e h = h .low
 demanding-moves Mixed e h = absurd (never refl e)
-
--- that value lies between the ends
-pub demanding-held : (d : Direction) {low high : ℤ} → low ≤ℤ high → Held low high (demanding d low high)
-unfolding demanding
-demanding-held Rising {low} {high} h = record { least = h; greatest = ≤ℤ-refl high }
-demanding-held Falling {low} {high} h = record { least = ≤ℤ-refl low; greatest = h }
-demanding-held Mixed {low} {high} h = go (ltb (natAbs low) (natAbs high))
-  where
-    go : (t : Bool) → Held low high (cond t high low)
-    go true = record { least = h; greatest = ≤ℤ-refl high }
-    go false = record { least = ≤ℤ-refl low; greatest = h }
 
 -- ---- only sizes are mixed
 
@@ -132,20 +123,25 @@ pub record RangeIn (x : Variable) (low high : ℤ) : Type 0 where
   pub to : high ≤ℤ x .high
 
 held-between : {x : Variable} {low high a : ℤ} → RangeIn x low high → Held low high a → Between x a
-held-between w h = record { low = omega (int, w .from, h .least); high = omega (int, w .to, h .greatest) }
+held-between w h = record { low = omega (int, w .from, h .low); high = omega (int, w .to, h .high) }
 
 module _ {vs : List Variable} {r : Rule} (p : RulePromise vs r) (low high : Valuation)
     (inside : (i : ℕ) → i < length (r .terms) → RangeIn (variableIn vs (bodyVariable r i)) (low (bodyVariable r i)) (high (bodyVariable r i))) where
   -- the reading at which the rule gives most
   abbrev reached : ℕ → ℤ
-  reached i = demanding (direction vs r i) (low (bodyVariable r i)) (high (bodyVariable r i))
+  reached = mostAt vs r low high
 
   reached-held : (i : ℕ) → i < length (r .terms) → Held (low (bodyVariable r i)) (high (bodyVariable r i)) (reached i)
-  reached-held i l = demanding-held (direction vs r i) (inside i l .ordered)
+  unfolding mostAt
+  reached-held i l =
+      let x = bodyVariable r i in
+      let o = inside i l .ordered in
+      demanding-end (Held (low x) (high x)) (direction vs r i) (record { low = ≤ℤ-refl (low x); high = o }) (record { low = o; high = ≤ℤ-refl (high x) })
 
   -- no reading in the ranges gives more
   module _ (at : ℕ → ℤ) (held : (i : ℕ) → i < length (r .terms) → Held (low (bodyVariable r i)) (high (bodyVariable r i)) (at i)) where
     none-mixed : ((i : ℕ) → i < length (r .terms) → isMixed (direction vs r i) ≡ false) → Under (evaluate r at) (evaluate r reached)
+    unfolding mostAt
     none-mixed f =
         evaluate-up p at reached
         (λ i l. record { first = held-between (inside i l) (held i l); second = held-between (inside i l) (reached-held i l) })
@@ -157,6 +153,7 @@ module _ {vs : List Variable} {r : Rule} (p : RulePromise vs r) (low high : Valu
         (sym (amount-size (r .c) (divisorOf r) (r .terms) f q))
 
     size-under : termForm (r .form) ≡ 5 → isMixed (direction vs r 0) ≡ true → Under (evaluate r at) (evaluate r reached)
+    unfolding mostAt
     size-under q m =
         let l : 0 < length (r .terms) = omega (arith, p .body .count .size-one q) in
         rw (← sized q at, ← sized q reached)
@@ -213,14 +210,8 @@ under-no-more x (Value a) (Value c) b u n = past-trans x a c b (u .le) n
 
 module _ {P : Program} (promises : Promises P) {r : Rule} (p : RulePromise (P .variables) r) where
   -- the declared ranges
-  abbrev lows : Valuation
-  lows v = variableIn (P .variables) v .low
-
-  abbrev highs : Valuation
-  highs v = variableIn (P .variables) v .high
-
   whole : (i : ℕ) → i < length (r .terms)
-      → RangeIn (variableIn (P .variables) (bodyVariable r i)) (lows (bodyVariable r i)) (highs (bodyVariable r i))
+      → RangeIn (variableIn (P .variables) (bodyVariable r i)) (lows (P .variables) (bodyVariable r i)) (highs (P .variables) (bodyVariable r i))
   whole i l =
       let x = variableIn (P .variables) (bodyVariable r i) in
       record { from = ≤ℤ-refl (x .low); ordered = promises .variables _ (p .body .terms i l .declared) .in-order; to = ≤ℤ-refl (x .high) }
@@ -232,25 +223,20 @@ module _ {P : Program} (promises : Promises P) {r : Rule} (p : RulePromise (P .v
   unfolding isIdle
   idle-reading t at b =
       under-no-more (variableIn (P .variables) (r .head)) (evaluate r at) _ _
-      (most-bounds p lows highs whole at (λ i l. record { least = b i l .low; greatest = b i l .high })) t
+      (most-bounds p (lows (P .variables)) (highs (P .variables)) whole at b) t
 
   pub idle-told : T (isIdle (P .variables) r) → Idle P r
-  idle-told t a h = idle-reading t (λ i. a (bodyVariable r i)) between
-    where
-      between : (i : ℕ) → i < length (r .terms) → Between (variableIn (P .variables) (bodyVariable r i)) (a (bodyVariable r i))
-      between i l =
-          let x = variableIn (P .variables) (bodyVariable r i) in
-          let b = a (bodyVariable r i) in
-          record { low = low-in x b (h i l); high = high-in x b (h i l) }
+  idle-told t a h =
+      idle-reading t (λ i. a (bodyVariable r i)) (λ i l. in-between (variableIn (P .variables) (bodyVariable r i)) (a (bodyVariable r i)) (h i l))
 
   pub idle-test : Idle P r → T (isIdle (P .variables) r)
   unfolding isIdle
   idle-test q =
-      let m = most-given p lows highs whole in
+      let m = most-given p (lows (P .variables)) (highs (P .variables)) whole in
       rw (m .gives) at (q (m .values) (λ i l. in-range (variableIn (P .variables) (bodyVariable r i)) (m .values (bodyVariable r i)) (m .held i l)))
     where
       in-range : (x : Variable) (a : ℤ) → Held (x .low) (x .high) a → T (inRange x a)
-      in-range x a h = and-both (leZ (x .low) a) (leZ a (x .high)) (h .least .le) (h .greatest .le)
+      in-range x a h = and-both (leZ (x .low) a) (leZ a (x .high)) (h .low .le) (h .high .le)
 
 -- for every rule of a file whose fields passed the test is `Idle`
 module _ {s : List ℕ} {k : ℕ} (w : Passed s k) (i : ℕ) (h : i < length (program s k .rules)) where

@@ -13,6 +13,7 @@ use borrow.Author.Tests.{ne-eqb}
 use Rattle.format.proofs.Int.{int, sum-is, times-pos, times-neg, times, not-negative, not-positive, abs-is}
 use Rattle.program.specs.Tables.{_⇒_, select}
 use Rattle.program.specs.Program.{Rule, termForm, divisorOf, variableIn, termIn}
+use Rattle.program.specs.Variables.{inRange}
 use Rattle.program.specs.Directions.{bySign, byRange, plainDirection, direction}
 use Rattle.program.specs.Evaluate.{sumBelow, larger, smaller, pickTo, holds, allHold, onlyIf, amount, evaluate}
 use Rattle.program.specs.Readings.{bodyVariable}
@@ -25,6 +26,7 @@ use Rattle.program.proofs.Quotients.{over-up-rises}
 use Rattle.program.proofs.Gives.{seven, amount-sum, amount-largest, amount-smallest, amount-product, amount-size, amount-literals, amount-carried}
 use Rattle.program.proofs.Pushes.{plain-sum, plain-rising, plain-size, plain-carried, term-least, term-below, direction-plain, direction-is}
 use Rattle.program.proofs.Tests.{cases, and-left, and-right, and-both}
+use Rattle.program.proofs.Variables.{low-in, high-in}
 use Rattle.program.specs.declared.Variable.{Variable}
 use Rattle.program.specs.declared.Term.{Term}
 
@@ -73,10 +75,17 @@ larger-up a b x y h k = picked-up (ltZ a x) (ltZ b y) h k (λ t s. omega int) (�
 smaller-up : Rises smaller
 smaller-up a b x y h k = picked-up (ltZ x a) (ltZ y b) h k (λ t s. omega int) (λ t s. omega int)
 
+-- x lies from a to b
+pub record Held (a b x : ℤ) : Type 0 where
+  pub low : a ≤ℤ x
+  pub high : x ≤ℤ b
+
 -- a value lies between a variable's ends
-pub record Between (v : Variable) (x : ℤ) : Type 0 where
-  pub low : v .low ≤ℤ x
-  pub high : x ≤ℤ v .high
+abbrev pub Between : Variable → ℤ → Type 0
+Between v = Held (v .low) (v .high)
+
+pub in-between : (v : Variable) (x : ℤ) → T (inRange v x) → Between v x
+in-between v x t = record { low = low-in v x t; high = high-in v x t }
 
 size-up : (v : Variable) (x y : ℤ) → Between v x → Between v y → Moves (byRange v) x y → pos (natAbs x) ≤ℤ pos (natAbs y)
 size-up v x y bx by = cases (leZ (pos 0) (v .low)) (λ t. Moves (cond t Rising (cond (leZ (v .high) (pos 0)) Falling Mixed)) x y → pos (natAbs x) ≤ℤ pos (natAbs y))

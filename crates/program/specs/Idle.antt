@@ -34,13 +34,21 @@ demanding Rising low high = high
 demanding Falling low high = low
 demanding Mixed low high = cond (ltb (natAbs low) (natAbs high)) high low
 
--- the most that a rule can give while every variable x of its body lies between low x and high x (laws `most-bounds`, `most-given`); vs are
--- the program's variables
+-- that value of the variable at position i, every variable x lying between low x and high x; vs are the program's variables
+unfoldable pub mostAt : List Variable → Rule → Valuation → Valuation → ℕ → ℤ
+mostAt vs r low high i = let x = bodyVariable r i in demanding (direction vs r i) (low x) (high x)
+
+-- the most that a rule can give in these ranges (laws `most-bounds`, `most-given`)
 unfoldable pub most : List Variable → Rule → Valuation → Valuation → Given
-most vs r low high = evaluate r (λ i. demanding (direction vs r i) (low (bodyVariable r i)) (high (bodyVariable r i)))
+most vs r low high = evaluate r (mostAt vs r low high)
+
+-- the ends of the declared ranges
+abbrev pub lows : List Variable → Valuation
+lows vs x = variableIn vs x .low
+
+abbrev pub highs : List Variable → Valuation
+highs vs x = variableIn vs x .high
 
 -- the most over the declared ranges is nothing, or no more than the head's starting end
 unfoldable pub isIdle : List Variable → Rule → Bool
-isIdle vs r =
-    let x = variableIn vs (r .head) in
-    noMore x (most vs r (λ v. variableIn vs v .low) (λ v. variableIn vs v .high)) (start x)
+isIdle vs r = let x = variableIn vs (r .head) in noMore x (most vs r (lows vs) (highs vs)) (start x)

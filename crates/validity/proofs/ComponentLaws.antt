@@ -72,21 +72,21 @@ pub walk-within : {e e′ : ℕ → ℕ → Bool} (n : ℕ) → ((a b : ℕ) →
 walk-within n s hi hj (walk.edge {i = i} {j = j} p) = walk.edge (sym (s i j hi hj) ∙ p)
 walk-within n s hi hj (walk.step {i = i} {m = m} p l w) = walk.step (sym (s i m hi l) ∙ p) l (walk-within n s l hj w)
 
+-- an array of one value, read with that value past its end
+everywhere : {A : Type 0} (a : A) (m i : ℕ) → getD (replicate m a) i a ≡ a
+everywhere a zero i = refl
+everywhere a (suc m) zero = refl
+everywhere a (suc m) (suc i) = everywhere a m i
+
 -- rows with nothing in them
-zeros : (m i : ℕ) → _≡_ {A = ℕ} (getD (replicate m 0) i 0) 0
-zeros zero i = refl
-zeros (suc m) zero = refl
-zeros (suc m) (suc i) = zeros m i
 
 pub rows-none : (m a b : ℕ) → rowHas (replicate m 0) a b ≡ false
 unfolding rowHas
-rows-none m a b = ap (λ (w : ℕ). bit w (b % wordBits)) (zeros m (wordCount * a + b / wordBits)) ∙ bit-zero (b % wordBits)
+rows-none m a b = ap (λ (w : ℕ). bit w (b % wordBits)) (everywhere 0 m (wordCount * a + b / wordBits)) ∙ bit-zero (b % wordBits)
 
 -- values of 0
 pub values-none : (m : ℕ) → Small (replicate m (pos 0))
-values-none zero v = omega arith
-values-none (suc m) zero = omega arith
-values-none (suc m) (suc v) = values-none m v
+values-none m v = rw (everywhere (pos 0) m v) (omega arith)
 
 -- ---- one count of fields
 

@@ -84,7 +84,7 @@ pub fn mark_edges(
     }
 }
 
-// Whether the rule in a field's value offends by the rows: most rules have no mixed position, and are not asked whether they are idle.
+// Whether the rule in a field's value offends by the rows. One that shares its component with no mixed position is not asked whether it is idle.
 fn offends(
     rows: &[u64; Rows::LENGTH],
     values: &mut [i64; Format::MAX_VARIABLES],

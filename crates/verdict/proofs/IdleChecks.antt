@@ -49,7 +49,7 @@ module _ {s s′ : List ℕ} {P : Program} {rs : List Rule} (x : Accepts s P) (y
     rule-alike {r′} {b₂} c (judged d j) = meant (λ R. Judged R (assigned a) b r′ b₂ → Alike (rule i) r′) y (d .accepts) judged-rule j
 
   judged-alike : {r r′ : Answer} {b₁ b₂ : List ℕ} → Begins P → Judged P (assigned a) b r b₁ → Checks s′ a b r′ b₂ → Alike r r′
-  judged-alike c (outside o) q = given (judged (called-left x y checkBytes a b c) (outside (outside-left x y o))) q
+  judged-alike c (outside o) q = given (judged (called-left x y checkBytes a b c) (outside (outside-left rs o))) q
   judged-alike c (rule-unmet w f) q = rule-alike w f c q
   judged-alike c (constraint-unmet w met f) q =
       given (judged (called-left x y checkBytes a b c) (constraint-unmet (record { inside = w .inside })

@@ -24,6 +24,11 @@ module _ {e : ℕ → ℕ → Bool} where
   stops-below limit h (edge p) = edge p
   stops-below limit h (step {i = i} {m = m} p l w) = step p (h i m p) (stops-below limit h w)
 
+  -- over more edges
+  pub over : {e′ : ℕ → ℕ → Bool} → ((i j : ℕ) → e i j ≡ true → e′ i j ≡ true) → {n i j : ℕ} → Walk e n i j → Walk e′ n i j
+  over h (edge {i = i} {j = j} p) = edge (h i j p)
+  over h (step {i = i} {m = m} p l w) = step (h i m p) l (over h w)
+
   -- a walk that may stop at k too is one that does not, or goes by k
   part : {k i j : ℕ} → Walk e (k + 1) i j → Walk e k i j ⊎ (Walk e k i k × Walk e k k j)
   part (edge p) = inl (edge p)

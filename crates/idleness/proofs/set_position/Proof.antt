@@ -25,7 +25,9 @@ demanding-requires c κs =
     let h : toZ w64 (ofZ w64 (x .result .high)) ≡ x .result .high = search needs in
     let d = b .pre .0 .standing .declared (b .args .i) (b .pre .1 .0) in
     let v = x .ensures (b .args .variables) (omega (arith, d, p .variable-is)) ∙ ap (variableIn (variablesAt (b .args .file .now) (b .args .variables))) (p .variable-is) in
-    rw (l, h) (position-low (b .pre .0) _ (b .pre .1 .0) v, position-high (b .pre .0) _ (b .pre .1 .0) v)
+    let low = position-low (b .pre .0) _ (b .pre .1 .0) v in
+    let high = position-high (b .pre .0) _ (b .pre .1 .0) v in
+    rw (l, h) (omega (arith, low, high), omega (arith, low, high))
 
 wide-requires : tie.Need-wide-requires
 wide-requires c κs = search needs
