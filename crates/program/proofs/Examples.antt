@@ -13,10 +13,11 @@ use Rattle.program.specs.Refusals.{cutShort, unknownTag, tagBelow, oneTo
 use Rattle.program.specs.Refusals.{wrongDivisor, wrongConstraint, wrongForm, outsideTerm, outsideDivisor, outsideRange, undeclaredTerm, wrongHead, undeclared}
 use Rattle.program.specs.Refusals.{wrongCountOf, wrongDivisors, wrongCount, repeatedTerm, variableTwice, negativeTerm, negativeProduct, itemRefusal, valueRefusal}
 use Rattle.program.specs.Refusals.{fieldRefusal}
-use Rattle.program.specs.Directions.{plainDirection, termDirection, direction}
-use Rattle.program.specs.Variables.{start, notPast}
+use Rattle.program.specs.Directions.{plainDirection, away, termDirection, direction}
+use Rattle.program.specs.Variables.{swaps, start, notPast}
 use Rattle.program.specs.Evaluate.{sumBelow, pickTo, allHold, overUp, amountOf, evaluate}
-use Rattle.program.specs.Idle.{demanding, mostAt, most, isIdle}
+use Rattle.program.specs.Readings.{kept}
+use Rattle.program.specs.Idle.{furthest, nearest, demanding, mostAt, most, isIdle}
 use Rattle.program.specs.Components.{draws, edge}
 use Rattle.program.specs.Reading.{Answer, accepted, refused, Reads, bad-field}
 use Rattle.program.proofs.Places.{passed-none, passed-more}
@@ -37,11 +38,11 @@ unfolding unknownForm wrongConstraint wrongForm outsideRange wrongHead undeclare
 items-compute = tt
 
 gives-compute : Unit {0}
-unfolding sumBelow pickTo allHold overUp amountOf evaluate start notPast demanding mostAt most isIdle
+unfolding sumBelow pickTo allHold overUp amountOf evaluate swaps start notPast furthest nearest demanding mostAt most isIdle
 gives-compute = tt
 
 valid-computes : Unit {0}
-unfolding plainDirection termDirection direction draws edge closed share-test offends-at offends-test unfit
+unfolding plainDirection away termDirection direction kept draws edge closed share-test offends-at offends-test unfit
 valid-computes = tt
 
 unfoldable pub computes : Unit {0}
@@ -76,7 +77,7 @@ pub row-6 : Reads (0x01 ∷ 0x00 ∷ 0x04 ∷ 0x00 ∷ 0x00 ∷ 0x00 ∷ 0x00 �
 unfolding computes
 row-6 = bad-field {k = 0} (passed-none _ (lit≤ tt)) (lit< tt) (lit< tt)
 
-pub row-7 : Reads (0x01 ∷ 0x00 ∷ 0x05 ∷ 0x02 ∷ 0x00 ∷ 0x00 ∷ 0x00 ∷ 0x01 ∷ []) (refused 7 0)
+pub row-7 : Reads (0x01 ∷ 0x00 ∷ 0x05 ∷ 0x03 ∷ 0x00 ∷ 0x00 ∷ 0x00 ∷ 0x01 ∷ []) (refused 7 0)
 unfolding computes
 row-7 = bad-field {k = 0} (passed-none _ (lit≤ tt)) (lit< tt) (lit< tt)
 

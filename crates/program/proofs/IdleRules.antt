@@ -11,15 +11,15 @@ use lib.Signed.{_≤ℤ_, leZ, ltZ, ≤ℤ-refl}
 use lib.ListN.{length}
 use lib.Dec.{T, eqb, ltb}
 use borrow.Author.Tests.{ltb-true, ltb-false, eqb-true, eqb-false, eq-eqb, ne-eqb}
-use Rattle.format.proofs.Int.{int, sum-is}
+use Rattle.format.proofs.Int.{int, sum-is, not-negative, not-positive, abs-is}
 use Rattle.program.specs.Program.{Program, Rule, program, termForm, divisorOf, variableIn, ruleIn, termIn}
 use Rattle.program.specs.Refusals.{literalPosition}
-use Rattle.program.specs.Variables.{start, notPast, inRange, noMore}
+use Rattle.program.specs.Variables.{fromAbove, swaps, start, notPast, inRange, noMore}
 use Rattle.program.specs.Directions.{bySign, plainDirection, termDirection, direction, isMixed}
 use Rattle.program.specs.Evaluate.{onlyIf, evaluate}
 use Rattle.program.specs.Readings.{Valuation, bodyVariable}
 use Rattle.program.specs.Reading.{Passed}
-use Rattle.program.specs.Idle.{Idle, demanding, mostAt, most, lows, highs, isIdle}
+use Rattle.program.specs.Idle.{Idle, furthest, nearest, demanding, mostAt, most, lows, highs, isIdle}
 use Rattle.program.specs.declared.Direction.{Direction}
 use Rattle.program.specs.declared.Direction.the-variants.{Rising, Falling, Mixed}
 use Rattle.program.specs.declared.Given.{Given}
@@ -31,49 +31,81 @@ use Rattle.program.proofs.Tests.{cases, is-true, is-test, not-it, and-b
 use Rattle.program.proofs.Variables.{past-trans, between-small}
 use Rattle.program.proofs.Promises.{RulePromise, Promises, plain-position, passed-rule, passed-promises}
 use Rattle.program.proofs.Gives.{seven, amount-size, plain-hold, given-is, evaluate-same, promised-evaluable}
-use Rattle.program.proofs.Pushes.{plain-sum, plain-rising, plain-carried, term-plain, term-least, term-below, direction-is}
+use Rattle.program.proofs.Pushes.{plain-sum, plain-rising, plain-carried, term-plain, term-least, term-below, direction-is, away-mixed}
 use Rattle.program.proofs.Monotone.{Moves, Under, Held, Between, in-between, evaluate-up}
 
 -- ---- one position
 
--- of the two ends it is one
-pub demanding-end : (C : ℤ → Type 0) (d : Direction) {low high : ℤ} → C low → C high → C (demanding d low high)
-unfolding demanding
-demanding-end C Rising l h = h
-demanding-end C Falling l h = l
-demanding-end C Mixed {low} {high} l h = cases (ltb (natAbs low) (natAbs high)) (λ t. C (cond t high low)) (λ t. h) (λ t. l)
+module _ (low high : ℤ) where
+  -- of the two ends it is one
+  furthest-end : (C : ℤ → Type 0) → C low → C high → C (furthest low high)
+  unfolding furthest
+  furthest-end C l h = cases (ltb (natAbs low) (natAbs high)) (λ t. C (cond t high low)) (λ t. h) (λ t. l)
 
--- the end further from 0 has the largest size
-further-size : (low high x : ℤ) → Held low high x → pos (natAbs x) ≤ℤ pos (natAbs (demanding Mixed low high))
-unfolding demanding
-further-size low high x h = go (ltb (natAbs low) (natAbs high)) refl
+  furthest-size : (x : ℤ) → Held low high x → pos (natAbs x) ≤ℤ pos (natAbs (furthest low high))
+  unfolding furthest
+  furthest-size x h = go (ltb (natAbs low) (natAbs high)) refl
+    where
+      within : (n : ℕ) → natAbs low ≤ n → natAbs high ≤ n → natAbs x ≤ n
+      within n a b = between-small n low x high (h .low) (h .high) a b
+
+      go : (t : Bool) → ltb (natAbs low) (natAbs high) ≡ t → pos (natAbs x) ≤ℤ pos (natAbs (cond t high low))
+      go true e = omega (int, within (natAbs high) (omega (arith, ltb-true (natAbs low) (natAbs high) e)) (omega arith))
+      go false e = omega (int, within (natAbs low) (omega arith) (ltb-false (natAbs low) (natAbs high) e))
+
+  nearest-held : low ≤ℤ high → Held low high (nearest low high)
+  unfolding nearest
+  nearest-held o = cases (ltZ (pos 0) low) (λ t. Held low high (cond t low (cond (ltZ high (pos 0)) high (pos 0))))
+      (λ t. record { low = ≤ℤ-refl low; high = o })
+      (λ n. cases (ltZ high (pos 0)) (λ t. Held low high (cond t high (pos 0))) (λ t. record { low = o; high = ≤ℤ-refl high })
+      (λ t. record { low = omega int; high = omega int }))
+
+  nearest-size : (x : ℤ) → Held low high x → pos (natAbs (nearest low high)) ≤ℤ pos (natAbs x)
+  unfolding nearest
+  nearest-size x h = cases (ltZ (pos 0) low) (λ t. pos (natAbs (cond t low (cond (ltZ high (pos 0)) high (pos 0)))) ≤ℤ pos (natAbs x))
+      (λ t. omega (int, h .low, abs-is low, abs-is x, not-negative {z = low} (omega int), not-negative {z = x} (omega (int, h .low))))
+      (λ n. cases (ltZ high (pos 0)) (λ t. pos (natAbs (cond t high (pos 0))) ≤ℤ pos (natAbs x))
+      (λ t. omega (int, h .high, abs-is high, abs-is x, not-positive {z = high} (omega int), not-positive {z = x} (omega (int, h .high))))
+      (λ t. omega int))
+
+-- the value that demands most lies in the range
+pub demanding-held : (h : Variable) (d : Direction) {low high : ℤ} → low ≤ℤ high → Held low high (demanding h d low high)
+unfolding demanding swaps
+demanding-held h Rising {low} {high} o = record { low = o; high = ≤ℤ-refl high }
+demanding-held h Falling {low} {high} o = record { low = ≤ℤ-refl low; high = o }
+demanding-held h Mixed {low} {high} o = cases (fromAbove h) (λ t. Held low high (cond t (nearest low high) (furthest low high))) (λ t. nearest-held low high o)
+    (λ t. furthest-end low high (Held low high) (record { low = ≤ℤ-refl low; high = o }) (record { low = o; high = ≤ℤ-refl high }))
+
+-- no size in the range makes a rule with the head h demand more than that of a mixed position's value, c being added
+demanding-size : (h : Variable) (c low high x : ℤ) → Held low high x → T (notPast h (c +ℤ pos (natAbs x)) (c +ℤ pos (natAbs (demanding h Mixed low high))))
+unfolding demanding notPast swaps
+demanding-size h c low high x b = cases (fromAbove h)
+    (λ t. let z = cond t (nearest low high) (furthest low high) in
+    T (cond t (leZ (c +ℤ pos (natAbs z)) (c +ℤ pos (natAbs x))) (leZ (c +ℤ pos (natAbs x)) (c +ℤ pos (natAbs z)))))
+    (λ t. more (nearest low high) x (nearest-size low high x b) .le) (λ t. more x (furthest low high) (furthest-size low high x b) .le)
   where
-    within : (n : ℕ) → natAbs low ≤ n → natAbs high ≤ n → natAbs x ≤ n
-    within n a b = between-small n low x high (h .low) (h .high) a b
-
-    go : (t : Bool) → ltb (natAbs low) (natAbs high) ≡ t → pos (natAbs x) ≤ℤ pos (natAbs (cond t high low))
-    go true e = omega (int, within (natAbs high) (omega (arith, ltb-true (natAbs low) (natAbs high) e)) (omega arith))
-    go false e = omega (int, within (natAbs low) (omega arith) (ltb-false (natAbs low) (natAbs high) e))
+    more : (y z : ℤ) → pos (natAbs y) ≤ℤ pos (natAbs z) → (c +ℤ pos (natAbs y)) ≤ℤ (c +ℤ pos (natAbs z))
+    more y z k = omega (int, sum-is c (pos (natAbs y)), sum-is c (pos (natAbs z)))
 
 -- a position that is not mixed moves towards the value that demands most
-demanding-moves : (d : Direction) {low high x : ℤ} → isMixed d ≡ false → Held low high x → Moves d x (demanding d low high)
+demanding-moves : (h : Variable) (d : Direction) {low high x : ℤ} → isMixed d ≡ false → Held low high x → Moves d x (demanding h d low high)
 unfolding demanding
-demanding-moves Rising e h = h .high
-demanding-moves Falling e h = h .low
-demanding-moves Mixed e h = absurd (never refl e)
+demanding-moves h Rising e b = b .high
+demanding-moves h Falling e b = b .low
+demanding-moves h Mixed e b = absurd (never refl e)
 
 -- ---- only sizes are mixed
 
 sign-not-mixed : (z : ℤ) → isMixed (bySign z) ≡ false
 sign-not-mixed z = cases (ltZ z (pos 0)) (λ b. isMixed (cond b Falling Rising) ≡ false) (λ t. refl) (λ t. refl)
 
-module _ (form : ℕ) (x : Variable) (t : Term) where
-  literal-not-mixed : 1 ≤ t .op → t .op ≤ 2 → isMixed (termDirection form x t) ≡ false
+module _ (head : Variable) (form : ℕ) (x : Variable) (t : Term) where
+  literal-not-mixed : 1 ≤ t .op → t .op ≤ 2 → isMixed (termDirection head form x t) ≡ false
   literal-not-mixed h k = go (eqb (t .op) 1) refl
     where
-      go : (b : Bool) → eqb (t .op) 1 ≡ b → isMixed (termDirection form x t) ≡ false
-      go true e = ap isMixed (sym (term-least form x t (eqb-true (t .op) 1 e)))
-      go false e = ap isMixed (sym (term-below form x t (omega (arith, eqb-false (t .op) 1 e))))
+      go : (b : Bool) → eqb (t .op) 1 ≡ b → isMixed (termDirection head form x t) ≡ false
+      go true e = ap isMixed (sym (term-least head form x t (eqb-true (t .op) 1 e)))
+      go false e = ap isMixed (sym (term-below head form x t (omega (arith, eqb-false (t .op) 1 e))))
 
   plain-not-mixed : 1 ≤ form → form ≤ 7 → form ≢ 5 → form ≢ 6 → isMixed (plainDirection form x (t .number)) ≡ false
   plain-not-mixed h k f g =
@@ -97,7 +129,7 @@ literals-only form i h = rw h
 
 module _ {vs : List Variable} {r : Rule} (p : RulePromise vs r) where
   pub only-sizes-mixed : termForm (r .form) ≢ 5 → (i : ℕ) → i < length (r .terms) → isMixed (direction vs r i) ≡ false
-  only-sizes-mixed f i l = ap isMixed (sym (direction-is vs r i refl refl)) ∙ go (literalPosition form i) refl
+  only-sizes-mixed f i l = ap isMixed (sym (direction-is vs r i refl refl refl)) ∙ go (literalPosition form i) refl
     where
       form : ℕ
       form = termForm (r .form)
@@ -108,11 +140,15 @@ module _ {vs : List Variable} {r : Rule} (p : RulePromise vs r) where
       x : Variable
       x = variableIn vs (bodyVariable r i)
 
-      go : (b : Bool) → literalPosition form i ≡ b → isMixed (termDirection form x t) ≡ false
-      go true e = let q = p .body .terms i l in literal-not-mixed form x t (q .literal-op-least e) (q .literal-op-most e)
+      h : Variable
+      h = variableIn vs (r .head)
+
+      go : (b : Bool) → literalPosition form i ≡ b → isMixed (termDirection h form x t) ≡ false
+      go true e = let q = p .body .terms i l in literal-not-mixed h form x t (q .literal-op-least e) (q .literal-op-most e)
       go false e =
-          ap isMixed (sym (term-plain form x t (p .body .terms i l .plain-op e)))
-          ∙ plain-not-mixed form x t (p .form-least) (p .form-most) f (λ q. never (literals-only form i q) e)
+          ap isMixed (sym (term-plain h form x t (p .body .terms i l .plain-op e)))
+          ∙ away-mixed h (plainDirection form x (t .number))
+          ∙ plain-not-mixed h form x t (p .form-least) (p .form-most) f (λ q. never (literals-only form i q) e)
 
 -- ---- the most that a rule can give
 
@@ -127,6 +163,9 @@ held-between w h = record { low = omega (int, w .from, h .low); high = omega (in
 
 module _ {vs : List Variable} {r : Rule} (p : RulePromise vs r) (low high : Valuation)
     (inside : (i : ℕ) → i < length (r .terms) → RangeIn (variableIn vs (bodyVariable r i)) (low (bodyVariable r i)) (high (bodyVariable r i))) where
+  abbrev head : Variable
+  head = variableIn vs (r .head)
+
   -- the reading at which the rule gives most
   abbrev reached : ℕ → ℤ
   reached = mostAt vs r low high
@@ -134,41 +173,38 @@ module _ {vs : List Variable} {r : Rule} (p : RulePromise vs r) (low high : Valu
   reached-held : (i : ℕ) → i < length (r .terms) → Held (low (bodyVariable r i)) (high (bodyVariable r i)) (reached i)
   unfolding mostAt
   reached-held i l =
-      let x = bodyVariable r i in
-      let o = inside i l .ordered in
-      demanding-end (Held (low x) (high x)) (direction vs r i) (record { low = ≤ℤ-refl (low x); high = o }) (record { low = o; high = ≤ℤ-refl (high x) })
+      demanding-held head (direction vs r i) (inside i l .ordered)
 
   -- no reading in the ranges gives more
   module _ (at : ℕ → ℤ) (held : (i : ℕ) → i < length (r .terms) → Held (low (bodyVariable r i)) (high (bodyVariable r i)) (at i)) where
-    none-mixed : ((i : ℕ) → i < length (r .terms) → isMixed (direction vs r i) ≡ false) → Under (evaluate r at) (evaluate r reached)
+    none-mixed : ((i : ℕ) → i < length (r .terms) → isMixed (direction vs r i) ≡ false) → Under head (evaluate r at) (evaluate r reached)
     unfolding mostAt
     none-mixed f =
         evaluate-up p at reached
         (λ i l. record { first = held-between (inside i l) (held i l); second = held-between (inside i l) (reached-held i l) })
-        (λ i l. demanding-moves (direction vs r i) (f i l) (held i l))
+        (λ i l. demanding-moves head (direction vs r i) (f i l) (held i l))
 
     -- a size gives its amount, whatever it reads
     sized : termForm (r .form) ≡ 5 → (f : ℕ → ℤ) → onlyIf true (r .c +ℤ pos (natAbs (f 0))) ≡ evaluate r f
     sized q f = given-is r f (plain-hold (r .terms) f (length (r .terms)) (λ i l. p .body .terms i l .plain-op (plain-position (termForm (r .form)) i (omega arith))))
         (sym (amount-size (r .c) (divisorOf r) (r .terms) f q))
 
-    size-under : termForm (r .form) ≡ 5 → isMixed (direction vs r 0) ≡ true → Under (evaluate r at) (evaluate r reached)
+    size-under : termForm (r .form) ≡ 5 → isMixed (direction vs r 0) ≡ true → Under head (evaluate r at) (evaluate r reached)
     unfolding mostAt
     size-under q m =
         let l : 0 < length (r .terms) = omega (arith, p .body .count .size-one q) in
-        rw (← sized q at, ← sized q reached)
-        (omega (int, sum-is (r .c) (pos (natAbs (at 0))), sum-is (r .c) (pos (natAbs (reached 0))), larger-size (direction vs r 0) m (held 0 l)))
+        rw (← sized q at, ← sized q reached) (sizes (direction vs r 0) m (held 0 l))
       where
-        larger-size : (d : Direction) → isMixed d ≡ true → {a b x : ℤ} → Held a b x → pos (natAbs x) ≤ℤ pos (natAbs (demanding d a b))
-        larger-size Rising e h = absurd (never e refl)
-        larger-size Falling e h = absurd (never e refl)
-        larger-size Mixed e {a} {b} {x} h = further-size a b x h
+        sizes : (d : Direction) → isMixed d ≡ true → {a b x : ℤ} → Held a b x → T (notPast head (r .c +ℤ pos (natAbs x)) (r .c +ℤ pos (natAbs (demanding head d a b))))
+        sizes Rising e h = absurd (never e refl)
+        sizes Falling e h = absurd (never e refl)
+        sizes Mixed e {a} {b} {x} h = demanding-size head (r .c) a b x h
 
-    pub most-bounds : Under (evaluate r at) (most vs r low high)
+    pub most-bounds : Under head (evaluate r at) (most vs r low high)
     unfolding most
     most-bounds = go (eqb (termForm (r .form)) 5) (isMixed (direction vs r 0)) refl refl
       where
-        go : (f m : Bool) → eqb (termForm (r .form)) 5 ≡ f → isMixed (direction vs r 0) ≡ m → Under (evaluate r at) (evaluate r reached)
+        go : (f m : Bool) → eqb (termForm (r .form)) 5 ≡ f → isMixed (direction vs r 0) ≡ m → Under head (evaluate r at) (evaluate r reached)
         go false m e k = none-mixed (only-sizes-mixed p (eqb-false _ 5 e))
         go true true e k = size-under (eqb-true _ 5 e) k
         go true false e k = none-mixed (λ i l. let z : i ≡ 0 = omega (arith, p .body .count .size-one (eqb-true _ 5 e)) in rw z k)
@@ -202,11 +238,10 @@ module _ {vs : List Variable} {r : Rule} (p : RulePromise vs r) (low high : Valu
 -- ---- the test
 
 -- what gives no more than the second, which gives no more than b, gives no more than b
-under-no-more : (x : Variable) (g h : Given) (b : ℤ) → Under g h → T (noMore x h b) → T (noMore x g b)
-unfolding notPast
+under-no-more : (x : Variable) (g h : Given) (b : ℤ) → Under x g h → T (noMore x h b) → T (noMore x g b)
 under-no-more x Nothing h b u n = tt
 under-no-more x (Value a) Nothing b u n = absurd u
-under-no-more x (Value a) (Value c) b u n = past-trans x a c b (u .le) n
+under-no-more x (Value a) (Value c) b u n = past-trans x a c b u n
 
 module _ {P : Program} (promises : Promises P) {r : Rule} (p : RulePromise (P .variables) r) where
   -- the declared ranges

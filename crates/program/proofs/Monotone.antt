@@ -1,7 +1,7 @@
--- The directions of document 01 are right: what a rule gives does not fall when its rising positions rise, its falling ones fall and its
--- mixed ones stay. Plain positions move the amount, literal ones decide whether it is given.
+-- The directions of document 01 are right: a rule demands no less of its head when its rising positions rise, its falling ones fall and its
+-- mixed ones stay. Plain positions move the amount, literal ones decide whether it is given. What the rule gives is compared in its head's order.
 use Prim.Native.Nat.{ℕ, zero, suc, _-_, _<_, _≤_}
-use mathlib.Core.Path.{_≡_, refl, subst}
+use mathlib.Core.Path.{_≡_, refl, sym, subst}
 use mathlib.Core.List.{List, [], _∷_}
 use mathlib.Core.Bool.{Bool, true, false, not, cond}
 use native.Mathlib.Omega.{arith}
@@ -13,8 +13,8 @@ use borrow.Author.Tests.{ne-eqb}
 use Rattle.format.proofs.Int.{int, sum-is, times-pos, times-neg, times, not-negative, not-positive, abs-is}
 use Rattle.program.specs.Tables.{_⇒_, select}
 use Rattle.program.specs.Program.{Rule, termForm, divisorOf, variableIn, termIn}
-use Rattle.program.specs.Variables.{inRange}
-use Rattle.program.specs.Directions.{bySign, byRange, plainDirection, direction}
+use Rattle.program.specs.Variables.{fromAbove, swaps, notPast, inRange}
+use Rattle.program.specs.Directions.{bySign, byRange, plainDirection, opposite, away, direction}
 use Rattle.program.specs.Evaluate.{sumBelow, larger, smaller, pickTo, holds, allHold, onlyIf, amount, evaluate}
 use Rattle.program.specs.Readings.{bodyVariable}
 use Rattle.program.specs.declared.Direction.{Direction}
@@ -36,11 +36,11 @@ Moves Rising a b = a ≤ℤ b
 Moves Falling a b = b ≤ℤ a
 Moves Mixed a b = a ≡ b
 
--- the first gives no more than the second
-abbrev pub Under : Given → Given → Type 0
-Under Nothing h = Unit {0}
-Under (Value a) Nothing = ⊥
-Under (Value a) (Value b) = a ≤ℤ b
+-- of a head x the first demands no more than the second
+abbrev pub Under : Variable → Given → Given → Type 0
+Under x Nothing h = Unit {0}
+Under x (Value a) Nothing = ⊥
+Under x (Value a) (Value b) = T (notPast x a b)
 
 -- ---- the numbers
 
@@ -210,24 +210,48 @@ module _ {vs : List Variable} {r : Rule} (p : RulePromise vs r) (at to : ℕ →
           rw (← plain-carried (termForm (r .form)) (variableIn vs (bodyVariable r 0)) (termIn ts 0 .number) q)
           at (m 0 l (p .body .terms 0 l .plain-op (carried-position (termForm (r .form)) 0 q refl)))
 
--- ---- what the rule gives
+-- ---- what the rule demands
 
-only-if-up : (s t : Bool) {a b : ℤ} → (T s → T t) → a ≤ℤ b → Under (onlyIf s a) (onlyIf t b)
-only-if-up true true f h = h
-only-if-up true false f h = f tt
-only-if-up false t f h = tt
+-- a turned move is the move back
+moves-back : (d : Direction) (a b : ℤ) → Moves (opposite d) a b → Moves d b a
+moves-back Rising a b m = m
+moves-back Falling a b m = m
+moves-back Mixed a b m = sym m
+
+only-if-up : (x : Variable) (s t : Bool) (a b : ℤ) → (T s → T t) → T (notPast x a b) → Under x (onlyIf s a) (onlyIf t b)
+only-if-up x true true a b f h = h
+only-if-up x true false a b f h = f tt
+only-if-up x false t a b f h = tt
 
 module _ {vs : List Variable} {r : Rule} (p : RulePromise vs r) (at to : ℕ → ℤ) where
+  abbrev h : Variable
+  h = variableIn vs (r .head)
+
   eased : (i : ℕ) → Moves (direction vs r i) (at i) (to i) → Eases (termIn (r .terms) i) (at i) (to i)
   eased i m = record {
-    least = λ e. rw (← direction-is vs r i refl refl, ← term-least (termForm (r .form)) (variableIn vs (bodyVariable r i)) (termIn (r .terms) i) e) at m;
-    below = λ e. rw (← direction-is vs r i refl refl, ← term-below (termForm (r .form)) (variableIn vs (bodyVariable r i)) (termIn (r .terms) i) e) at m;
+    least = λ e. rw (← direction-is vs r i refl refl refl, ← term-least h (termForm (r .form)) (variableIn vs (bodyVariable r i)) (termIn (r .terms) i) e) at m;
+    below = λ e. rw (← direction-is vs r i refl refl refl, ← term-below h (termForm (r .form)) (variableIn vs (bodyVariable r i)) (termIn (r .terms) i) e) at m;
   }
 
-  -- every position moved in its direction: the first reading gives no more than the second
+  -- the plain direction of position i
+  abbrev plain : ℕ → Direction
+  plain i = plainDirection (termForm (r .form)) (variableIn vs (bodyVariable r i)) (termIn (r .terms) i .number)
+
+  -- the plain positions are moved in their directions, as the head sees them: so is the amount
+  amount-away : ((i : ℕ) → i < length (r .terms) → Ranged p at to i)
+      → ((i : ℕ) → i < length (r .terms) → termIn (r .terms) i .op ≡ 0 → Moves (away h (plain i)) (at i) (to i)) → T (notPast h (amount r at) (amount r to))
+  unfolding away notPast swaps
+  amount-away w =
+      cases (fromAbove h)
+      (λ t. ((i : ℕ) → i < length (r .terms) → termIn (r .terms) i .op ≡ 0 → Moves (cond t (opposite (plain i)) (plain i)) (at i) (to i))
+      → T (cond t (leZ (amount r to) (amount r at)) (leZ (amount r at) (amount r to))))
+      (λ t m. amount-up p to at (λ i l. record { first = w i l .second; second = w i l .first }) (λ i l e. moves-back (plain i) (at i) (to i) (m i l e)) .le)
+      (λ t m. amount-up p at to w m .le)
+
+  -- every position moved in its direction: the first reading demands no more than the second
   pub evaluate-up : ((i : ℕ) → i < length (r .terms) → Ranged p at to i) → ((i : ℕ) → i < length (r .terms) → Moves (direction vs r i) (at i) (to i))
-      → Under (evaluate r at) (evaluate r to)
+      → Under h (evaluate r at) (evaluate r to)
   unfolding evaluate
-  evaluate-up w m = only-if-up (allHold (r .terms) at (length (r .terms))) (allHold (r .terms) to (length (r .terms)))
+  evaluate-up w m = only-if-up h (allHold (r .terms) at (length (r .terms))) (allHold (r .terms) to (length (r .terms))) (amount r at) (amount r to)
       (hold-up at to (r .terms) (length (r .terms)) (λ i l. eased i (m i l)))
-      (amount-up p at to w (λ i l e. rw (← direction-plain vs r i e) at (m i l)))
+      (amount-away w (λ i l e. rw (← direction-plain vs r i e) at (m i l)))

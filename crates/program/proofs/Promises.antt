@@ -52,7 +52,7 @@ item-fine vs it e =
 -- ---- variables
 
 pub record VariablePromise (x : Variable) : Type 0 where
-  pub kind : x .kind ≤ 1
+  pub kind : x .kind ≤ 2
   pub ordered : ltZ (x .high) (x .low) ≡ false
   pub in-order : x .low ≤ℤ x .high
   pub low-small : natAbs (x .low) ≤ maxNumber
@@ -68,7 +68,7 @@ variable-promised vs x e =
     let a = neither (beyond maxNumber (x .low) || beyond maxNumber (x .high)) (ltZ (x .high) (x .low)) (f .ranged) in
     let b = neither (beyond maxNumber (x .low)) (beyond maxNumber (x .high)) (a .0) in
     record {
-      kind = ltb-false 1 (x .kind) (f .formed);
+      kind = ltb-false 2 (x .kind) (f .formed);
       ordered = a .1;
       in-order = not-below (a .1);
       low-small = within-small maxNumber (x .low) (b .0);

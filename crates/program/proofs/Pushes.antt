@@ -2,15 +2,18 @@
 use Prim.Native.Nat.{ℕ, _<_, _≤_}
 use mathlib.Core.Path.{_≡_, refl}
 use mathlib.Core.List.{List}
-use mathlib.Core.Bool.{Bool, true, false}
+use mathlib.Core.Bool.{Bool, true, false, cond}
 use native.Mathlib.Omega.{arith}
 use lib.Dec.{eqb}
 use lib.IntN.{ℤ}
 use borrow.Author.Tests.{ne-eqb, eqb-true, eqb-false}
 use Rattle.program.specs.Program.{Rule, termForm, variableIn, termIn}
-use Rattle.program.specs.Directions.{direction, termDirection, plainDirection, bySign, byRange}
+use Rattle.program.specs.Variables.{fromAbove, swaps}
+use Rattle.program.specs.Directions.{bySign, byRange, plainDirection, opposite, away, termDirection, direction, isMixed}
 use Rattle.program.specs.declared.Variable.{Variable}
 use Rattle.program.specs.declared.Term.{Term}
+use Rattle.program.proofs.Tests.{cases}
+use Rattle.program.specs.declared.Direction.{Direction}
 use Rattle.program.specs.declared.Direction.the-variants.{Rising, Falling, Mixed}
 
 -- ---- a plain term, by its form
@@ -69,33 +72,47 @@ module _ (form : ℕ) (x : Variable) (z : ℤ) where
         ne-eqb form 7 (omega arith),
       )
 
--- ---- a term, by its op
+-- ---- a term, by its op; h is the head of its rule
 
-module _ (form : ℕ) (x : Variable) (t : Term) where
-  pub term-plain : t .op ≡ 0 → plainDirection form x (t .number) ≡ termDirection form x t
+module _ (h : Variable) (form : ℕ) (x : Variable) (t : Term) where
+  pub term-plain : t .op ≡ 0 → away h (plainDirection form x (t .number)) ≡ termDirection h form x t
   unfolding termDirection
-  term-plain h = rw h
+  term-plain e = rw e
 
-  pub term-least : t .op ≡ 1 → Rising ≡ termDirection form x t
+  pub term-least : t .op ≡ 1 → Rising ≡ termDirection h form x t
   unfolding termDirection
-  term-least h = rw h
+  term-least e = rw e
 
-  pub term-below : t .op ≡ 2 → Falling ≡ termDirection form x t
+  pub term-below : t .op ≡ 2 → Falling ≡ termDirection h form x t
   unfolding termDirection
-  term-below h = rw h
+  term-below e = rw e
 
-  pub term-unknown : 2 < t .op → Mixed ≡ termDirection form x t
+  pub term-unknown : 2 < t .op → Mixed ≡ termDirection h form x t
   unfolding termDirection
-  term-unknown h = simp (ne-eqb (t .op) 0 (omega arith), ne-eqb (t .op) 1 (omega arith), ne-eqb (t .op) 2 (omega arith))
+  term-unknown e = simp (ne-eqb (t .op) 0 (omega arith), ne-eqb (t .op) 1 (omega arith), ne-eqb (t .op) 2 (omega arith))
 
 -- ---- a position
 
 module _ (vs : List Variable) (r : Rule) (i : ℕ) where
-  pub direction-is : {x : Variable} {t : Term} → t ≡ termIn (r .terms) i → x ≡ variableIn vs (t .variable) → termDirection (termForm (r .form)) x t ≡ direction vs r i
+  pub direction-is : {h x : Variable} {t : Term} → h ≡ variableIn vs (r .head) → t ≡ termIn (r .terms) i → x ≡ variableIn vs (t .variable)
+      → termDirection h (termForm (r .form)) x t ≡ direction vs r i
   unfolding direction
-  direction-is p q = rw (q, p)
+  direction-is e p q = rw (e, q, p)
 
   pub direction-plain : termIn (r .terms) i .op ≡ 0
-      → plainDirection (termForm (r .form)) (variableIn vs (termIn (r .terms) i .variable)) (termIn (r .terms) i .number) ≡ direction vs r i
+      → away (variableIn vs (r .head)) (plainDirection (termForm (r .form)) (variableIn vs (termIn (r .terms) i .variable)) (termIn (r .terms) i .number)) ≡ direction vs r i
   unfolding direction
-  direction-plain h = term-plain (termForm (r .form)) _ _ h
+  direction-plain h = term-plain (variableIn vs (r .head)) (termForm (r .form)) _ _ h
+
+-- ---- a direction, seen from a starting end
+
+module _ (x : Variable) where
+  -- mixed stays mixed
+  pub away-mixed : (d : Direction) → isMixed (away x d) ≡ isMixed d
+  unfolding away swaps
+  away-mixed d = cases (fromAbove x) (λ t. isMixed (cond t (opposite d) d) ≡ isMixed d) (λ t. opposite-mixed d) (λ t. refl)
+    where
+      opposite-mixed : (d : Direction) → isMixed (opposite d) ≡ isMixed d
+      opposite-mixed Rising = refl
+      opposite-mixed Falling = refl
+      opposite-mixed Mixed = refl

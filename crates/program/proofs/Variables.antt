@@ -2,48 +2,70 @@
 use Prim.Native.Nat.{ℕ, _<_, _≤_}
 use mathlib.Core.Path.{_≡_, sym, ap}
 use mathlib.Core.Bool.{true, false, not, cond}
-use lib.Dec.{T}
+use lib.Dec.{T, T-not}
 use lib.IntN.{ℤ, pos, negsuc, negℤ, natAbs, _-ℤ_}
-use lib.Signed.{leZ, ltZ, leZ-yes, _≤ℤ_}
+use lib.Signed.{leZ, ltZ, leZ-yes, _≤ℤ_, ≤ℤ-refl}
 use Rattle.format.proofs.Int.{int, up, sum-is, neg-is, abs-is, not-negative}
-use Rattle.program.specs.Variables.{isFounded, start, far, notPast, inRange, noMore, started, short}
+use Rattle.program.specs.Variables.{isFounded, fromAbove, swaps, start, far, notPast, inRange, noMore, started, short}
 use Rattle.program.specs.declared.Given.{Given}
 use Rattle.program.specs.declared.Given.the-variants.{Nothing, Value}
 use Rattle.program.proofs.Tests.{cases, is-true, and-left, and-right, and-both}
 use Rattle.program.specs.declared.Variable.{Variable}
 
+-- the machine's test of what is less
+less-is : (a b : ℤ) → ltZ a b ≡ not (leZ b a)
+less-is a b = cases (ltZ a b) (λ c. c ≡ not (leZ b a)) (λ t. sym (is-true (not (leZ b a)) (omega int))) (λ t. sym (ap not (is-true (leZ b a) (omega int))))
+
 module _ (x : Variable) where
-  -- ---- a total order
+  -- ---- what goes by the kind
+
+  module _ {A : Type 0} (a b : A) where
+    pub swaps-not : fromAbove x ≡ false → a ≡ swaps x a b
+    unfolding swaps
+    swaps-not h = rw h
+
+    pub swaps-so : fromAbove x ≡ true → b ≡ swaps x a b
+    unfolding swaps
+    swaps-so h = rw h
+
+  -- ---- a total order: that of the whole numbers, by how far a value is ahead
+
+  unfoldable pub ahead : ℤ → ℤ
+  ahead a = swaps x a (negℤ a)
+
+  module _ (a b : ℤ) where
+    past-up : T (notPast x a b) → ahead a ≤ℤ ahead b
+    unfolding notPast ahead swaps
+    past-up = cases (fromAbove x) (λ t. T (cond t (leZ b a) (leZ a b)) → cond t (negℤ a) a ≤ℤ cond t (negℤ b) b) (λ t h. omega (int, neg-is a, neg-is b)) (λ t h. leZ-yes h)
+
+    up-past : ahead a ≤ℤ ahead b → T (notPast x a b)
+    unfolding notPast ahead swaps
+    up-past = cases (fromAbove x) (λ t. cond t (negℤ a) a ≤ℤ cond t (negℤ b) b → T (cond t (leZ b a) (leZ a b))) (λ t h. omega (int, neg-is a, neg-is b)) (λ t h. h .le)
+
+    ahead-same : ahead a ≡ ahead b → a ≡ b
+    unfolding ahead swaps
+    ahead-same = cases (fromAbove x) (λ t. cond t (negℤ a) a ≡ cond t (negℤ b) b → a ≡ b) (λ t h. omega (int, neg-is a, neg-is b)) (λ t h. h)
+
+  -- what comes before is less far ahead
+  before-up : (a b : ℤ) → T (not (notPast x b a)) → T (ltZ (ahead a) (ahead b))
+  before-up a b n = cases (ltZ (ahead a) (ahead b)) (λ c. T (ltZ (ahead a) (ahead b))) (λ t. t) (λ t. absurd (T-not (notPast x b a) n (up-past b a (omega int))))
 
   pub past-refl : (a : ℤ) → T (notPast x a a)
-  unfolding notPast
-  past-refl a = omega int
+  past-refl a = up-past a a (≤ℤ-refl (ahead a))
 
   pub past-trans : (a b c : ℤ) → T (notPast x a b) → T (notPast x b c) → T (notPast x a c)
-  unfolding notPast
-  past-trans a b c h k = omega int
+  past-trans a b c h k = up-past a c (omega (int, past-up a b h, past-up b c k))
 
   pub past-antisym : (a b : ℤ) → T (notPast x a b) → T (notPast x b a) → a ≡ b
-  unfolding notPast
-  past-antisym a b h k = omega int
+  past-antisym a b h k = ahead-same a b (omega (int, past-up a b h, past-up b a k))
 
   pub past-total : (a b : ℤ) → T (not (notPast x b a)) → T (notPast x a b)
-  unfolding notPast
-  past-total a b h = omega int
+  past-total a b h = let t = before-up a b h in up-past a b (omega int)
 
   -- what comes before, by the machine's test
-  module _ (a b : ℤ) where
-    pub before : T (ltZ a b) → T (not (notPast x b a))
-    unfolding notPast
-    before t = omega int
-
-    pub not-before : T (not (ltZ a b)) → T (notPast x b a)
-    unfolding notPast
-    not-before t = omega int
-
-    pub before-is : ltZ a b ≡ not (notPast x b a)
-    before-is = cases (ltZ a b) (λ c. c ≡ not (notPast x b a)) (λ t. sym (is-true (not (notPast x b a)) (before t)))
-        (λ t. sym (ap not (is-true (notPast x b a) (not-before t))))
+  pub before-is : (a b : ℤ) → swaps x (ltZ a b) (ltZ b a) ≡ not (notPast x b a)
+  unfolding notPast swaps
+  before-is a b = cases (fromAbove x) (λ t. cond t (ltZ b a) (ltZ a b) ≡ not (cond t (leZ a b) (leZ b a))) (λ t. less-is b a) (λ t. less-is a b)
 
   -- what gives no more than the first gives no more than a later one
   pub no-more-past : (g : Given) (a b : ℤ) → T (notPast x a b) → T (noMore x g a) → T (noMore x g b)
@@ -60,16 +82,21 @@ module _ (x : Variable) where
     high-in h = leZ-yes (and-right (leZ (x .low) a) (leZ a (x .high)) h)
 
     pub start-first : T (inRange x a) → T (notPast x (start x) a)
-    unfolding notPast start
-    start-first h = and-left (leZ (x .low) a) (leZ a (x .high)) h
+    unfolding notPast start swaps
+    start-first h = cases (fromAbove x) (λ t. T (cond t (leZ a (cond t (x .high) (x .low))) (leZ (cond t (x .high) (x .low)) a)))
+        (λ t. and-right (leZ (x .low) a) (leZ a (x .high)) h) (λ t. and-left (leZ (x .low) a) (leZ a (x .high)) h)
 
     pub far-last : T (inRange x a) → T (notPast x a (far x))
-    unfolding notPast far
-    far-last h = and-right (leZ (x .low) a) (leZ a (x .high)) h
+    unfolding notPast far swaps
+    far-last h = cases (fromAbove x) (λ t. T (cond t (leZ (cond t (x .low) (x .high)) a) (leZ a (cond t (x .low) (x .high)))))
+        (λ t. and-left (leZ (x .low) a) (leZ a (x .high)) h) (λ t. and-right (leZ (x .low) a) (leZ a (x .high)) h)
 
     pub between : T (notPast x (start x) a) → T (notPast x a (far x)) → T (inRange x a)
-    unfolding notPast start far
-    between h k = and-both (leZ (x .low) a) (leZ a (x .high)) h k
+    unfolding notPast start far swaps
+    between = cases (fromAbove x)
+        (λ t. T (cond t (leZ a (cond t (x .high) (x .low))) (leZ (cond t (x .high) (x .low)) a))
+        → T (cond t (leZ (cond t (x .low) (x .high)) a) (leZ a (cond t (x .low) (x .high)))) → T (inRange x a))
+        (λ t h k. and-both (leZ (x .low) a) (leZ a (x .high)) k h) (λ t h k. and-both (leZ (x .low) a) (leZ a (x .high)) h k)
 
   pub started-in : (a : ℤ) → T (inRange x a) → T (inRange x (started x a))
   started-in a h = cases (isFounded x) (λ b. T (inRange x (cond b (start x) a)))
@@ -85,21 +112,27 @@ module _ (x : Variable) where
 
   -- how far a value is from the far end, and that what comes later is nearer
   unfoldable pub toFar : ℤ → ℕ
-  toFar a = up (far x -ℤ a)
+  toFar a = up (ahead (far x) -ℤ ahead a)
 
   pub nearer : (a b : ℤ) → T (not (notPast x b a)) → T (notPast x b (far x)) → toFar b < toFar a
-  unfolding notPast far toFar
+  unfolding toFar
   nearer a b n t =
-      omega (int, sum-is h (negℤ b), sum-is h (negℤ a), neg-is b, neg-is a, not-negative {z = h -ℤ b} left, not-negative {z = h -ℤ a} more)
+      omega (int, sum-is h (negℤ p), sum-is h (negℤ q), neg-is p, neg-is q, not-negative {z = h -ℤ p} left, not-negative {z = h -ℤ q} more, before-up a b n)
     where
       h : ℤ
-      h = x .high
+      h = ahead (far x)
 
-      left : pos 0 ≤ℤ (h -ℤ b)
-      left = omega (int, sum-is h (negℤ b), neg-is b)
+      q : ℤ
+      q = ahead a
 
-      more : pos 0 ≤ℤ (h -ℤ a)
-      more = omega (int, sum-is h (negℤ a), neg-is a)
+      p : ℤ
+      p = ahead b
+
+      left : pos 0 ≤ℤ (h -ℤ p)
+      left = omega (int, sum-is h (negℤ p), neg-is p, past-up b (far x) t)
+
+      more : pos 0 ≤ℤ (h -ℤ q)
+      more = omega (int, sum-is h (negℤ q), neg-is q, past-up b (far x) t, before-up a b n)
 
 -- ---- where the least model begins
 

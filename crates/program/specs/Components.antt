@@ -1,5 +1,5 @@
 -- Document 01, "Which way a variable pushes": edges, components, validity. Document 02, wish 2: "An idle rule draws no edge and is never the
--- offending one of refusal 13."
+-- offending one of refusal 13." Wish 3: "edges run to kept and mixed variables".
 use Prim.Native.Nat.{ℕ, _<_}
 use mathlib.Core.Path.{_≡_}
 use mathlib.Core.Logic.{_⊎_}
@@ -9,17 +9,17 @@ use lib.Dec.{eqb}
 use Rattle.walks.specs.Walk.{Walk}
 use Rattle.program.specs.Tables.{anyBelow}
 use Rattle.program.specs.Program.{Program, Rule, ruleIn, termIn}
-use Rattle.program.specs.Directions.{direction, isRising, isMixed}
+use Rattle.program.specs.Directions.{direction, isMixed}
+use Rattle.program.specs.Readings.{bodyVariable, kept}
 use Rattle.program.specs.Idle.{Idle, isIdle}
 
--- "Dependency edges run from a rule's head to each rising or mixed body variable." "An idle rule draws no edge": where a test is needed it is
--- `isIdle`
+-- "Dependency edges run from a rule's head to each" kept "or mixed body variable." "An idle rule draws no edge": where a test is needed it is `isIdle`
 unfoldable pub draws : Program → Rule → ℕ → ℕ → Bool
 draws P r x y =
     not (isIdle (P .variables) r)
     && (eqb (r .head) x
     && anyBelow (length (r .terms))
-    (λ i. eqb (termIn (r .terms) i .variable) y && (isRising (direction (P .variables) r i) || isMixed (direction (P .variables) r i))))
+    (λ i. eqb (bodyVariable r i) y && (kept (P .variables) r i || isMixed (direction (P .variables) r i))))
 
 unfoldable pub edge : Program → ℕ → ℕ → Bool
 edge P x y = anyBelow (length (P .rules)) (λ i. draws P (ruleIn (P .rules) i) x y)

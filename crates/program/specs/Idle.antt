@@ -1,13 +1,14 @@
 -- Document 02, wish 2: "A rule is now idle when the most it can give, over all values in the ranges, is at most its head's low, or it can never
--- give anything."
+-- give anything." Wish 3: "directions, idleness, conditions and bounds follow" a head that is founded from above: the least it can give is at least its high.
 use Prim.Native.Nat.{ℕ, _<_}
 use mathlib.Core.Bool.{Bool, cond}
 use mathlib.Core.List.{List}
-use lib.IntN.{ℤ, natAbs}
+use lib.IntN.{ℤ, pos, natAbs}
 use lib.ListN.{length}
 use lib.Dec.{T, ltb}
+use lib.Signed.{ltZ}
 use Rattle.program.specs.Program.{Program, Rule, variableIn}
-use Rattle.program.specs.Variables.{start, inRange, noMore}
+use Rattle.program.specs.Variables.{swaps, start, inRange, noMore}
 use Rattle.program.specs.Directions.{direction}
 use Rattle.program.specs.Evaluate.{evaluate}
 use Rattle.program.specs.Readings.{Valuation, bodyVariable}
@@ -28,17 +29,24 @@ Idle P r =
 
 -- ---- a test, by the directions: for every rule of a file whose fields passed it is `Idle` (laws `passed-told` and `passed-test`, proofs/IdleRules.antt)
 
--- the value from low to high at which a position that pushes this way makes its rule give most; a mixed one's size is largest further from 0
-unfoldable pub demanding : Direction → ℤ → ℤ → ℤ
-demanding Rising low high = high
-demanding Falling low high = low
-demanding Mixed low high = cond (ltb (natAbs low) (natAbs high)) high low
+-- of the values from low to high one that is furthest from 0, and the one that is nearest to 0
+unfoldable pub furthest : ℤ → ℤ → ℤ
+furthest low high = cond (ltb (natAbs low) (natAbs high)) high low
+
+unfoldable pub nearest : ℤ → ℤ → ℤ
+nearest low high = cond (ltZ (pos 0) low) low (cond (ltZ high (pos 0)) high (pos 0))
+
+-- the value from low to high at which a position that pushes this way makes a rule with the head h demand most; of a mixed one the size is taken
+unfoldable pub demanding : Variable → Direction → ℤ → ℤ → ℤ
+demanding h Rising low high = high
+demanding h Falling low high = low
+demanding h Mixed low high = swaps h (furthest low high) (nearest low high)
 
 -- that value of the variable at position i, every variable x lying between low x and high x; vs are the program's variables
 unfoldable pub mostAt : List Variable → Rule → Valuation → Valuation → ℕ → ℤ
-mostAt vs r low high i = let x = bodyVariable r i in demanding (direction vs r i) (low x) (high x)
+mostAt vs r low high i = let x = bodyVariable r i in demanding (variableIn vs (r .head)) (direction vs r i) (low x) (high x)
 
--- the most that a rule can give in these ranges (laws `most-bounds`, `most-given`)
+-- the most that a rule can give in these ranges, in its head's order (laws `most-bounds`, `most-given`)
 unfoldable pub most : List Variable → Rule → Valuation → Valuation → Given
 most vs r low high = evaluate r (mostAt vs r low high)
 

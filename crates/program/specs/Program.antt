@@ -9,7 +9,7 @@ use Rattle.program.specs.Fields.{tagAt, valueAt, place}
 use Rattle.program.specs.declared.Variable.{Variable}
 use Rattle.program.specs.declared.Term.{Term}
 
--- `Variable` is the code's own record (src/lib.rt): "kind (1 byte; 0 standard, 1 founded), low (2), high (2)". So is `Term`: "variable (1), op (1),
+-- `Variable` is the code's own record (src/lib.rt): "kind (1 byte; 0 standard, 1 founded), low (2), high (2)"; kind 2 is document 02's wish 3. So is `Term`: "variable (1), op (1),
 -- number (2). Op 0 is a plain term; op 1 means variable ≥ number; op 2 means variable < number." A term of op 3 carries a divisor (document 02, wish 1).
 
 -- "form (1), head variable (1), c (2), terms". `terms` are its occurrences of variables. `divisor` has what stands before them: of form 8 the term that

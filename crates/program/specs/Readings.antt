@@ -7,7 +7,7 @@ use lib.IntN.{ℤ, pos}
 use lib.ListN.{getD}
 use Rattle.program.specs.Program.{Rule, variableIn, termIn}
 use Rattle.program.specs.Variables.{isFounded}
-use Rattle.program.specs.Directions.{direction, isRising}
+use Rattle.program.specs.Directions.{away, direction, isRising}
 use Rattle.program.specs.Evaluate.{evaluate}
 use Rattle.program.specs.declared.Given.{Given}
 use Rattle.program.specs.declared.Variable.{Variable}
@@ -24,9 +24,10 @@ valued ms v = getD ms v (pos 0)
 abbrev pub bodyVariable : Rule → ℕ → ℕ
 bodyVariable r i = termIn (r .terms) i .variable
 
--- "A body variable is kept when it is founded and rising; every other is replaced by its assigned value."
+-- "A body variable is kept when it is founded and rising; every other is replaced by its assigned value." Document 02, wish 3: "A body variable is kept
+-- when moving it away from its starting end makes the rule demand more"
 unfoldable pub kept : List Variable → Rule → ℕ → Bool
-kept vs r i = isRising (direction vs r i) && isFounded (variableIn vs (bodyVariable r i))
+kept vs r i = let x = variableIn vs (bodyVariable r i) in isRising (away x (direction vs r i)) && isFounded x
 
 -- kept positions are read in m, all others in θ
 abbrev pub reading : List Variable → Rule → Valuation → Valuation → ℕ → ℤ

@@ -85,9 +85,9 @@ wrongDivisor t = not (eqb (t .variable) 0 && eqb (t .op) 3)
 unfoldable pub wrongConstraint : ℕ → ℤ → Bool
 wrongConstraint form c = select form ((1 ⇒ false) ∷ (2 ⇒ not (eqb (natAbs c) 0)) ∷ []) true
 
--- 7: "unknown kind or form, op not for this form and position, number or c that must be 0"
+-- 7: "unknown kind or form, op not for this form and position, number or c that must be 0". Document 02, wish 3: "Kind 2, which refusal 7 now lets pass"
 unfoldable pub wrongForm : Item → Bool
-wrongForm (variable x) = ltb 1 (x .kind)
+wrongForm (variable x) = ltb 2 (x .kind)
 wrongForm (rule r) = unknownForm (r .form) || anyTerm (r .divisor) (λ i t. wrongDivisor t) || anyTerm (r .terms) (wrongTerm (termForm (r .form)))
 wrongForm (constraint k) = wrongConstraint (k .form) (k .c) || anyTerm (k .terms) (wrongTerm (bodyForm (k .form)))
 wrongForm none = false

@@ -1,6 +1,7 @@
 -- Document 01, "The rule file" and "Reduct and least model": what a variable's record says of its values. A founded variable is lifted from
--- its starting end towards its far end; of two values, the one nearer to the starting end comes first in the variable's order.
-use mathlib.Core.Bool.{Bool, true, not, cond, _&&_}
+-- its starting end towards its far end; of two values, the one nearer to the starting end comes first in the variable's order. Document 02,
+-- wish 3: "The variable's record carries its starting end everywhere."
+use mathlib.Core.Bool.{Bool, true, not, cond, _&&_, _||_}
 use lib.Dec.{eqb}
 use lib.IntN.{ℤ}
 use lib.Signed.{leZ}
@@ -8,20 +9,28 @@ use Rattle.program.specs.declared.Given.{Given}
 use Rattle.program.specs.declared.Variable.{Variable}
 use Rattle.program.specs.declared.Given.the-variants.{Nothing, Value}
 
--- "0 standard, 1 founded"
+-- "0 standard, 1 founded"; document 02, wish 3: "Kind 2 .. is founded from above"
 abbrev pub isFounded : Variable → Bool
-isFounded x = eqb (x .kind) 1
+isFounded x = eqb (x .kind) 1 || eqb (x .kind) 2
+
+abbrev pub fromAbove : Variable → Bool
+fromAbove x = eqb (x .kind) 2
+
+-- Document 02, wish 3: "For such variables low and high, above and below, more and less swap": the first of two, or the second where x is founded
+-- from above. Whatever goes by the kind goes by this
+unfoldable pub swaps : {A : Type 0} → Variable → A → A → A
+swaps x a b = cond (fromAbove x) b a
 
 -- the starting end and the far end of its range
 unfoldable pub start : Variable → ℤ
-start x = x .low
+start x = swaps x (x .low) (x .high)
 
 unfoldable pub far : Variable → ℤ
-far x = x .high
+far x = swaps x (x .high) (x .low)
 
 -- a is at or before b in the variable's order
 unfoldable pub notPast : Variable → ℤ → ℤ → Bool
-notPast x a b = leZ a b
+notPast x a b = swaps x (leZ a b) (leZ b a)
 
 -- a value lies in the variable's range
 abbrev pub inRange : Variable → ℤ → Bool

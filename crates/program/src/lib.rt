@@ -90,7 +90,7 @@ impl Counts {
     }
 }
 
-// A variable: its kind (0 standard, 1 founded) and its range.
+// A variable: its kind (0 standard, 1 founded, 2 founded from above) and its range.
 pub struct Variable {
     pub kind: u8,
     pub low: i64,

@@ -1,34 +1,46 @@
 // What a variable's record says of its values.
 ghost use mathlib.Core.Path.{_≡_};
 ghost use mathlib.Core.Bool.{not};
-ghost use Rattle.program.specs.Variables.{isFounded, start, far, notPast, inRange, started, short};
+ghost use Rattle.program.specs.Variables.{isFounded, fromAbove, start, far, notPast, inRange, started, short};
 use crate::Variable;
 
 impl Variable {
     pub fn is_founded(self) -> bool
         ensures { λ r. ⌜ r ≡ isFounded self ⌝ }
     {
-        self.kind == 1
+        let below = self.kind == 1;
+        let above = self.kind == 2;
+        below | above
+    }
+
+    pub fn is_from_above(self) -> bool
+        ensures { λ r. ⌜ r ≡ fromAbove self ⌝ }
+    {
+        self.kind == 2
     }
 
     // The end of its range from which rules lift it, and the other end.
     pub fn start(self) -> i64
         ensures { λ r. ⌜ r ≡ start self ⌝ }
     {
-        self.low
+        let low = self.low;
+        let high = self.high;
+        if self.is_from_above() { high } else { low }
     }
 
     pub fn far(self) -> i64
         ensures { λ r. ⌜ r ≡ far self ⌝ }
     {
-        self.high
+        let low = self.low;
+        let high = self.high;
+        if self.is_from_above() { low } else { high }
     }
 
     // Whether a comes before b in its order.
     pub fn is_before(self, a: i64, b: i64) -> bool
         ensures { λ r. ⌜ r ≡ not (notPast self b a) ⌝ }
     {
-        a < b
+        if self.is_from_above() { b < a } else { a < b }
     }
 
     // Whether a value lies in its range.
