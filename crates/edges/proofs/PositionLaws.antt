@@ -1,6 +1,6 @@
 -- The positions of one rule, and rows that take in edges, case by case.
 use Prim.Native.Nat.{ℕ, _+_}
-use mathlib.Core.Path.{_≡_, refl, sym, ap, _∙_, subst}
+use mathlib.Core.Path.{_≡_, refl, sym, ap, ap₂, _∙_, subst}
 use mathlib.Core.List.{List}
 use mathlib.Core.Bool.{Bool, true, false, _||_, _&&_, or-false, or-comm, or-assoc}
 use lib.ListN.{length}
@@ -9,11 +9,12 @@ use borrow.Author.Tests.{eq-eqb, ne-eqb}
 use Rattle.reach.specs.Rows.{Marked}
 use Rattle.program.specs.Tables.{anyBelow}
 use Rattle.program.specs.Program.{Rule, termIn}
-use Rattle.program.specs.Directions.{direction, isFalling, isMixed}
-use Rattle.program.specs.declared.Direction.{Direction}
-use Rattle.program.specs.declared.Direction.the-variants.{Rising, Falling, Mixed}
-use Rattle.program.proofs.Conditions.{any-next, never}
+use Rattle.program.specs.Directions.{direction, isMixed}
+use Rattle.program.specs.Readings.{bodyVariable}
+use Rattle.program.proofs.Conditions.{any-next}
 use Rattle.program.proofs.Tests.{eqb-swap}
+use Rattle.positions.specs.Positions.{PositionIs}
+use Rattle.positions.specs.declared.Position.{Position}
 use Rattle.edges.specs.Edges.{Grown, anyMixed, drawsEdge, drawsAt, drawsIn, shareIn, offendsAt, offendsIn}
 use Rattle.program.specs.declared.Variable.{Variable}
 
@@ -39,23 +40,6 @@ module _ (p : ℕ → ℕ → ℕ → Bool) where
 
 -- ---- one rule
 
--- a position draws an edge exactly where it does not fall
-pub falling-draws : (d : Direction) {e : Direction} {f : Bool} → f ≡ isFalling e → e ≡ d → f ≡ true → drawsEdge d ≡ false
-falling-draws d p q h = by d (sym (ap isFalling q) ∙ sym p ∙ h)
-  where
-    by : (d : Direction) → isFalling d ≡ true → drawsEdge d ≡ false
-    by Rising k = absurd (never k refl)
-    by Falling k = refl
-    by Mixed k = absurd (never k refl)
-
-pub other-draws : (d : Direction) {e : Direction} {f : Bool} → f ≡ isFalling e → e ≡ d → f ≡ false → drawsEdge d ≡ true
-other-draws d p q h = by d (sym (ap isFalling q) ∙ sym p ∙ h)
-  where
-    by : (d : Direction) → isFalling d ≡ false → drawsEdge d ≡ true
-    by Rising k = refl
-    by Falling k = absurd (never refl k)
-    by Mixed k = refl
-
 module _ (vs : List Variable) (r : Rule) where
   pub mixed-done : {i : ℕ} {f : Bool} → i ≡ length (r .terms) → f ≡ anyBelow i (λ j. isMixed (direction vs r j)) → f ≡ anyMixed vs r
   unfolding anyMixed
@@ -70,19 +54,23 @@ module _ (vs : List Variable) (r : Rule) where
   offends-done t e h = rw e at h
 
   module _ (i : ℕ) where
+    -- whether a position draws an edge, as the code asks it
+    pub draws-as : {p : Position} {m t : Bool} → PositionIs vs r i p → m ≡ isMixed (p .direction) → (p .kept || m) ≡ t → drawsEdge vs r i ≡ t
+    draws-as is e h = sym (ap₂ _||_ (is .kept-is) (e ∙ ap isMixed (is .direction-is))) ∙ h
+
     -- a position that draws no edge
-    pub draws-none : (t : ℕ → ℕ → Bool) → drawsEdge (direction vs r i) ≡ false → Grown t t (drawsAt vs r i)
+    pub draws-none : (t : ℕ → ℕ → Bool) → drawsEdge vs r i ≡ false → Grown t t (drawsAt vs r i)
     unfolding drawsAt
-    draws-none t e = record { is = λ a b ha hb. go a b (eqb (r .head) a) (eqb (termIn (r .terms) i .variable) b) }
+    draws-none t e = record { is = λ a b ha hb. go a b (eqb (r .head) a) (eqb (bodyVariable r i) b) }
       where
-        go : (a b : ℕ) (x y : Bool) → t a b ≡ (t a b || (x && (y && drawsEdge (direction vs r i))))
+        go : (a b : ℕ) (x y : Bool) → t a b ≡ (t a b || (x && (y && drawsEdge vs r i)))
         go a b true true = sym (ap (λ (z : Bool). t a b || z) e ∙ or-false (t a b))
         go a b true false = sym (or-false (t a b))
         go a b false y = sym (or-false (t a b))
 
     -- a position that draws one
-    pub draws-one : {t t′ : ℕ → ℕ → Bool} (h x : ℕ) → drawsEdge (direction vs r i) ≡ true
-        → h ≡ r .head → x ≡ termIn (r .terms) i .variable → Marked t t′ h x → Grown t t′ (drawsAt vs r i)
+    pub draws-one : {t t′ : ℕ → ℕ → Bool} (h x : ℕ) → drawsEdge vs r i ≡ true
+        → h ≡ r .head → x ≡ bodyVariable r i → Marked t t′ h x → Grown t t′ (drawsAt vs r i)
     unfolding drawsAt
     draws-one {t} h x e p q m = record {
       is = λ a b ha hb. m a b ha hb ∙ or-comm (eqb a h && eqb b x) (t a b)
@@ -90,8 +78,8 @@ module _ (vs : List Variable) (r : Rule) where
           (go a b (eqb a h) (eqb b x) (eqb-swap a h ∙ ap (λ (y : ℕ). eqb y a) p) (eqb-swap b x ∙ ap (λ (y : ℕ). eqb y b) q));
     }
       where
-        go : (a b : ℕ) (y z : Bool) → y ≡ eqb (r .head) a → z ≡ eqb (termIn (r .terms) i .variable) b
-            → (y && z) ≡ (eqb (r .head) a && (eqb (termIn (r .terms) i .variable) b && drawsEdge (direction vs r i)))
+        go : (a b : ℕ) (y z : Bool) → y ≡ eqb (r .head) a → z ≡ eqb (bodyVariable r i) b
+            → (y && z) ≡ (eqb (r .head) a && (eqb (bodyVariable r i) b && drawsEdge vs r i))
         go a b true true u w = rw (← u, ← w, e)
         go a b true false u w = rw (← u, ← w)
         go a b false z u w = rw (← u)
@@ -101,7 +89,7 @@ module _ (vs : List Variable) (r : Rule) where
     offends-none t e = rw e
 
     pub offends-shared : (t : ℕ → ℕ → Bool) {f : Bool} (h x : ℕ) → isMixed (direction vs r i) ≡ true
-        → h ≡ r .head → x ≡ termIn (r .terms) i .variable → f ≡ shareIn t h x → f ≡ offendsAt t vs r i
+        → h ≡ r .head → x ≡ bodyVariable r i → f ≡ shareIn t h x → f ≡ offendsAt t vs r i
     unfolding offendsAt
     offends-shared t h x e p q s = s ∙ rw (e, p, q)
 

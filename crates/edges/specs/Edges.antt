@@ -8,8 +8,8 @@ use lib.Dec.{eqb}
 use Rattle.format.specs.Limits.{maxVariables}
 use Rattle.program.specs.Tables.{anyBelow}
 use Rattle.program.specs.Program.{Rule, termIn}
-use Rattle.program.specs.Directions.{direction, isRising, isMixed}
-use Rattle.program.specs.declared.Direction.{Direction}
+use Rattle.program.specs.Directions.{direction, isMixed}
+use Rattle.program.specs.Readings.{bodyVariable, kept}
 use Rattle.program.specs.declared.Variable.{Variable}
 
 -- r′ is r with the edges of e
@@ -21,13 +21,13 @@ pub record Grown (r r′ e : ℕ → ℕ → Bool) : Type 0 where
 unfoldable pub anyMixed : List Variable → Rule → Bool
 anyMixed vs r = anyBelow (length (r .terms)) (λ i. isMixed (direction vs r i))
 
--- a position that pushes this way draws an edge
-abbrev pub drawsEdge : Direction → Bool
-drawsEdge d = isRising d || isMixed d
+-- position i draws an edge: it is kept or mixed
+abbrev pub drawsEdge : List Variable → Rule → ℕ → Bool
+drawsEdge vs r i = kept vs r i || isMixed (direction vs r i)
 
--- position i draws an edge from x to y
+-- from x to y
 unfoldable pub drawsAt : List Variable → Rule → ℕ → ℕ → ℕ → Bool
-drawsAt vs r i x y = eqb (r .head) x && (eqb (termIn (r .terms) i .variable) y && drawsEdge (direction vs r i))
+drawsAt vs r i x y = eqb (r .head) x && (eqb (bodyVariable r i) y && drawsEdge vs r i)
 
 unfoldable pub drawsIn : List Variable → Rule → ℕ → ℕ → Bool
 drawsIn vs r x y = anyBelow (length (r .terms)) (λ i. drawsAt vs r i x y)

@@ -1,4 +1,4 @@
-// One rule that is not idle: the edges that it draws, from its head to each rising or mixed body variable, and whether it offends.
+// One rule that is not idle: the edges that it draws, from its head to each kept or mixed body variable, and whether it offends.
 ghost use mathlib.Core.Path.{_≡_};
 ghost use Prim.Native.Nat.{_<_};
 ghost use lib.ListN.{length};
@@ -13,7 +13,7 @@ use reach::mark;
 
 pub mod mixed;
 
-// The edge that position i of the rule in a field's value draws, if it rises or is mixed.
+// The edge that position i of the rule in a field's value draws, if it is kept or mixed.
 fn mark_position(
     rows: &mut [u64; Rows::LENGTH],
     file: &[u8],
@@ -28,7 +28,9 @@ fn mark_position(
 {
     let p = position_at(file, variables, value, i);
     let d = p.direction;
-    if d.is_falling() {
+    let mixed = d.is_mixed();
+    let draws = p.kept | mixed;
+    if !draws {
         return;
     }
     let rule = rules::header(value);

@@ -15,47 +15,64 @@ use Rattle.format.specs.Limits.{maxVariables, maxNumber}
 use Rattle.words.specs.Bit.{bit}
 use Rattle.program.specs.Program.{Rule, ruleOf, variableIn, variablesAt}
 use Rattle.program.specs.Directions.{direction}
-use Rattle.program.specs.Variables.{start, notPast, noMore}
+use Rattle.program.specs.Variables.{swaps, start, notPast, noMore}
 use Rattle.program.specs.Evaluate.{evaluate}
 use Rattle.program.specs.Evaluable.{Small, Evaluable}
 use Rattle.program.specs.Readings.{valued, bodyVariable}
-use Rattle.program.specs.Idle.{demanding, mostAt, most, lows, highs, isIdle}
+use Rattle.program.specs.Idle.{furthest, nearest, demanding, mostAt, most, lows, highs, isIdle}
 use Rattle.program.specs.declared.Direction.{Direction}
 use Rattle.program.specs.declared.Direction.the-variants.{Rising, Falling, Mixed}
 use Rattle.program.specs.declared.Given.{Given}
 use Rattle.program.specs.declared.Given.the-variants.{Nothing, Value}
 use Rattle.program.specs.declared.Variable.{Variable}
 use Rattle.program.proofs.Gives.{evaluate-same}
-use Rattle.program.proofs.IdleRules.{demanding-end}
+use Rattle.program.proofs.IdleRules.{demanding-one}
 use Rattle.bodies.specs.Readings.{readingOf}
 use Rattle.idleness.specs.Most.{mostDeclared, Ready}
 
 -- ---- one position
 
-module _ (d : Direction) (low high : ℤ) where
-  pub demanding-rising : d ≡ Rising → high ≡ demanding d low high
+module _ (low high : ℤ) where
+  -- by the machine's test of two sizes
+  module _ {a b : ℤ} (p : a ≡ pos (natAbs low)) (q : b ≡ pos (natAbs high)) where
+    pub furthest-high : ltZ a b ≡ true → high ≡ furthest low high
+    unfolding furthest
+    furthest-high h = rw (rw (p, q) at h)
+
+    pub furthest-low : ltZ a b ≡ false → low ≡ furthest low high
+    unfolding furthest
+    furthest-low h = rw (rw (p, q) at h)
+
+  pub nearest-low : ltZ (pos 0) low ≡ true → low ≡ nearest low high
+  unfolding nearest
+  nearest-low h = rw h
+
+  pub nearest-high : ltZ (pos 0) low ≡ false → ltZ high (pos 0) ≡ true → high ≡ nearest low high
+  unfolding nearest
+  nearest-high h k = rw (h, k)
+
+  pub nearest-zero : ltZ (pos 0) low ≡ false → ltZ high (pos 0) ≡ false → pos 0 ≡ nearest low high
+  unfolding nearest
+  nearest-zero h k = rw (h, k)
+
+module _ (h : Variable) (d : Direction) (low high : ℤ) where
+  pub demanding-rising : d ≡ Rising → high ≡ demanding h d low high
   unfolding demanding
   demanding-rising e = rw e
 
-  pub demanding-falling : d ≡ Falling → low ≡ demanding d low high
+  pub demanding-falling : d ≡ Falling → low ≡ demanding h d low high
   unfolding demanding
   demanding-falling e = rw e
 
-  -- a size, by the machine's test of the two ends
-  module _ {a b : ℤ} (e : d ≡ Mixed) (p : a ≡ pos (natAbs low)) (q : b ≡ pos (natAbs high)) where
-    pub demanding-high : ltZ a b ≡ true → high ≡ demanding d low high
-    unfolding demanding
-    demanding-high h = rw (e, rw (p, q) at h)
-
-    pub demanding-low : ltZ a b ≡ false → low ≡ demanding d low high
-    unfolding demanding
-    demanding-low h = rw (e, rw (p, q) at h)
+  pub demanding-mixed : d ≡ Mixed → swaps h (furthest low high) (nearest low high) ≡ demanding h d low high
+  unfolding demanding
+  demanding-mixed e = rw e
 
 module _ (vs : List Variable) (r : Rule) (i : ℕ) where
-  pub most-read : {d : Direction} {x : Variable} {z : ℤ} → d ≡ direction vs r i → x ≡ variableIn vs (bodyVariable r i)
-      → z ≡ demanding d (x .low) (x .high) → z ≡ mostDeclared vs r i
+  pub most-read : {h : Variable} {d : Direction} {x : Variable} {z : ℤ} → h ≡ variableIn vs (r .head) → d ≡ direction vs r i → x ≡ variableIn vs (bodyVariable r i)
+      → z ≡ demanding h d (x .low) (x .high) → z ≡ mostDeclared vs r i
   unfolding mostAt
-  most-read p q e = e ∙ rw (p, q)
+  most-read o p q e = e ∙ rw (o, p, q)
 
 -- a position's variable has a field and small ends
 module _ {s : List ℕ} {n : ℕ} {v : List ℕ} (p : Ready s n v) (i : ℕ) (l : i < length (ruleOf v .terms)) where
@@ -74,7 +91,8 @@ module _ {s : List ℕ} {n : ℕ} {v : List ℕ} (p : Ready s n v) (i : ℕ) (l 
 
   pub position-most : natAbs (mostDeclared (variablesAt s n) (ruleOf v) i) ≤ maxNumber
   unfolding mostAt
-  position-most = demanding-end (λ z. natAbs z ≤ maxNumber) (direction (variablesAt s n) (ruleOf v) i) (position-low refl) (position-high refl)
+  position-most = demanding-one (λ z. natAbs z ≤ maxNumber) (variableIn (variablesAt s n) (ruleOf v .head)) (direction (variablesAt s n) (ruleOf v) i)
+      (position-low refl) (position-high refl) (omega arith)
 
 -- ---- position after position
 

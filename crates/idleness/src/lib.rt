@@ -4,11 +4,11 @@ ghost use Prim.Native.Nat.{ℕ, _<_, _≤_};
 ghost use lib.IntN.{natAbs};
 ghost use lib.ListN.{length, set};
 ghost use Rattle.format.specs.Limits.{maxVariables, maxNumber};
-ghost use Rattle.program.specs.Program.{ruleOf, variablesAt};
+ghost use Rattle.program.specs.Program.{ruleOf, variableIn, variablesAt};
 ghost use Rattle.program.specs.Variables.{start, noMore};
 ghost use Rattle.program.specs.Readings.{valued, bodyVariable};
 ghost use Rattle.program.specs.Evaluable.{Small};
-ghost use Rattle.program.specs.Idle.{demanding, isIdle};
+ghost use Rattle.program.specs.Idle.{furthest, nearest, demanding, isIdle};
 ghost use Rattle.idleness.specs.Most.{Ready, mostDeclared};
 use bodies::numbers;
 use evaluation::rules::gives;
@@ -20,31 +20,55 @@ use program::Direction;
 use program::Given;
 use program::Variable;
 
-// The value from low to high at which a position that pushes this way makes its rule give most.
-fn demanding(d: Direction, low: i64, high: i64) -> i64
+// Of the values from low to high one that is furthest from 0.
+fn furthest(low: i64, high: i64) -> i64
     requires { ⌜ (natAbs low ≤ maxNumber) × (natAbs high ≤ maxNumber) ⌝ }
-    ensures { λ r. ⌜ r ≡ demanding d low high ⌝ }
+    ensures { λ r. ⌜ r ≡ furthest low high ⌝ }
+{
+    let below = numbers::size(low);
+    let above = numbers::size(high);
+    if below < above { high } else { low }
+}
+
+// Of the values from low to high the one that is nearest to 0.
+fn nearest(low: i64, high: i64) -> i64
+    ensures { λ r. ⌜ r ≡ nearest low high ⌝ }
+{
+    if 0 < low {
+        return low;
+    }
+    if high < 0 { high } else { 0 }
+}
+
+// The value from low to high at which a position that pushes this way makes a rule with the head h demand most.
+fn demanding(h: Variable, d: Direction, low: i64, high: i64) -> i64
+    requires { ⌜ (natAbs low ≤ maxNumber) × (natAbs high ≤ maxNumber) ⌝ }
+    ensures { λ r. ⌜ r ≡ demanding h d low high ⌝ }
 {
     match d {
         Direction::Rising => high,
         Direction::Falling => low,
         Direction::Mixed => {
-            let below = numbers::size(low);
-            let above = numbers::size(high);
-            if below < above { high } else { low }
+            if h.is_from_above() {
+                return nearest(low, high);
+            }
+            furthest(low, high)
         }
     }
 }
 
-// Sets the variable at position i of the rule in a field's value to the value of its range at which the rule gives most.
+// Sets the variable at position i of the rule in a field's value to the value of its range at which the rule,
+// whose head is h, demands most.
 fn set_position(
     values: &mut [i64; Format::MAX_VARIABLES],
     file: &[u8],
     variables: usize,
     value: &[u8],
+    h: Variable,
     i: usize,
 )
     requires { ⌜ Ready (now file) variables (now value) ⌝ }
+    requires { ⌜ h ≡ variableIn (variablesAt (now file) variables) (ruleOf (now value) .head) ⌝ }
     requires { ⌜ (i < length (ruleOf (now value) .terms)) × (length (now values) ≡ maxVariables) ⌝ }
     ensures { λ _. ⌜ now (values .exit) ≡ set (now (values .entry)) (bodyVariable (ruleOf (now (value .entry))) i)
         (mostDeclared (variablesAt (now (file .entry)) variables) (ruleOf (now (value .entry))) i) ⌝ }
@@ -52,14 +76,21 @@ fn set_position(
     let p = position_at(file, variables, value, i);
     let x = variables::variable(file, p.variable);
     let d = p.direction;
-    let most = demanding(d, x.low, x.high);
+    let most = demanding(h, d, x.low, x.high);
     let v = format::wide(p.variable);
     values[v] = most;
 }
 
 // Sets every variable of the body so.
-fn set_most(values: &mut [i64; Format::MAX_VARIABLES], file: &[u8], variables: usize, value: &[u8])
+fn set_most(
+    values: &mut [i64; Format::MAX_VARIABLES],
+    file: &[u8],
+    variables: usize,
+    value: &[u8],
+    h: Variable,
+)
     requires { ⌜ Ready (now file) variables (now value) ⌝ }
+    requires { ⌜ h ≡ variableIn (variablesAt (now file) variables) (ruleOf (now value) .head) ⌝ }
     requires { ⌜ (length (now values) ≡ maxVariables) × Small (now values) ⌝ }
     ensures { λ _. ⌜ (length (now (values .exit)) ≡ maxVariables) × Small (now (values .exit)) ⌝ }
     ensures { λ _. ⌜ ((i : ℕ) → i < length (ruleOf (now (value .entry)) .terms)
@@ -69,7 +100,7 @@ fn set_most(values: &mut [i64; Format::MAX_VARIABLES], file: &[u8], variables: u
     let n = rules::positions(value);
     let mut i = 0;
     while i < n {
-        set_position(values, file, variables, value, i);
+        set_position(values, file, variables, value, h, i);
         i += 1;
     }
 }
@@ -96,9 +127,9 @@ pub fn is_idle(
     ensures { λ _. ⌜ (length (now (values .exit)) ≡ maxVariables) × Small (now (values .exit)) ⌝ }
     ensures { λ r. ⌜ r ≡ isIdle (variablesAt (now (file .entry)) variables) (ruleOf (now (value .entry))) ⌝ }
 {
-    set_most(values, file, variables, value);
-    let most = gives(value, 0, values, values);
     let rule = rules::header(value);
     let head = variables::variable(file, rule.head);
+    set_most(values, file, variables, value, head);
+    let most = gives(value, 0, values, values);
     is_no_more(head, most)
 }

@@ -25,14 +25,13 @@ pub fn position_at(file: &[u8], variables: usize, value: &[u8], i: usize) -> Pos
     ensures { λ r. ⌜ PositionIs (variablesAt (now (file .entry)) variables) (ruleOf (now (value .entry))) i r ⌝ }
 {
     let header = rules::header(value);
+    let head = variables::variable(file, header.head);
     let t = terms::term(rules::body(value), i);
     let x = variables::variable(file, t.variable);
-    let direction = directions::of_term(header.form, x, t);
-    let rising = direction.is_rising();
-    let founded = x.is_founded();
+    let direction = directions::of_term(head, header.form, x, t);
     Position {
         variable: t.variable,
         direction: direction,
-        kept: rising & founded,
+        kept: directions::is_kept(x, direction),
     }
 }

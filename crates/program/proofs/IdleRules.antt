@@ -68,6 +68,17 @@ module _ (low high : ℤ) where
       (λ t. omega (int, h .high, abs-is high, abs-is x, not-positive {z = high} (omega int), not-positive {z = x} (omega (int, h .high))))
       (λ t. omega int))
 
+-- of the two ends and 0 it is one
+pub demanding-one : (C : ℤ → Type 0) (h : Variable) (d : Direction) {low high : ℤ} → C low → C high → C (pos 0) → C (demanding h d low high)
+unfolding demanding swaps nearest
+demanding-one C h Rising l u z = u
+demanding-one C h Falling l u z = l
+demanding-one C h Mixed {low} {high} l u z =
+    cases (fromAbove h) (λ t. C (cond t (cond (ltZ (pos 0) low) low (cond (ltZ high (pos 0)) high (pos 0))) (furthest low high)))
+    (λ t. cases (ltZ (pos 0) low) (λ t. C (cond t low (cond (ltZ high (pos 0)) high (pos 0)))) (λ t. l)
+    (λ t. cases (ltZ high (pos 0)) (λ t. C (cond t high (pos 0))) (λ t. u) (λ t. z)))
+    (λ t. furthest-end low high C l u)
+
 -- the value that demands most lies in the range
 pub demanding-held : (h : Variable) (d : Direction) {low high : ℤ} → low ≤ℤ high → Held low high (demanding h d low high)
 unfolding demanding swaps

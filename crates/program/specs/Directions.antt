@@ -58,11 +58,6 @@ isRising Rising = true
 isRising Falling = false
 isRising Mixed = false
 
-abbrev pub isFalling : Direction → Bool
-isFalling Rising = false
-isFalling Falling = true
-isFalling Mixed = false
-
 abbrev pub isMixed : Direction → Bool
 isMixed Rising = false
 isMixed Falling = false

@@ -1,6 +1,6 @@
 // Which way a position pushes, as tests, and as seen from a variable's starting end.
 ghost use mathlib.Core.Path.{_≡_};
-ghost use Rattle.program.specs.Directions.{opposite, away, isRising, isFalling, isMixed};
+ghost use Rattle.program.specs.Directions.{opposite, away, isRising, isMixed};
 use crate::Direction;
 use crate::Variable;
 
@@ -21,16 +21,6 @@ impl Direction {
         match self {
             Direction::Rising => true,
             Direction::Falling => false,
-            Direction::Mixed => false,
-        }
-    }
-
-    pub fn is_falling(self) -> bool
-        ensures { λ r. ⌜ r ≡ isFalling self ⌝ }
-    {
-        match self {
-            Direction::Rising => false,
-            Direction::Falling => true,
             Direction::Mixed => false,
         }
     }

@@ -43,18 +43,18 @@ module _ (v : List ℕ) where
     unfolding lengthRefusal wrongLength
     variable-length h = simp (ne-eqb (length v) 5 h)
 
-    pub variable-kind : length v ≡ 5 → 1 < getD v 0 0 → 7 ≡ lengthRefusal vs 1 v
+    pub variable-kind : length v ≡ 5 → 2 < getD v 0 0 → 7 ≡ lengthRefusal vs 1 v
     unfolding lengthRefusal wrongLength itemRefusal wrongForm
-    variable-kind h k = simp (eq-eqb (length v) 5 h, lt-ltb 1 (getD v 0 0) k)
+    variable-kind h k = simp (eq-eqb (length v) 5 h, lt-ltb 2 (getD v 0 0) k)
 
-    module _ (h : length v ≡ 5) (k : getD v 0 0 ≤ 1) where
+    module _ (h : length v ≡ 5) (k : getD v 0 0 ≤ 2) where
       pub variable-range : outsideRange (variable (variableOf v)) ≡ true → 8 ≡ lengthRefusal vs 1 v
       unfolding lengthRefusal wrongLength itemRefusal wrongForm
-      variable-range e = simp (eq-eqb (length v) 5 h, le-ltb 1 (getD v 0 0) k, e)
+      variable-range e = simp (eq-eqb (length v) 5 h, le-ltb 2 (getD v 0 0) k, e)
 
       pub variable-fine : outsideRange (variable (variableOf v)) ≡ false → 0 ≡ lengthRefusal vs 1 v
       unfolding lengthRefusal wrongLength itemRefusal wrongForm undeclared wrongCount variableTwice negativeProduct
-      variable-fine e = simp (eq-eqb (length v) 5 h, le-ltb 1 (getD v 0 0) k, e)
+      variable-fine e = simp (eq-eqb (length v) 5 h, le-ltb 2 (getD v 0 0) k, e)
 
 -- the variable that was read is that of the value
 pub kind-of : {x y : Variable} → x ≡ y → x .kind ≡ y .kind

@@ -49,8 +49,8 @@ pub fn check_variable(value: &[u8]) -> Checked
     let x = variables::variable_of(value);
     let kind = x.kind;
     match kind {
-        0 | 1 => {}
-        2..=255 => {
+        0..=2 => {}
+        3..=255 => {
             return Checked::Bad(Refusal::WrongForm);
         }
     }

@@ -1,6 +1,7 @@
--- A falling position draws nothing, another one edge.
+-- A position that is neither kept nor mixed draws nothing, another one edge.
 use mathlib.Core.Path.{_∙_}
-use Rattle.edges.proofs.PositionLaws.{falling-draws, other-draws, draws-none, draws-one}
+use borrow.Author.Tests.{not-true, not-false}
+use Rattle.edges.proofs.PositionLaws.{draws-as, draws-none, draws-one}
 use borrow.Author.Needs.{needs}
 use Rattle.edges.proofs.mark_position.Statement.{statement}
 use Rattle.edges.proofs.mark_position.Tie as tie
@@ -8,13 +9,13 @@ use Rattle.edges.proofs.mark_position.Tie as tie
 position-at-requires : tie.Need-position-at-requires
 position-at-requires c κs = search needs
 
-is-falling-requires : tie.Need-is-falling-requires
-is-falling-requires c κs = search needs
+is-mixed-requires : tie.Need-is-mixed-requires
+is-mixed-requires c κs = search needs
 
 returns : tie.Need-returns
 returns c =
-    let p = c .before .before .position-at .ensures in
-    (c .before .before .before .before .before .pre .1 .1, draws-none _ _ _ _ (falling-draws _ (c .before .is-falling .ensures) (p .direction-is) (c .if1 .taken)))
+    let b = c .before .before .before in
+    (b .before .before .before .pre .1 .1, draws-none _ _ _ _ (draws-as _ _ _ (b .position-at .ensures) (c .before .before .is-mixed .ensures) (not-true _ (c .if1 .taken))))
 
 header-requires : tie.Need-header-requires
 header-requires c κs = search needs
@@ -30,21 +31,19 @@ mark-requires c κs = search needs
 
 returns-2 : tie.Need-returns-2
 returns-2 c =
-    let p = c .before .before .before .before .before .before .before .position-at .ensures in
+    let k = c .before .before .before .before .before in
+    let m = k .before .before in
+    let p = m .before .position-at .ensures in
     let h = c .before .before .before .wide .ensures .0 ∙ c .before .before .before .before .header .ensures .head-is in
-    let x = c .before .before .wide2 .ensures .0 ∙ p .variable-is in (
-      c .mark .ensures .0,
-      draws-one _ _ _ _ _
-          (other-draws _ (c .before .before .before .before .before .before .is-falling .ensures) (p .direction-is)
-          (c .before .before .before .before .before .if1 .left)) h x (c .mark .ensures .1),
-    )
+    let x = c .before .before .wide2 .ensures .0 ∙ p .variable-is in
+    (c .mark .ensures .0, draws-one _ _ _ _ _ (draws-as _ _ _ p (m .is-mixed .ensures) (not-false _ (k .if1 .left))) h x (c .mark .ensures .1))
 
 pub mark-position-spec : {M : Type 1} → statement M
 mark-position-spec =
     tie.close
     (tie.spec
     position-at-requires
-    is-falling-requires
+    is-mixed-requires
     returns
     header-requires
     wide-requires

@@ -10,22 +10,23 @@ use Rattle.idleness.proofs.set_most.Statement.{statement}
 use Rattle.idleness.proofs.set_most.Tie as tie
 
 abbrev Inv-loop : tie.InvT-loop
-Inv-loop values₀ file variables value n i₀ values i =
+Inv-loop values₀ file variables value h n i₀ values i =
     (i ≤ n) × (n ≡ length (ruleOf value .terms)) × TakenTo file variables value i values
 
 abbrev μ-loop : tie.MeasureT-loop
-μ-loop values₀ file variables value n i₀ values i = n - i
+μ-loop values₀ file variables value h n i₀ values i = n - i
 
 positions-requires : tie.Need-positions-requires Inv-loop μ-loop
 positions-requires c κs = search needs
 
 loop-holds : tie.Need-loop-holds Inv-loop μ-loop
-loop-holds c = let p = c .before .before .before .pre .1 in (omega arith, omega arith, taken-none _ _ _ (p .0) (p .1))
+loop-holds c = let p = c .before .before .before .pre .1 .1 in (omega arith, omega arith, taken-none _ _ _ (p .0) (p .1))
 
 set-position-requires : tie.Need-set-position-requires Inv-loop μ-loop
 set-position-requires c κs =
     let l = c .before .before .loop in
-    (c .before .before .before .before .before .before .pre .0, (omega arith, l .inv .2 .long))
+    let p = c .before .before .before .before .before .before .pre in
+    (p .0, (p .1 .0, (omega arith, l .inv .2 .long)))
 
 add-i : tie.Need-add-i Inv-loop μ-loop
 add-i c = search needs
