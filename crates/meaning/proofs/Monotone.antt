@@ -4,10 +4,9 @@ use mathlib.Core.Path.{refl}
 use mathlib.Core.Bool.{Bool, true, false, cond, _&&_}
 use lib.Dec.{T}
 use lib.ListN.{length}
-use lib.Signed.{leZ-yes}
 use Rattle.program.specs.Program.{Rule, Program, variableIn, ruleIn}
 use Rattle.program.specs.Variables.{isFounded, notPast}
-use Rattle.program.specs.Directions.{direction, isRising}
+use Rattle.program.specs.Directions.{away, direction, isRising}
 use Rattle.program.specs.Readings.{Valuation, bodyVariable, kept, reading, gives}
 use Rattle.program.specs.declared.Direction.{Direction}
 use Rattle.program.specs.declared.Direction.the-variants.{Rising, Falling, Mixed}
@@ -15,26 +14,28 @@ use Rattle.program.specs.declared.Given.{Given}
 use Rattle.program.specs.declared.Given.the-variants.{Nothing, Value}
 use Rattle.program.proofs.Promises.{Promises}
 use Rattle.program.proofs.Tests.{is-test}
-use Rattle.program.proofs.Monotone.{Moves, Under, Between, in-between, evaluate-up}
+use Rattle.program.proofs.Monotone.{Moves, Onward, moves-away, Under, Between, in-between, evaluate-up}
 use Rattle.meaning.specs.Founded.{Within}
 use Rattle.meaning.specs.Reduct.{system}
 use Rattle.meaning.proofs.Laws.{NoMore, Less, Laws}
 
 module _ (P : Program) where
-  -- what gives no more in plain numbers gives no more in the head's order
-  no-more-as : (v : ℕ) (g h : Given) → Under g h → NoMore (system P) v g h
-  unfolding notPast
+  -- what demands no more of its head
+  no-more-as : (v : ℕ) (g h : Given) → Under (variableIn (P .variables) v) g h → NoMore (system P) v g h
   no-more-as v Nothing h n = tt
   no-more-as v (Value a) Nothing n = n
-  no-more-as v (Value a) (Value b) n = record { le = n .le }
+  no-more-as v (Value a) (Value b) n = record { le = n }
 
   -- what the theory asks at a position, as the two readings of its variable
-  moves-of : (m θ m′ θ′ : Valuation) (x : ℕ) (d : Direction) → Less (system P) x d m θ m′ θ′
-      → Moves d (cond (isRising d && isFounded (variableIn (P .variables) x)) (m x) (θ x)) (cond (isRising d && isFounded (variableIn (P .variables) x)) (m′ x) (θ′ x))
-  unfolding notPast
-  moves-of m θ m′ θ′ x Rising h = leZ-yes (h .le)
-  moves-of m θ m′ θ′ x Falling h = leZ-yes (h .le)
-  moves-of m θ m′ θ′ x Mixed h = h
+  moves-of : (m θ m′ θ′ : Valuation) (x : ℕ) (d : Direction) → Less (system P) x (away (variableIn (P .variables) x) d) m θ m′ θ′
+      → let k = isRising (away (variableIn (P .variables) x) d) && isFounded (variableIn (P .variables) x) in Moves d (cond k (m x) (θ x)) (cond k (m′ x) (θ′ x))
+  moves-of m θ m′ θ′ x d h = moves-away (variableIn (P .variables) x) d _ _ (own (away (variableIn (P .variables) x) d) h)
+    where
+      own : (e : Direction) → Less (system P) x e m θ m′ θ′
+          → let k = isRising e && isFounded (variableIn (P .variables) x) in Onward (notPast (variableIn (P .variables) x)) e (cond k (m x) (θ x)) (cond k (m′ x) (θ′ x))
+      own Rising h = h .le
+      own Falling h = h .le
+      own Mixed h = h
 
   -- a reading of two valuations in the ranges is in the range
   pub read-between : {m θ : Valuation} → Within (system P) m → Within (system P) θ → (b : Bool) (x : ℕ) → Between (variableIn (P .variables) x) (cond b (m x) (θ x))
@@ -50,7 +51,7 @@ gives-up {P} p i h m θ m′ θ′ wm wθ wm′ wθ′ less =
     no-more-as P (r .head) (gives (P .variables) r m θ) (gives (P .variables) r m′ θ′)
     (evaluate-up (p .rules i h) (reading (P .variables) r m θ) (reading (P .variables) r m′ θ′)
     (λ j k. record { first = read-between P wm wθ (kept (P .variables) r j) (bodyVariable r j); second = read-between P wm′ wθ′ (kept (P .variables) r j) (bodyVariable r j) })
-    (λ j k. moves-of P m θ m′ θ′ (bodyVariable r j) (direction (P .variables) r j) (less (bodyVariable r j) (direction (P .variables) r j) (j, k, refl, refl))))
+    (λ j k. moves-of P m θ m′ θ′ (bodyVariable r j) (direction (P .variables) r j) (less (bodyVariable r j) (away (variableIn (P .variables) (bodyVariable r j)) (direction (P .variables) r j)) (j, k, refl, refl))))
   where
     r : Rule
     r = ruleIn (P .rules) i

@@ -11,7 +11,7 @@ use lib.ListN.{length, getD, set, length-set, List·getD-eq-default}
 use lib.Seq.{getD-set-same, getD-set-other}
 use lib.Dec.{T, ltb, ltb→lt, nltb→le}
 use Rattle.program.specs.Program.{Rule, Program, termForm, noVariable, variableIn, ruleIn}
-use Rattle.program.specs.Directions.{plainDirection, termDirection, direction}
+use Rattle.program.specs.Directions.{plainDirection, away, termDirection, direction}
 use Rattle.program.specs.Evaluate.{sumBelow, pickTo, allHold, overUp, amountOf, evaluate}
 use Rattle.program.specs.declared.Given.{Given}
 use Rattle.program.specs.declared.Given.the-variants.{Nothing, Value}
@@ -23,7 +23,7 @@ use Rattle.meaning.proofs.Theory.{Progress, progress-start, progress-ra
 use Rattle.meaning.proofs.Monotone.{laws, head-founded}
 use Rattle.meaning.proofs.InRanges.{founded-declared, past-zero}
 use Rattle.meaning.proofs.Steps.{gap, gap-raised}
-use Rattle.program.specs.Variables.{start, far, notPast, noMore, started}
+use Rattle.program.specs.Variables.{swaps, start, far, notPast, noMore, started}
 use Rattle.program.specs.Readings.{Valuation, kept, gives, valued}
 use Rattle.program.specs.declared.Variable.{Variable}
 use Rattle.program.proofs.Tests.{cases}
@@ -31,7 +31,7 @@ use Rattle.meaning.proofs.Laws.{below-refl, short-below}
 
 -- unfolding this unfolds the search and what it reads of a program
 unfoldable pub computes : Unit {0}
-unfolding start far notPast termForm plainDirection termDirection direction sumBelow pickTo allHold overUp amountOf evaluate kept gives starts firstUnmet iterate
+unfolding swaps start far notPast termForm plainDirection away termDirection direction sumBelow pickTo allHold overUp amountOf evaluate kept gives starts firstUnmet iterate
 computes = tt
 
 -- ---- lists

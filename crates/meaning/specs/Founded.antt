@@ -18,7 +18,7 @@ pub record System : Type 1 where
   pub Rule : Type 0
   pub In : Rule → Type 0
   pub head : Rule → ℕ
-  -- the variable stands at a position of the rule's body that pushes this way
+  -- the variable stands at a position of the rule's body that pushes this way, as seen from the variable's starting end
   pub occurs : Rule → ℕ → Direction → Type 0
   -- what the rule gives, kept positions read in the first valuation and all others in the second
   pub gives : Rule → Valuation → Valuation → Given
@@ -42,7 +42,8 @@ module _ (𝒮 : System) where
     pub inside : (v : ℕ) → T (inRange (variable v) (m v))
 
   -- m is a model of the reduct of θ: "The reduct says that each head is at least what its rule gives, kept variables read from the model;
-  -- founded values lie in low..high." Standard variables are as assigned
+  -- founded values lie in low..high." Standard variables are as assigned. Document 02, wish 3: a rule heading into a variable founded from above "says 'at
+  -- most what I give'"
   pub record Model (θ m : Valuation) : Type 0 where
     pub standard : (v : ℕ) → T (not (isFounded (variable v))) → m v ≡ θ v
     pub within : Within m

@@ -4,7 +4,7 @@ use Prim.Native.Nat.{ℕ, _<_}
 use mathlib.Core.Path.{_≡_}
 use lib.ListN.{length}
 use Rattle.program.specs.Program.{Program, variableIn, ruleIn}
-use Rattle.program.specs.Directions.{direction}
+use Rattle.program.specs.Directions.{away, direction}
 use Rattle.program.specs.Readings.{bodyVariable, gives}
 use Rattle.meaning.specs.Founded.{System}
 
@@ -15,6 +15,6 @@ system P = record {
   Rule = ℕ;
   In = λ i. i < length (P .rules);
   head = λ i. ruleIn (P .rules) i .head;
-  occurs = λ i x d. (j : ℕ) × (j < length (ruleIn (P .rules) i .terms)) × (bodyVariable (ruleIn (P .rules) i) j ≡ x) × (direction (P .variables) (ruleIn (P .rules) i) j ≡ d);
+  occurs = λ i x d. (j : ℕ) × (j < length (ruleIn (P .rules) i .terms)) × (bodyVariable (ruleIn (P .rules) i) j ≡ x) × (away (variableIn (P .variables) x) (direction (P .variables) (ruleIn (P .rules) i) j) ≡ d);
   gives = λ i. gives (P .variables) (ruleIn (P .rules) i);
 }

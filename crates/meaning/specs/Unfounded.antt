@@ -1,6 +1,7 @@
 -- Demand 3, over any rules: "An unfounded set is a non-empty set of founded variables, each with a bound from its lowest value to one below
 -- its assigned value, where no rule heading into the set gives more than its head's bound. Such a rule is read with founded variables of
--- the set at their bounds where they push it up, and all else as assigned."
+-- the set at their bounds where they push it up, and all else as assigned." Document 02, wish 3, has low and high, above and below, more and less
+-- swap for variables founded from above, and "its set's variables are read at their bounds where kept": `Below` goes by each variable's order.
 use mathlib.Core.Bool.{Bool, not, cond}
 use Prim.Native.Nat.{ℕ}
 use lib.Dec.{T}
@@ -30,7 +31,8 @@ module _ (𝒮 : System) where
   short θ m v = variables.short (variable v) (θ v) (m v)
 
   -- what a position of a body asks of θ′: "at most for a rising variable, except a kept one in the set; at least for a falling one; both for
-  -- a mixed one"
+  -- a mixed one", in the variable's order, the direction being seen from its starting end. Document 02, wish 3, has it in plain numbers: "at most still
+  -- goes with rising, at least with falling, a kept occurrence in the set gives neither", which is the same
   abbrev pub AskedOf : Valuation → (ℕ → Bool) → Valuation → ℕ → Direction → Type 0
   AskedOf θ dom θ′ x Rising = T (not (dom x)) → Below 𝒮 x (θ′ x) (θ x)
   AskedOf θ dom θ′ x Falling = Below 𝒮 x (θ x) (θ′ x)

@@ -6,7 +6,7 @@ use mathlib.Core.List.{List, [], _∷_}
 use mathlib.Core.Bool.{Bool, true, false, not, cond}
 use native.Mathlib.Omega.{arith}
 use lib.IntN.{ℤ, pos, negsuc, natAbs, _+ℤ_, _*ℤ_}
-use lib.Signed.{_≤ℤ_, leZ, ltZ, ≤ℤ-refl}
+use lib.Signed.{_≤ℤ_, leZ, ltZ, leZ-yes, ≤ℤ-refl}
 use lib.ListN.{length}
 use lib.Dec.{T}
 use borrow.Author.Tests.{ne-eqb}
@@ -35,6 +35,42 @@ abbrev pub Moves : Direction → ℤ → ℤ → Type 0
 Moves Rising a b = a ≤ℤ b
 Moves Falling a b = b ≤ℤ a
 Moves Mixed a b = a ≡ b
+
+-- b is a moved in this direction, if at all, in an order
+abbrev pub Onward : (ℤ → ℤ → Bool) → Direction → ℤ → ℤ → Type 0
+Onward le Rising a b = T (le a b)
+Onward le Falling a b = T (le b a)
+Onward le Mixed a b = a ≡ b
+
+-- moved in the order of x, by a direction as seen from its starting end, it is moved in plain numbers
+pub moves-away : (x : Variable) (d : Direction) (a b : ℤ) → Onward (notPast x) (away x d) a b → Moves d a b
+unfolding away notPast swaps
+moves-away x d a b = cases (fromAbove x) (λ t. Onward (λ y z. cond t (leZ z y) (leZ y z)) (cond t (opposite d) d) a b → Moves d a b) (λ t. back d) (λ t. forth d)
+  where
+    back : (d : Direction) → Onward (λ y z. leZ z y) (opposite d) a b → Moves d a b
+    back Rising h = leZ-yes h
+    back Falling h = leZ-yes h
+    back Mixed h = h
+
+    forth : (d : Direction) → Onward leZ d a b → Moves d a b
+    forth Rising h = leZ-yes h
+    forth Falling h = leZ-yes h
+    forth Mixed h = h
+
+-- and the other way round
+pub away-moves : (x : Variable) (d : Direction) (a b : ℤ) → Moves d a b → Onward (notPast x) (away x d) a b
+unfolding away notPast swaps
+away-moves x d a b = cases (fromAbove x) (λ t. Moves d a b → Onward (λ y z. cond t (leZ z y) (leZ y z)) (cond t (opposite d) d) a b) (λ t. back d) (λ t. forth d)
+  where
+    back : (d : Direction) → Moves d a b → Onward (λ y z. leZ z y) (opposite d) a b
+    back Rising h = h .le
+    back Falling h = h .le
+    back Mixed h = h
+
+    forth : (d : Direction) → Moves d a b → Onward leZ d a b
+    forth Rising h = h .le
+    forth Falling h = h .le
+    forth Mixed h = h
 
 -- of a head x the first demands no more than the second
 abbrev pub Under : Variable → Given → Given → Type 0

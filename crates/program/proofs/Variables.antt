@@ -1,8 +1,10 @@
 -- The laws of a variable's order, its ends and its range, from the order of the whole numbers.
 use Prim.Native.Nat.{ℕ, _<_, _≤_}
-use mathlib.Core.Path.{_≡_, sym, ap}
-use mathlib.Core.Bool.{true, false, not, cond}
-use lib.Dec.{T, T-not}
+use mathlib.Core.Path.{_≡_, refl, sym, ap, subst}
+use mathlib.Core.Logic.{_⊎_, inl, inr}
+use mathlib.Core.Bool.{Bool, true, false, not, cond, _||_}
+use lib.Dec.{T, T-not, eqb}
+use borrow.Author.Tests.{eqb-true}
 use lib.IntN.{ℤ, pos, negsuc, negℤ, natAbs, _-ℤ_}
 use lib.Signed.{leZ, ltZ, leZ-yes, _≤ℤ_, ≤ℤ-refl}
 use Rattle.format.proofs.Int.{int, up, sum-is, neg-is, abs-is, not-negative}
@@ -27,6 +29,21 @@ module _ (x : Variable) where
     pub swaps-so : fromAbove x ≡ true → b ≡ swaps x a b
     unfolding swaps
     swaps-so h = rw h
+
+  -- a founded variable has one of two kinds
+  pub founded-kind : T (isFounded x) → ((fromAbove x ≡ false) × (x .kind ≡ 1)) ⊎ ((fromAbove x ≡ true) × (x .kind ≡ 2))
+  founded-kind t = go (fromAbove x) refl
+    where
+      one : (k : ℕ) → T (eqb k 1 || eqb k 2) → eqb k 2 ≡ false → k ≡ 1
+      one k t e = eqb-true k 1 (is-true (eqb k 1) (or-left (eqb k 1) (subst (λ b. T (eqb k 1 || b)) e t)))
+        where
+          or-left : (a : Bool) → T (a || false) → T a
+          or-left true t = tt
+          or-left false t = t
+
+      go : (b : Bool) → fromAbove x ≡ b → ((fromAbove x ≡ false) × (x .kind ≡ 1)) ⊎ ((fromAbove x ≡ true) × (x .kind ≡ 2))
+      go true e = inr (e, eqb-true (x .kind) 2 e)
+      go false e = inl (e, one (x .kind) t e)
 
   -- ---- a total order: that of the whole numbers, by how far a value is ahead
 

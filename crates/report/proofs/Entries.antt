@@ -11,9 +11,11 @@ use lib.ListN.{length, length-append}
 use Rattle.format.specs.Numbers.{bytesOf}
 use Rattle.words.specs.Bit.{one-if, countFrom}
 use Rattle.sets.proofs.Counts.{count-split}
-use Rattle.report.specs.Report.{Entry, entry, entryBytes, bytesIn, atMost, atLeast, ascending, only, boundsOf, conditionsOf}
+use Rattle.report.specs.Report.{Entry, entry, entryBytes, bytesIn, atMost, atLeast, ascending, only, boundMark, boundsOf, conditionsOf}
 use Rattle.report.specs.Written.{markedOf}
+use Rattle.program.specs.Program.{variableIn}
 use Rattle.program.specs.Readings.{Valuation}
+use Rattle.program.specs.declared.Variable.{Variable}
 
 -- variables with no entry
 pub ascending-skip : (f : ℕ → List Entry) (n k : ℕ) → ((v : ℕ) → n ≤ v → v < k → f v ≡ []) → n ≤ k → ascending f k ≡ ascending f n
@@ -42,12 +44,12 @@ only-length true e = refl
 only-length false e = refl
 
 -- an entry for each variable of a set
-pub bounds-count : (p : ℕ → Bool) (m : Valuation) (n : ℕ) → length (ascending (boundsOf p m) n) ≡ countFrom p 0 n
+pub bounds-count : (vs : List Variable) (p : ℕ → Bool) (m : Valuation) (n : ℕ) → length (ascending (boundsOf vs p m) n) ≡ countFrom p 0 n
 unfolding ascending countFrom
-bounds-count p m zero = refl
-bounds-count p m (suc n) =
-    length-append (ascending (boundsOf p m) n) (boundsOf p m n)
-    ∙ ap₂ _+_ (bounds-count p m n) (only-length (p n) (entry n 0 (m n)))
+bounds-count vs p m zero = refl
+bounds-count vs p m (suc n) =
+    length-append (ascending (boundsOf vs p m) n) (boundsOf vs p m n)
+    ∙ ap₂ _+_ (bounds-count vs p m n) (only-length (p n) (entry n (boundMark (variableIn vs n)) (m n)))
     ∙ sym (count-more p n)
 
 -- and for each of two, whatever the marks

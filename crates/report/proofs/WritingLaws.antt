@@ -1,7 +1,7 @@
 -- A report whose entries are written, one after the other.
 use Prim.Native.Nat.{ℕ, zero, suc, _+_, _*_, _/_, _%_, _-_, _≤_, _<_}
 use mathlib.Core.Path.{_≡_, refl, sym, ap, ap₂, _∙_, subst}
-use mathlib.Core.Bool.{Bool, true, false, _||_, true≢false}
+use mathlib.Core.Bool.{Bool, true, false, not, cond, _||_, _&&_, true≢false}
 use mathlib.Core.List.{List, [], _∷_, _++_, append-assoc, append-nil}
 use native.Mathlib.Numerals.{add-one}
 use native.Mathlib.Omega.{arith}
@@ -13,10 +13,13 @@ use mir.Val.{ofZ}
 use Rattle.format.specs.Limits.{maxVariables}
 use Rattle.format.specs.Numbers.{bytesOf}
 use Rattle.words.specs.Bit.{NoneIn, countFrom}
-use Rattle.report.specs.Report.{Entry, entry, bytesIn, bound, atMost, atLeast, ascending, only, boundsOf, conditionsOf}
-use Rattle.report.specs.Written.{markedOf, marked, Wrote, Begins}
-use Rattle.report.proofs.Entries.{ascending-skip, bounds-count, conditions-count, bytes-append, bytes-length}
+use Rattle.report.specs.Report.{Entry, entry, bytesIn, bound, boundAbove, ascending, only, boundsOf}
+use Rattle.report.specs.Written.{markedOf, marked, fromBelowIn, fromAboveIn, Wrote, Begins}
+use Rattle.report.proofs.Entries.{ascending-skip, marked-count, bytes-append, bytes-length}
+use Rattle.program.specs.Program.{variableIn}
+use Rattle.program.specs.Variables.{fromAbove, swaps}
 use Rattle.program.specs.Readings.{Valuation}
+use Rattle.program.specs.declared.Variable.{Variable}
 
 -- ---- one entry
 
@@ -167,21 +170,18 @@ unfolding ascending
 same f g zero h = refl
 same f g (suc n) h = ap₂ (λ (x y : List Entry). x ++ y) (same f g n h) (h n)
 
--- an empty second set adds nothing
-pub marked-bounds : (p q : ℕ → Bool) (m : Valuation) (n : ℕ) → ((v : ℕ) → q v ≡ false)
-    → ascending (markedOf p bound q bound m) n ≡ ascending (boundsOf p m) n
-marked-bounds p q m n h =
-    same (markedOf p bound q bound m) (boundsOf p m) n
-    (λ v. ap (λ (t : Bool). boundsOf p m v ++ only t (entry v bound (m v))) (h v) ∙ append-nil (boundsOf p m v))
+-- a set's bounds are the entries of its two parts
+pub marked-bounds : (vs : List Variable) (set : ℕ → Bool) (m : Valuation) (n : ℕ)
+    → ascending (markedOf (fromBelowIn vs set) bound (fromAboveIn vs set) boundAbove m) n ≡ ascending (boundsOf vs set m) n
+unfolding swaps
+marked-bounds vs set m n =
+    same (markedOf (fromBelowIn vs set) bound (fromAboveIn vs set) boundAbove m) (boundsOf vs set m) n (λ v. at v (m v) (set v) (fromAbove (variableIn vs v)))
+  where
+    at : (v : ℕ) (z : ℤ) (s t : Bool) → only (s && not t) (entry v bound z) ++ only (s && t) (entry v boundAbove z) ≡ only s (entry v (cond t boundAbove bound) z)
+    at v z true true = refl
+    at v z true false = refl
+    at v z false t = refl
 
-begun : {es fs : List Entry} {n : ℕ} {b b′ : List ℕ} → es ≡ fs → length fs ≡ n → Begins es b b′ → b′ ≡ bytesIn fs ++ drop (4 * n) b
-begun {es} {fs} {n} {b} e l w =
-    w .bytes ∙ ap (λ (r : List Entry). bytesIn r ++ drop (4 * length r) b) e ∙ ap (λ (k : ℕ). bytesIn fs ++ drop (4 * k) b) l
-
-pub bounds-begun : (p q : ℕ → Bool) (m : Valuation) (b b′ : List ℕ) → ((v : ℕ) → q v ≡ false) → Begins (marked p bound q bound m) b b′
-    → b′ ≡ bytesIn (ascending (boundsOf p m) maxVariables) ++ drop (4 * countFrom p 0 maxVariables) b
-bounds-begun p q m b b′ h w = begun (marked-bounds p q m maxVariables h) (bounds-count p m maxVariables) w
-
-pub conditions-begun : (p q : ℕ → Bool) (θ : Valuation) (b b′ : List ℕ) → Begins (marked p atMost q atLeast θ) b b′
-    → b′ ≡ bytesIn (ascending (conditionsOf p q θ) maxVariables) ++ drop (4 * (countFrom p 0 maxVariables + countFrom q 0 maxVariables)) b
-conditions-begun p q θ b b′ w = begun refl (conditions-count p q θ maxVariables) w
+pub marked-begun : (p q : ℕ → Bool) (a b : ℕ) (m : Valuation) (c c′ : List ℕ) → Begins (marked p a q b m) c c′
+    → c′ ≡ bytesIn (marked p a q b m) ++ drop (4 * (countFrom p 0 maxVariables + countFrom q 0 maxVariables)) c
+marked-begun p q a b m c c′ w = w .bytes ∙ ap (λ (k : ℕ). bytesIn (marked p a q b m) ++ drop (4 * k) c) (marked-count p q a b m maxVariables)

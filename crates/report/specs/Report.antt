@@ -7,7 +7,8 @@ use lib.IntN.{ℤ}
 use lib.ListN.{length, drop}
 use Rattle.format.specs.Numbers.{bytesOf}
 use Rattle.program.specs.Tables.{anyBelow}
-use Rattle.program.specs.Program.{Program, Rule, ruleIn}
+use Rattle.program.specs.Program.{Program, Rule, variableIn, ruleIn}
+use Rattle.program.specs.Variables.{swaps}
 use Rattle.program.specs.Directions.{direction}
 use Rattle.program.specs.declared.Variable.{Variable}
 use Rattle.program.specs.declared.Direction.{Direction}
@@ -32,9 +33,12 @@ unfoldable pub bytesIn : List Entry → List ℕ
 bytesIn [] = []
 bytesIn (e ∷ es) = entryBytes e ++ bytesIn es
 
--- the marks: a bound, "mark 1 (at most)" and "mark 2 (at least)"
+-- the marks: a bound, "mark 1 (at most)" and "mark 2 (at least)". Document 02, wish 3, of a variable founded from above: "Its bound entry has mark 3"
 abbrev pub bound : ℕ
 bound = 0
+
+abbrev pub boundAbove : ℕ
+boundAbove = 3
 
 abbrev pub atMost : ℕ
 atMost = 1
@@ -51,16 +55,21 @@ ascending f (suc n) = ascending f n ++ f n
 abbrev pub only : Bool → Entry → List Entry
 only b e = cond b (e ∷ []) []
 
--- mark 0 for each variable of a set, with its value in m
-abbrev pub boundsOf : (ℕ → Bool) → Valuation → ℕ → List Entry
-boundsOf set m v = only (set v) (entry v bound (m v))
+-- a bound's mark, by its variable
+abbrev pub boundMark : Variable → ℕ
+boundMark x = swaps x bound boundAbove
+
+-- an entry for each variable of a set, with its value in m; vs are the program's variables
+abbrev pub boundsOf : List Variable → (ℕ → Bool) → Valuation → ℕ → List Entry
+boundsOf vs set m v = only (set v) (entry v (boundMark (variableIn vs v)) (m v))
 
 -- "mark 1 (at most) before mark 2 (at least), each with the assigned value and once only"
 abbrev pub conditionsOf : (ℕ → Bool) → (ℕ → Bool) → Valuation → ℕ → List Entry
 conditionsOf most least θ v = only (most v) (entry v atMost (θ v)) ++ only (least v) (entry v atLeast (θ v))
 
--- "at most for a rising variable, except a kept one in the set; at least for a falling one; both for a mixed one"; the second argument says
--- whether the position is kept and its variable in the set
+-- "at most for a rising variable, except a kept one in the set; at least for a falling one; both for a mixed one"; document 02, wish 3: "at most still
+-- goes with rising, at least with falling, a kept occurrence in the set gives neither". The second argument says whether the position is kept and its
+-- variable in the set
 abbrev pub asksMost : Direction → Bool → Bool
 asksMost Rising except = not except
 asksMost Falling except = false
@@ -68,7 +77,7 @@ asksMost Mixed except = true
 
 abbrev pub asksLeast : Direction → Bool → Bool
 asksLeast Rising except = false
-asksLeast Falling except = true
+asksLeast Falling except = not except
 asksLeast Mixed except = true
 
 -- "They come from the bodies of all rules with a head in the set": some position of such a body has the variable v and asks; vs are the
@@ -91,7 +100,7 @@ module _ (P : Program) (θ m : Valuation) where
 
   -- "First, by ascending variable, mark 0: .. with that least value."
   abbrev pub bounds : List Entry
-  bounds = ascending (boundsOf shown m) (length (P .variables))
+  bounds = ascending (boundsOf (P .variables) shown m) (length (P .variables))
 
   abbrev pub conditions : List Entry
   conditions = ascending (conditionsOf (asked P shown asksMost) (asked P shown asksLeast) θ) (length (P .variables))

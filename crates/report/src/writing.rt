@@ -6,7 +6,7 @@ ghost use lib.IntN.{natAbs};
 ghost use lib.ListN.{length, drop};
 ghost use Rattle.format.specs.Limits.{maxVariables, maxNumber};
 ghost use Rattle.words.specs.Bit.{has, countFrom};
-ghost use Rattle.report.specs.Report.{entry, bytesIn, bound, atMost, atLeast, ascending, only, boundsOf, conditionsOf};
+ghost use Rattle.report.specs.Report.{entry, bytesIn, bound, boundAbove, atMost, atLeast, only};
 ghost use Rattle.report.specs.Written.{markedOf, marked, Wrote, Begins};
 ghost use Rattle.program.specs.Readings.{valued};
 ghost use Rattle.program.specs.Evaluable.{Small};
@@ -20,6 +20,8 @@ impl Mark {
     // The marks of an entry.
     pub const BOUND: u8 = 0;
 
+    pub const BOUND_ABOVE: u8 = 3;
+
     pub const AT_MOST: u8 = 1;
 
     pub const AT_LEAST: u8 = 2;
@@ -27,6 +29,7 @@ impl Mark {
     // The marks of the code are those of the specification.
     pub fn quoted()
         ensures { λ _. do ⌜ (← ⟦Mark::BOUND⟧ .entry) ≡ bound ⌝ }
+        ensures { λ _. do ⌜ (← ⟦Mark::BOUND_ABOVE⟧ .entry) ≡ boundAbove ⌝ }
         ensures { λ _. do ⌜ (← ⟦Mark::AT_MOST⟧ .entry) ≡ atMost ⌝ }
         ensures { λ _. do ⌜ (← ⟦Mark::AT_LEAST⟧ .entry) ≡ atLeast ⌝ }
     {}
@@ -104,15 +107,20 @@ fn write_marked(
     }
 }
 
-// An entry with mark 0 for each variable of the set.
-pub fn write_bounds(report: &mut [u8], set: Set, values: &[i64; Format::MAX_VARIABLES])
-    requires { ⌜ 4 * countFrom (has (set .words)) 0 maxVariables ≤ length (now report) ⌝ }
+// For each variable an entry with mark 0 where `below` has it, then one with mark 3 where `above` has it.
+pub fn write_bounds(
+    report: &mut [u8],
+    below: Set,
+    above: Set,
+    values: &[i64; Format::MAX_VARIABLES],
+)
+    requires { ⌜ 4 * (countFrom (has (below .words)) 0 maxVariables + countFrom (has (above .words)) 0 maxVariables) ≤ length (now report) ⌝ }
     requires { ⌜ Small (now values) ⌝ }
-    ensures { λ _. ⌜ now (report .exit) ≡ bytesIn (ascending (boundsOf (has (set .words)) (valued (now (values .entry)))) maxVariables)
-        ++ drop (4 * countFrom (has (set .words)) 0 maxVariables) (now (report .entry)) ⌝ }
+    ensures { λ _. ⌜ now (report .exit)
+        ≡ bytesIn (marked (has (below .words)) bound (has (above .words)) boundAbove (valued (now (values .entry))))
+        ++ drop (4 * (countFrom (has (below .words)) 0 maxVariables + countFrom (has (above .words)) 0 maxVariables)) (now (report .entry)) ⌝ }
 {
-    let none = Set::empty();
-    write_marked(report, set, Mark::BOUND, none, Mark::BOUND, values);
+    write_marked(report, below, Mark::BOUND, above, Mark::BOUND_ABOVE, values);
 }
 
 // For each variable an entry with mark 1 where `most` has it, then one with mark 2 where `least` has it.
@@ -125,7 +133,7 @@ pub fn write_conditions(
     requires { ⌜ 4 * (countFrom (has (most .words)) 0 maxVariables + countFrom (has (least .words)) 0 maxVariables) ≤ length (now report) ⌝ }
     requires { ⌜ Small (now values) ⌝ }
     ensures { λ _. ⌜ now (report .exit)
-        ≡ bytesIn (ascending (conditionsOf (has (most .words)) (has (least .words)) (valued (now (values .entry)))) maxVariables)
+        ≡ bytesIn (marked (has (most .words)) atMost (has (least .words)) atLeast (valued (now (values .entry))))
         ++ drop (4 * (countFrom (has (most .words)) 0 maxVariables + countFrom (has (least .words)) 0 maxVariables)) (now (report .entry)) ⌝ }
 {
     write_marked(report, most, Mark::AT_MOST, least, Mark::AT_LEAST, values);

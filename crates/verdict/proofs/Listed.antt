@@ -1,7 +1,7 @@
 -- Entries by their position in a list, their order, and how they are read off the report's bytes.
 use Prim.Native.Nat.{ℕ, zero, suc, _+_, _-_, _*_, _<_, _≤_}
 use mathlib.Core.Path.{_≡_, refl, sym, ap, ap₂, _∙_, subst}
-use mathlib.Core.Bool.{Bool, true, false}
+use mathlib.Core.Bool.{Bool, true, false, cond}
 use mathlib.Core.List.{List, [], _∷_, _++_}
 use native.Mathlib.Omega.{arith}
 use lib.Dec.{T, ltb, ltb→lt, nltb→le}
@@ -10,9 +10,12 @@ use lib.ListN.{length, getD, length-append, List·getD-append}
 use lib.Seq.{getD-append-add}
 use Rattle.format.specs.Numbers.{bytesOf, signed}
 use Rattle.format.proofs.Ints.{read-written}
-use Rattle.report.specs.Report.{Entry, entry, entryBytes, bytesIn, ascending, only, bound, atMost, atLeast, boundsOf, conditionsOf}
+use Rattle.report.specs.Report.{Entry, entry, entryBytes, bytesIn, ascending, only, bound, boundAbove, atMost, atLeast, boundMark, boundsOf, conditionsOf}
 use Rattle.verdict.specs.Demands.{variableAt, markAt, numberAt}
+use Rattle.program.specs.Program.{variableIn}
+use Rattle.program.specs.Variables.{fromAbove, swaps}
 use Rattle.program.specs.Readings.{Valuation}
+use Rattle.program.specs.declared.Variable.{Variable}
 use Rattle.program.proofs.Tests.{cases}
 
 abbrev pub entryIn : List Entry → ℕ → Entry
@@ -105,7 +108,7 @@ only-sorted false e i j l r = let z : ⊥ = omega arith in absurd z
 
 -- a variable's entries are its own, and sorted
 record Own (f : ℕ → List Entry) : Type 0 where
-  own : (v : ℕ) → Every (λ e. (e .variable ≡ v) × (e .mark ≤ 2)) (f v)
+  own : (v : ℕ) → Every (λ e. (e .variable ≡ v) × (e .mark ≤ 3)) (f v)
   sorted : (v : ℕ) → Sorted (f v)
 
 module _ {f : ℕ → List Entry} (o : Own f) where
@@ -130,18 +133,26 @@ once-by-key es s i j a b p q = by (λ l. omega (arith, s i j l b)) (λ l. omega 
 
 -- ---- bounds and conditions
 
-module _ (p : ℕ → Bool) (m : Valuation) (n : ℕ) where
-  pub bounds-every : (Q : Entry → Type 0) → ((v : ℕ) → T (p v) → Q (entry v bound (m v))) → Every Q (ascending (boundsOf p m) n)
-  bounds-every Q h = ascending-every (boundsOf p m) Q (λ v. only-every (p v) (entry v bound (m v)) Q (h v)) n
+module _ (vs : List Variable) (p : ℕ → Bool) (m : Valuation) (n : ℕ) where
+  -- the bound entry of a variable
+  abbrev pub boundOf : ℕ → Entry
+  boundOf v = entry v (boundMark (variableIn vs v)) (m v)
 
-  pub bounds-listed : (v : ℕ) → v < n → T (p v) → Listed (entry v bound (m v)) (ascending (boundsOf p m) n)
-  bounds-listed v h t = ascending-listed (boundsOf p m) v n h (only-listed (p v) (entry v bound (m v)) t)
+  pub bounds-every : (Q : Entry → Type 0) → ((v : ℕ) → T (p v) → Q (boundOf v)) → Every Q (ascending (boundsOf vs p m) n)
+  bounds-every Q h = ascending-every (boundsOf vs p m) Q (λ v. only-every (p v) (boundOf v) Q (h v)) n
 
-  pub bounds-sorted : Sorted (ascending (boundsOf p m) n)
+  pub bounds-listed : (v : ℕ) → v < n → T (p v) → Listed (boundOf v) (ascending (boundsOf vs p m) n)
+  bounds-listed v h t = ascending-listed (boundsOf vs p m) v n h (only-listed (p v) (boundOf v) t)
+
+  pub bounds-sorted : Sorted (ascending (boundsOf vs p m) n)
+  unfolding swaps
   bounds-sorted = ascending-sorted (record {
-    own = λ v. only-every (p v) (entry v bound (m v)) (λ e. (e .variable ≡ v) × (e .mark ≤ 2)) (λ t. (refl, omega arith));
-    sorted = λ v. only-sorted (p v) (entry v bound (m v));
+    own = λ v. only-every (p v) (boundOf v) (λ e. (e .variable ≡ v) × (e .mark ≤ 3)) (λ t. (refl, few v));
+    sorted = λ v. only-sorted (p v) (boundOf v);
   }) n
+    where
+      few : (v : ℕ) → cond (fromAbove (variableIn vs v)) boundAbove bound ≤ 3
+      few v = cases (fromAbove (variableIn vs v)) (λ t. cond t boundAbove bound ≤ 3) (λ t. omega arith) (λ t. omega arith)
 
 module _ (p q : ℕ → Bool) (θ : Valuation) (n : ℕ) where
   each : (Q : Entry → Type 0) (v : ℕ) → (T (p v) → Q (entry v atMost (θ v))) → (T (q v) → Q (entry v atLeast (θ v))) → Every Q (conditionsOf p q θ v)
@@ -163,7 +174,7 @@ module _ (p q : ℕ → Bool) (θ : Valuation) (n : ℕ) where
 
   pub conditions-sorted : Sorted (ascending (conditionsOf p q θ) n)
   conditions-sorted = ascending-sorted (record {
-    own = λ v. each (λ e. (e .variable ≡ v) × (e .mark ≤ 2)) v (λ t. (refl, omega arith)) (λ t. (refl, omega arith));
+    own = λ v. each (λ e. (e .variable ≡ v) × (e .mark ≤ 3)) v (λ t. (refl, omega arith)) (λ t. (refl, omega arith));
     sorted =
         λ v. sorted-append (only (p v) (entry v atMost (θ v))) (only (q v) (entry v atLeast (θ v))) (only-sorted (p v) (entry v atMost (θ v)))
         (only-sorted (q v) (entry v atLeast (θ v)))

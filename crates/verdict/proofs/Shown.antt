@@ -1,6 +1,6 @@
 -- What the report of an unfounded assignment shows: demand 3's sentences, read off its bytes.
 use Prim.Native.Nat.{ℕ, zero, suc, _+_, _-_, _<_, _≤_}
-use mathlib.Core.Path.{_≡_, refl, sym, ap, _∙_, subst}
+use mathlib.Core.Path.{_≡_, refl, sym, ap, ap₂, _∙_, subst}
 use mathlib.Core.Logic.{_⊎_, inl, inr}
 use mathlib.Core.Bool.{Bool, true, false, not, cond, _&&_, _||_}
 use mathlib.Core.List.{List, [], _∷_, _++_}
@@ -9,11 +9,11 @@ use borrow.Author.Tests.{eqb-true, eq-eqb}
 use lib.Dec.{T, eqb}
 use lib.IntN.{natAbs}
 use lib.ListN.{length, length-append}
-use lib.Signed.{leZ}
+use lib.Signed.{_≤ℤ_, leZ, leZ-yes}
 use Rattle.format.proofs.Int.{int}
 use Rattle.program.specs.Tables.{_⇒_, select, anyBelow}
 use Rattle.program.specs.Program.{Program, ruleIn, variableIn}
-use Rattle.program.specs.Directions.{direction}
+use Rattle.program.specs.Directions.{away, direction, isRising}
 use Rattle.program.specs.declared.Direction.{Direction}
 use Rattle.program.specs.declared.Direction.the-variants.{Rising, Falling, Mixed}
 use Rattle.program.proofs.Conditions.{some-below, below-some}
@@ -22,18 +22,21 @@ use Rattle.meaning.specs.Founded.{Below, Model, Least}
 use Rattle.meaning.specs.Reduct.{system}
 use Rattle.meaning.specs.Stable.{Meets}
 use Rattle.meaning.specs.Unfounded.{over, Unfounded, AskedOf, Conditions}
+use Rattle.meaning.proofs.Laws.{below-refl}
 use Rattle.meaning.proofs.Theory.{self-model, inside-short, short-unfounded, bounded}
 use Rattle.meaning.proofs.Monotone.{laws}
 use Rattle.meaning.proofs.InRanges.{founded-declared, value-small}
-use Rattle.report.specs.Report.{Entry, bytesIn, asksMost, asksLeast, askedAt, askedBy, asked, shown, bounds, conditions}
+use Rattle.report.specs.Report.{Entry, bytesIn, bound, boundAbove, boundMark, asksMost, asksLeast, askedAt, askedBy, asked, shown, bounds, conditions}
 use Rattle.report.proofs.Entries.{bytes-length}
 use Rattle.verdict.specs.Demands.{variableAt, markAt, numberAt, isShown, shownBound, ConditionMet, ConditionsMet, Shows}
 use Rattle.verdict.proofs.Listed.{entryIn, Listed, left-is, right-is, both-length, once-by-key, bounds-every, bounds-listed, bounds-sorted}
 use Rattle.verdict.proofs.Listed.{conditions-every, most-listed, least-listed, conditions-sorted, variable-at, mark-at, number-at}
 use Rattle.program.specs.Readings.{Valuation, bodyVariable, kept}
 use Rattle.program.proofs.Tests.{cases, is-true, is-test}
-use Rattle.program.specs.Variables.{notPast}
-use Rattle.program.proofs.Variables.{short-founded}
+use Rattle.program.specs.Variables.{isFounded, fromAbove, notPast}
+use Rattle.program.specs.declared.Variable.{Variable}
+use Rattle.program.proofs.Variables.{founded-kind, swaps-not, swaps-so, short-founded}
+use Rattle.program.proofs.Monotone.{Moves, Onward, away-moves}
 
 -- ---- tests
 
@@ -45,7 +48,7 @@ same-test false false f g = refl
 and-true : (a c : Bool) → a ≡ true → c ≡ true → (a && c) ≡ true
 and-true a c p q = rw (p, q)
 
-not-kept : (c d : Bool) → T (not d) → not (c && d) ≡ true
+not-kept : (c d : Bool) → T (not d) → (c && d) ≡ false
 not-kept true true t = absurd t
 not-kept true false t = refl
 not-kept false d t = refl
@@ -126,14 +129,14 @@ module _ {P : Program} (promised : Promises P) {θ m : Valuation} (meets : Meets
 
   record BoundAt (i : ℕ) : Type 0 where
     among : T (shown P θ m (variableAt b i))
-    marked : markAt b i ≡ 0
+    marked : markAt b i ≡ boundMark (variableIn (P .variables) (variableAt b i))
     number : numberAt b i ≡ m (variableAt b i)
     variable : variableAt b i ≡ entryIn (bounds P θ m) i .variable
 
   bound-at : (i : ℕ) → i < n → BoundAt i
   bound-at i h = record {
     among = rw (r .0) (f .0);
-    marked = r .1 ∙ f .1;
+    marked = r .1 ∙ f .1 ∙ ap (λ v. boundMark (variableIn (P .variables) v)) (sym (r .0));
     number = r .2 ∙ f .2 ∙ ap m (sym (r .0));
     variable = r .0;
   }
@@ -141,8 +144,9 @@ module _ {P : Program} (promised : Promises P) {θ m : Valuation} (meets : Meets
       e : Entry
       e = entryIn (bounds P θ m) i
 
-      f : T (shown P θ m (e .variable)) × (e .mark ≡ 0) × (e .number ≡ m (e .variable))
-      f = bounds-every (shown P θ m) m (length (P .variables)) (λ x. T (shown P θ m (x .variable)) × (x .mark ≡ 0) × (x .number ≡ m (x .variable))) (λ v t. (t, refl, refl)) i h
+      f : T (shown P θ m (e .variable)) × (e .mark ≡ boundMark (variableIn (P .variables) (e .variable))) × (e .number ≡ m (e .variable))
+      f = bounds-every (P .variables) (shown P θ m) m (length (P .variables))
+          (λ x. T (shown P θ m (x .variable)) × (x .mark ≡ boundMark (variableIn (P .variables) (x .variable))) × (x .number ≡ m (x .variable))) (λ v t. (t, refl, refl)) i h
 
       r : (variableAt b i ≡ e .variable) × (markAt b i ≡ e .mark) × (numberAt b i ≡ e .number)
       r = read-at i (omega arith) e (left-is (bounds P θ m) (conditions P θ m) i h) (rw (f .2) (model-small (e .variable)))
@@ -156,12 +160,23 @@ module _ {P : Program} (promised : Promises P) {θ m : Valuation} (meets : Meets
 
       outof : T (shown P θ m v) → isShown b n v ≡ true
       outof t =
-          let l = bounds-listed (shown P θ m) m (length (P .variables)) v (founded-declared (P .variables) v (short-founded (variableIn (P .variables) v) (θ v) (m v) t)) t in
+          let l = bounds-listed (P .variables) (shown P θ m) m (length (P .variables)) v (founded-declared (P .variables) v (short-founded (variableIn (P .variables) v) (θ v) (m v) t)) t in
           below-some n (λ i. eqb (variableAt b i) v) (l .at) (l .inside)
           (eq-eqb (variableAt b (l .at)) v (bound-at (l .at) (l .inside) .variable ∙ ap (λ (x : Entry). x .variable) (l .is)))
 
   bound-is : (v : ℕ) → T (isShown b n v) → shownBound b n v ≡ m v
   bound-is v t = shown-number b m n v (λ i h. bound-at i h .number) (is-true (isShown b n v) t)
+
+  -- mark 0 is that of kind 1, mark 3 that of kind 2
+  marked-by-kind : (i : ℕ) → i < n → let x = variableIn (P .variables) (variableAt b i) in ((markAt b i ≡ 0) × (x .kind ≡ 1)) ⊎ ((markAt b i ≡ 3) × (x .kind ≡ 2))
+  marked-by-kind i h = go (founded-kind x (short-founded x (θ (variableAt b i)) (m (variableAt b i)) (bound-at i h .among)))
+    where
+      x : Variable
+      x = variableIn (P .variables) (variableAt b i)
+
+      go : ((fromAbove x ≡ false) × (x .kind ≡ 1)) ⊎ ((fromAbove x ≡ true) × (x .kind ≡ 2)) → ((markAt b i ≡ 0) × (x .kind ≡ 1)) ⊎ ((markAt b i ≡ 3) × (x .kind ≡ 2))
+      go (inl q) = inl (bound-at i h .marked ∙ sym (swaps-not x bound boundAbove (q .0)), q .1)
+      go (inr q) = inr (bound-at i h .marked ∙ sym (swaps-so x bound boundAbove (q .0)), q .1)
 
   -- ---- the conditions
 
@@ -213,17 +228,15 @@ module _ {P : Program} (promised : Promises P) {θ m : Valuation} (meets : Meets
         let r = read-at (n + l .at) (omega (arith, l .inside)) e (right-is (bounds P θ m) (conditions P θ m) (l .at) ∙ l .is) small in
         (n + l .at, all-met (n + l .at) (omega arith) (omega (arith, l .inside)), r .0, r .1, r .2)
 
-    most-met : (x : ℕ) → x < length (P .variables) → asked P (shown P θ m) asksMost x ≡ true → Below (system P) x (θ′ x) (θ x)
-    unfolding notPast
+    most-met : (x : ℕ) → x < length (P .variables) → asked P (shown P θ m) asksMost x ≡ true → θ′ x ≤ℤ θ x
     most-met x h t =
         let w = met-at (most-listed (asked P (shown P θ m) asksMost) (asked P (shown P θ m) asksLeast) θ (length (P .variables)) x h (is-test t)) (assigned-small x) in
-        record { le = rw (w .3, w .2, w .4) at (w .1 .met) }
+        leZ-yes (rw (w .3, w .2, w .4) at (w .1 .met))
 
-    least-met : (x : ℕ) → x < length (P .variables) → asked P (shown P θ m) asksLeast x ≡ true → Below (system P) x (θ x) (θ′ x)
-    unfolding notPast
+    least-met : (x : ℕ) → x < length (P .variables) → asked P (shown P θ m) asksLeast x ≡ true → θ x ≤ℤ θ′ x
     least-met x h t =
         let w = met-at (least-listed (asked P (shown P θ m) asksMost) (asked P (shown P θ m) asksLeast) θ (length (P .variables)) x h (is-test t)) (assigned-small x) in
-        record { le = rw (w .3, w .2, w .4) at (w .1 .met) }
+        leZ-yes (rw (w .3, w .2, w .4) at (w .1 .met))
 
     -- a position of a rule that heads into the set asks
     asked-at : (asks : Direction → Bool → Bool) (i j : ℕ) → i < length (P .rules) → j < length (ruleIn (P .rules) i .terms) → T (shown P θ m (ruleIn (P .rules) i .head))
@@ -243,10 +256,15 @@ module _ {P : Program} (promised : Promises P) {θ m : Valuation} (meets : Meets
         at j = asks (direction (P .variables) (ruleIn (P .rules) i) j) (kept (P .variables) (ruleIn (P .rules) i) j && shown P θ m (bodyVariable (ruleIn (P .rules) i) j))
 
     conditions-meet : Conditions (system P) θ (shown P θ m) θ′
-    conditions-meet i h t x d (j, l, e, q) = subst (λ y. AskedOf (system P) θ (shown P θ m) θ′ y d) e (go d q)
+    unfolding kept
+    conditions-meet i h t v d (j, l, e, q) =
+        subst (λ w. AskedOf (system P) θ (shown P θ m) θ′ w d) e (go d (ap (λ w. away (variableIn (P .variables) w) (direction (P .variables) (ruleIn (P .rules) i) j)) e ∙ q))
       where
         y : ℕ
         y = bodyVariable (ruleIn (P .rules) i) j
+
+        x : Variable
+        x = variableIn (P .variables) y
 
         declared : y < length (P .variables)
         declared = promised .rules i h .body .terms j l .declared
@@ -254,22 +272,37 @@ module _ {P : Program} (promised : Promises P) {θ m : Valuation} (meets : Meets
         c : Bool
         c = kept (P .variables) (ruleIn (P .rules) i) j && shown P θ m y
 
-        go : (d : Direction) → direction (P .variables) (ruleIn (P .rules) i) j ≡ d → AskedOf (system P) θ (shown P θ m) θ′ y d
-        go Rising q = λ u. most-met y declared (asked-at asksMost i j h l t (ap (λ w. asksMost w c) q ∙ not-kept (kept (P .variables) (ruleIn (P .rules) i) j) (shown P θ m y) u))
-        go Falling q = least-met y declared (asked-at asksLeast i j h l t (ap (λ w. asksLeast w c) q))
-        go Mixed q = (
-          most-met y declared (asked-at asksMost i j h l t (ap (λ w. asksMost w c) q)),
-          least-met y declared (asked-at asksLeast i j h l t (ap (λ w. asksLeast w c) q)),
-        )
+        -- in plain numbers, by the direction in the rule
+        plain : (d : Direction) → direction (P .variables) (ruleIn (P .rules) i) j ≡ d → c ≡ false → Moves d (θ′ y) (θ y)
+        plain Rising q u = most-met y declared (asked-at asksMost i j h l t (ap₂ asksMost q u))
+        plain Falling q u = least-met y declared (asked-at asksLeast i j h l t (ap₂ asksLeast q u))
+        plain Mixed q u =
+            let a = most-met y declared (asked-at asksMost i j h l t (ap₂ asksMost q u)) in
+            let b = least-met y declared (asked-at asksLeast i j h l t (ap₂ asksLeast q u)) in omega int
+
+        -- in the variable's order, by the direction as seen from its starting end
+        onward : c ≡ false → Onward (notPast x) (away x (direction (P .variables) (ruleIn (P .rules) i) j)) (θ′ y) (θ y)
+        onward u = away-moves x (direction (P .variables) (ruleIn (P .rules) i) j) (θ′ y) (θ y) (plain (direction (P .variables) (ruleIn (P .rules) i) j) refl u)
+
+        -- a position that is not kept gives its condition, whatever the set
+        unkept : (d : Direction) → away x (direction (P .variables) (ruleIn (P .rules) i) j) ≡ d → isRising d ≡ false → c ≡ false
+        unkept d q f = ap (λ e. (isRising e && isFounded x) && shown P θ m y) q ∙ ap (λ b. (b && isFounded x) && shown P θ m y) f
+
+        go : (d : Direction) → away x (direction (P .variables) (ruleIn (P .rules) i) j) ≡ d → AskedOf (system P) θ (shown P θ m) θ′ y d
+        go Rising q = λ u. record { le = subst (λ d. Onward (notPast x) d (θ′ y) (θ y)) q (onward (not-kept (kept (P .variables) (ruleIn (P .rules) i) j) (shown P θ m y) u)) }
+        go Falling q = record { le = subst (λ d. Onward (notPast x) d (θ′ y) (θ y)) q (onward (unkept Falling q refl)) }
+        go Mixed q =
+            let e = subst (λ d. Onward (notPast x) d (θ′ y) (θ y)) q (onward (unkept Mixed q refl)) in
+            (subst (λ a. Below (system P) y (θ′ y) a) e (below-refl y (θ′ y)), subst (λ a. Below (system P) y a (θ′ y)) e (below-refl y (θ′ y)))
 
   -- ---- the sentences
 
   pub report-shows : (v : ℕ) × T (shown P θ m v) → Shows P θ b n k
   report-shows s = record {
     inside = omega (arith, length-append (bytesIn es) rest, bytes-length es, all);
-    bounds-marked = λ i h. bound-at i h .marked;
-    once = λ i j h l e. once-by-key (bounds P θ m) (bounds-sorted (shown P θ m) m (length (P .variables))) i j h l
-        (sym (bound-at i h .variable) ∙ e ∙ bound-at j l .variable) (bound-mark i h ∙ sym (bound-mark j l));
+    bounds-marked = marked-by-kind;
+    once = λ i j h l e. once-by-key (bounds P θ m) (bounds-sorted (P .variables) (shown P θ m) m (length (P .variables))) i j h l
+        (same-variable i j h l e) (bound-mark i h ∙ ap (λ v. boundMark (variableIn (P .variables) v)) (same-variable i j h l e) ∙ sym (bound-mark j l));
     conditions-marked = λ i l h. condition-at i l h .marked;
     conditions-once = λ i j l h l′ h′ e q. again i j l l′ (once-by-key (conditions P θ m)
         (conditions-sorted (asked P (shown P θ m) asksMost) (asked P (shown P θ m) asksLeast) θ (length (P .variables))) (i - n) (j - n) (omega arith) (omega arith)
@@ -283,8 +316,11 @@ module _ {P : Program} (promised : Promises P) {θ m : Valuation} (meets : Meets
     keeps = λ θ′ st c v t. rw (bound-is v t) (bounded (laws promised) self least (st .least) (conditions-meet c) v (rw (← shown-is v) t));
   }
     where
-      bound-mark : (i : ℕ) → i < n → entryIn (bounds P θ m) i .mark ≡ 0
-      bound-mark = bounds-every (shown P θ m) m (length (P .variables)) (λ x. x .mark ≡ 0) (λ v t. refl)
+      bound-mark : (i : ℕ) → i < n → entryIn (bounds P θ m) i .mark ≡ boundMark (variableIn (P .variables) (entryIn (bounds P θ m) i .variable))
+      bound-mark = bounds-every (P .variables) (shown P θ m) m (length (P .variables)) (λ e. e .mark ≡ boundMark (variableIn (P .variables) (e .variable))) (λ v t. refl)
+
+      same-variable : (i j : ℕ) → i < n → j < n → variableAt b i ≡ variableAt b j → entryIn (bounds P θ m) i .variable ≡ entryIn (bounds P θ m) j .variable
+      same-variable i j h l e = sym (bound-at i h .variable) ∙ e ∙ bound-at j l .variable
 
       again : (i j : ℕ) → n ≤ i → n ≤ j → i - n ≡ j - n → i ≡ j
       again i j l l′ e = omega arith

@@ -11,7 +11,7 @@ use lib.ListN.{length, getD}
 use lib.Signed.{leZ}
 use Rattle.format.specs.Numbers.{signedAt}
 use Rattle.program.specs.Tables.{_⇒_, select, anyBelow}
-use Rattle.program.specs.Program.{Program}
+use Rattle.program.specs.Program.{Program, variableIn}
 use Rattle.program.specs.Reading.{Accepts}
 use Rattle.meaning.specs.Founded.{Below}
 use Rattle.meaning.specs.Reduct.{system}
@@ -58,21 +58,22 @@ HasUnfounded P θ = (dom : ℕ → Bool) × (bounds : Valuation) × Unfounded (s
 -- ---- what an answer `unfounded n k` with the report b says of the assignment θ
 
 pub record Shows (P : Program) (θ : Valuation) (b : List ℕ) (n k : ℕ) : Type 0 where
-  -- the entries lie in the report; those of the set have mark 0 and no variable twice, those of the conditions mark 1 or 2 and no pair of
-  -- variable and mark twice
+  -- the entries lie in the report; those of the set have mark 0 where the variable's kind is 1, mark 3 where it is 2, and no variable twice, those of the
+  -- conditions mark 1 or 2 and no pair of variable and mark twice
   pub inside : 4 * (n + k) ≤ length b
-  pub bounds-marked : (i : ℕ) → i < n → markAt b i ≡ 0
+  pub bounds-marked : (i : ℕ) → i < n → let x = variableIn (P .variables) (variableAt b i) in ((markAt b i ≡ 0) × (x .kind ≡ 1)) ⊎ ((markAt b i ≡ 3) × (x .kind ≡ 2))
   pub once : (i j : ℕ) → i < n → j < n → variableAt b i ≡ variableAt b j → i ≡ j
   pub conditions-marked : (i : ℕ) → n ≤ i → i < n + k → (markAt b i ≡ 1) ⊎ (markAt b i ≡ 2)
   pub conditions-once : (i j : ℕ) → n ≤ i → i < n + k → n ≤ j → j < n + k → variableAt b i ≡ variableAt b j → markAt b i ≡ markAt b j → i ≡ j
   -- "The set then shown is an unfounded set itself."
   pub is-unfounded : Unfounded (system P) θ (isShown b n) (shownBound b n)
-  -- "It contains the variables of every other unfounded set of the assignment, none of them with a bound above that set's."
+  -- "It contains the variables of every other unfounded set of the assignment, none of them with a bound above that set's.": none further from the starting
+  -- end, in the variable's order
   pub largest : (dom : ℕ → Bool) (bounds : Valuation) → Unfounded (system P) θ dom bounds → (v : ℕ) → T (dom v)
       → T (isShown b n v) × Below (system P) v (shownBound b n v) (bounds v)
   -- "The conditions shown are true of the assignment."
   pub conditions-true : ConditionsMet θ b n k
-  -- "Every stable assignment of the file that meets them keeps each shown variable at or below its shown bound."
+  -- "Every stable assignment of the file that meets them keeps each shown variable at or below its shown bound.": at or above it where it is founded from above
   pub keeps : (θ′ : Valuation) → Stable P θ′ → ConditionsMet θ′ b n k → (v : ℕ) → T (isShown b n v) → Below (system P) v (θ′ v) (shownBound b n v)
 
 -- ---- the demands

@@ -1,11 +1,12 @@
 -- Marked entries of the two sets.
 use native.Mathlib.Omega.{arith}
 use Rattle.words.specs.Bit.{has}
+use Rattle.program.specs.Readings.{valued}
+use Rattle.report.specs.Report.{atMost, atLeast}
 use Rattle.report.proofs.Entries.{marked-count}
-use Rattle.report.proofs.WritingLaws.{conditions-begun}
+use Rattle.report.proofs.WritingLaws.{marked-begun}
 use borrow.Author.Needs.{needs}
 use Rattle.report.proofs.writing.write_conditions.Statement.{statement}
-use Rattle.program.specs.Readings.{valued}
 use Rattle.report.proofs.writing.write_conditions.Tie as tie
 
 write-marked-requires : tie.Need-write-marked-requires
@@ -18,7 +19,7 @@ returns : tie.Need-returns
 returns c =
     let s = c .before .before .before .before .before in
     let w = c .before .before .write-marked in
-    conditions-begun (has (s .args .most .words)) (has (s .args .least .words)) (valued (s .args .values .now)) (s .args .report .now) (w .last .0) (w .ensures)
+    marked-begun (has (s .args .most .words)) (has (s .args .least .words)) atMost atLeast (valued (s .args .values .now)) (s .args .report .now) (w .last .0) (w .ensures)
 
 pub write-conditions-spec : {M : Type 1} → statement M
 write-conditions-spec = tie.close (tie.spec write-marked-requires same-length returns)
