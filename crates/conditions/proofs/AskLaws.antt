@@ -1,39 +1,23 @@
 -- What is asked by one position more, and by one rule more.
 use Prim.Native.Nat.{ℕ, _+_}
 use mathlib.Core.Path.{_≡_, refl, sym, ap, ap₂, _∙_}
-use mathlib.Core.Bool.{Bool, true, false, not, _||_, _&&_, or-false, or-assoc}
+use mathlib.Core.Bool.{Bool, true, false, _||_, _&&_, or-false, or-assoc}
 use mathlib.Core.List.{List}
 use lib.Dec.{eqb}
 use lib.ListN.{length}
 use Rattle.words.specs.Bit.{has}
 use Rattle.program.specs.Tables.{anyBelow}
 use Rattle.program.specs.Program.{Rule, ruleOf}
-use Rattle.program.specs.Directions.{direction, isRising}
+use Rattle.program.specs.Directions.{direction}
 use Rattle.program.specs.Readings.{bodyVariable, kept}
 use Rattle.program.specs.declared.Variable.{Variable}
 use Rattle.program.specs.declared.Direction.{Direction}
-use Rattle.program.specs.declared.Direction.the-variants.{Rising, Falling, Mixed}
 use Rattle.program.proofs.Conditions.{any-none, any-next}
 use Rattle.positions.specs.Positions.{PositionIs}
 use Rattle.positions.specs.declared.Position.{Position}
 use Rattle.report.specs.Report.{asksMost, asksLeast, askedAt, askedBy}
 use Rattle.conditions.specs.Asking.{Asking, AsksMore, askedInto}
 use Rattle.conditions.specs.declared.asking.Asked.{Asked}
-
--- 'at least' goes by the direction alone
-least-any : (d : Direction) (except : Bool) → asksLeast d false ≡ asksLeast d except
-least-any Rising except = refl
-least-any Falling except = refl
-least-any Mixed except = refl
-
--- and is asked where the position does not rise
-pub least-is : (d : Direction) {b : Bool} → b ≡ isRising d → not b ≡ asksLeast d false
-least-is d e = ap not e ∙ by d
-  where
-    by : (d : Direction) → not (isRising d) ≡ asksLeast d false
-    by Rising = refl
-    by Falling = refl
-    by Mixed = refl
 
 -- the head that was read is that of the field's rule
 pub head-of : {v w : List ℕ} {h : ℕ} → v ≡ w → h ≡ ruleOf v .head → h ≡ ruleOf w .head
@@ -43,7 +27,7 @@ module _ (vs : List Variable) (set : ℕ → Bool) (r : Rule) where
   -- one position
   pub position-asks : (j : ℕ) {p : Position} {old new : Asked} {inside most least : Bool}
       → PositionIs vs r j p → inside ≡ set (p .variable)
-      → most ≡ asksMost (p .direction) (p .kept && inside) → least ≡ asksLeast (p .direction) false
+      → most ≡ asksMost (p .direction) (p .kept && inside) → least ≡ asksLeast (p .direction) (p .kept && inside)
       → ((v : ℕ) → has (new .most .words) v ≡ (has (old .most .words) v || (most && eqb (p .variable) v)))
       → ((v : ℕ) → has (new .least .words) v ≡ (has (old .least .words) v || (least && eqb (p .variable) v)))
       → AsksMore old new (λ asks. askedAt vs set asks r j)
@@ -51,7 +35,7 @@ module _ (vs : List Variable) (set : ℕ → Bool) (r : Rule) where
   position-asks j {p} {old} {new} {inside} is i m l f g = record {
     most = λ v. f v ∙ ap (λ (b : Bool). has (old .most .words) v || b) (ap₂ _&&_ (m ∙ same asksMost) (ap (λ (x : ℕ). eqb x v) (is .variable-is)));
     least = λ v. g v ∙ ap (λ (b : Bool). has (old .least .words) v || b)
-        (ap₂ _&&_ (l ∙ least-any (p .direction) (p .kept && inside) ∙ same asksLeast) (ap (λ (x : ℕ). eqb x v) (is .variable-is)));
+        (ap₂ _&&_ (l ∙ same asksLeast) (ap (λ (x : ℕ). eqb x v) (is .variable-is)));
   }
     where
       same : (asks : Direction → Bool → Bool) → asks (p .direction) (p .kept && inside) ≡ asks (direction vs r j) (kept vs r j && set (bodyVariable r j))

@@ -1,6 +1,5 @@
 // What the positions of one rule ask of the assignment.
 ghost use mathlib.Core.Path.{_≡_};
-ghost use mathlib.Core.Bool.{false};
 ghost use Prim.Native.Nat.{_<_};
 ghost use lib.ListN.{length};
 ghost use Rattle.words.specs.Bit.{has};
@@ -20,7 +19,7 @@ pub struct Asked {
     pub least: Set,
 }
 
-// Whether a position asks 'at most'; `except` where it is kept and its variable in the set.
+// Whether a position asks 'at most' and 'at least'; `except` where it is kept and its variable in the set.
 fn asks_most(d: Direction, except: bool) -> bool
     ensures { λ r. ⌜ r ≡ asksMost d except ⌝ }
 {
@@ -31,11 +30,14 @@ fn asks_most(d: Direction, except: bool) -> bool
     }
 }
 
-// Whether a position asks 'at least', which goes by its direction alone.
-fn asks_least(d: Direction) -> bool
-    ensures { λ r. ⌜ r ≡ asksLeast d false ⌝ }
+fn asks_least(d: Direction, except: bool) -> bool
+    ensures { λ r. ⌜ r ≡ asksLeast d except ⌝ }
 {
-    !d.is_rising()
+    match d {
+        Direction::Rising => false,
+        Direction::Falling => !except,
+        Direction::Mixed => true,
+    }
 }
 
 // What position j of the rule in a field's value asks, besides what was asked before.
@@ -55,11 +57,12 @@ fn ask_position(
     let d = p.direction;
     let x = p.variable;
     let inside = set.contains(x);
+    let except = p.kept & inside;
     let most = before.most;
     let least = before.least;
     Asked {
-        most: with_if(most, x, asks_most(d, p.kept & inside)),
-        least: with_if(least, x, asks_least(d)),
+        most: with_if(most, x, asks_most(d, except)),
+        least: with_if(least, x, asks_least(d, except)),
     }
 }
 

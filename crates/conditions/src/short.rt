@@ -1,29 +1,32 @@
 // The set that a report shows.
-ghost use mathlib.Core.Path.{_≡_};
-ghost use Prim.Native.Nat.{ℕ, _*_, _≤_};
+ghost use Prim.Native.Nat.{_*_, _≤_};
 ghost use lib.ListN.{length};
 ghost use Rattle.format.specs.Limits.{maxVariables};
-ghost use Rattle.program.specs.Program.{variablesAt, variableIn};
-ghost use Rattle.words.specs.Bit.{has};
-ghost use Rattle.program.specs.Variables.{short};
+ghost use Rattle.program.specs.Program.{variablesAt};
 ghost use Rattle.program.specs.Readings.{valued};
+ghost use Rattle.conditions.specs.Shortfall.{ShortIs};
 use crate::members::with_if;
 use format::Format;
 use parts::variables;
 use sets::Set;
 
-// The founded variables whose value in the model comes before their assigned one.
-pub fn short_set(
+// The founded variables whose value in the model comes before their assigned one: those that are not founded from above, and those that are.
+pub struct Short {
+    pub below: Set,
+    pub above: Set,
+}
+
+pub fn short_sets(
     file: &[u8],
     variables: usize,
     assigned: &[i64; Format::MAX_VARIABLES],
     model: &[i64; Format::MAX_VARIABLES],
-) -> Set
+) -> Short
     requires { ⌜ (8 * variables ≤ length (now file)) × (variables ≤ maxVariables) ⌝ }
-    ensures { λ r. ⌜ ((v : ℕ)
-        → has (r .words) v ≡ short (variableIn (variablesAt (now (file .entry)) variables) v) (valued (now (assigned .entry)) v) (valued (now (model .entry)) v)) ⌝ }
+    ensures { λ r. ⌜ ShortIs (variablesAt (now (file .entry)) variables) (valued (now (assigned .entry))) (valued (now (model .entry))) r ⌝ }
 {
-    let mut set = Set::empty();
+    let mut below = Set::empty();
+    let mut above = Set::empty();
     let mut v = 0;
     while v < variables {
         let given = assigned[v];
@@ -31,8 +34,13 @@ pub fn short_set(
         let x = v as u8;
         let variable = variables::variable(file, x);
         let short = variable.is_short(given, least);
-        set = with_if(set, x, short);
+        let down = variable.is_from_above();
+        below = with_if(below, x, short & !down);
+        above = with_if(above, x, short & down);
         v += 1;
     }
-    set
+    Short {
+        below: below,
+        above: above,
+    }
 }
