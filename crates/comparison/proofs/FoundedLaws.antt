@@ -1,7 +1,7 @@
 -- The least model compared with the assignment: what the code's sets and counts say.
 use Prim.Native.Nat.{ℕ, zero, suc, _+_, _*_, _<_, _≤_}
 use mathlib.Core.Path.{_≡_, refl, sym, ap, ap₂, subst, _∙_}
-use mathlib.Core.Bool.{Bool, true, false, not, _&&_}
+use mathlib.Core.Bool.{Bool, true, false, not, _||_, _&&_}
 use mathlib.Core.List.{List, [], _++_}
 use native.Mathlib.Omega.{arith}
 use borrow.Author.Tests.{eqb-true}
@@ -9,7 +9,7 @@ use lib.Dec.{T, eqb, not-T, ltb, ltb→lt, nltb→le}
 use lib.IntN.{ℤ, pos}
 use lib.ListN.{length, drop}
 use Rattle.format.specs.Limits.{maxVariables}
-use Rattle.words.specs.Bit.{one-if, countFrom}
+use Rattle.words.specs.Bit.{has, one-if, countFrom}
 use Rattle.program.specs.Program.{Program, ruleIn, variableIn, variablesAt}
 use Rattle.program.specs.Variables as variables
 use Rattle.program.specs.Reading.{AcceptedAs, Accepts}
@@ -28,10 +28,14 @@ use Rattle.run.specs.declared.Ending.the-variants as ending
 use Rattle.meaning.proofs.InRanges.{founded-declared, past-zero, within-small}
 use Rattle.meaning.proofs.Theory.{self-model, self-least-iff}
 use Rattle.meaning.proofs.Monotone.{laws}
-use Rattle.report.specs.Report.{bytesIn, ascending, boundsOf, conditionsOf, asksMost, asksLeast, askedAt, askedBy, asked, shown, bounds, conditions, reported}
-use Rattle.report.proofs.Entries.{ascending-past, bounds-count, conditions-count}
+use Rattle.report.specs.Report.{bytesIn, bound, boundAbove, atMost, atLeast, ascending, boundsOf, conditionsOf, asksMost, asksLeast, askedAt, askedBy, asked, shown, bounds, conditions, reported}
+use Rattle.report.specs.Written.{marked, fromBelowIn, fromAboveIn}
+use Rattle.report.proofs.Entries.{ascending-past, bounds-count, marked-count}
+use Rattle.report.proofs.WritingLaws.{marked-bounds}
+use Rattle.conditions.specs.Shortfall.{shortIn, ShortIs}
+use Rattle.conditions.specs.declared.short.Short.{Short}
 use Rattle.verdict.specs.Checks.{Answer, unfounded, stable, answerOf, Judged, some-shown, is-stable, checkBytes}
-use Rattle.comparison.specs.Shows.{ShowsSets}
+use Rattle.comparison.specs.Shows.{entryCount, ShowsSets}
 use Rattle.verdict.specs.declared.Verdict.{Verdict}
 use Rattle.program.specs.Readings.{Valuation, bodyVariable, kept, valued}
 use Rattle.program.specs.declared.Variable.{Variable}
@@ -70,12 +74,12 @@ count-none p a (suc n) e v h l = go (p a) refl e (λ q k m. count-none p (suc a)
 
 -- nothing past n counts
 module _ (p : ℕ → Bool) (n : ℕ) (past : (v : ℕ) → n ≤ v → p v ≡ false) (few : n ≤ maxVariables) where
-  none-past : (v : ℕ) → n ≤ v → boundsOf p (λ w. pos 0) v ≡ []
+  none-past : (v : ℕ) → n ≤ v → boundsOf [] p (λ w. pos 0) v ≡ []
   none-past v h = rw (past v h)
 
   pub count-past : countFrom p 0 maxVariables ≡ countFrom p 0 n
   count-past =
-      sym (bounds-count p (λ w. pos 0) maxVariables) ∙ ap length (ascending-past (boundsOf p (λ w. pos 0)) n maxVariables none-past few) ∙ bounds-count p (λ w. pos 0) n
+      sym (bounds-count [] p (λ w. pos 0) maxVariables) ∙ ap length (ascending-past (boundsOf [] p (λ w. pos 0)) n maxVariables none-past few) ∙ bounds-count [] p (λ w. pos 0) n
 
   pub count-few : countFrom p 0 maxVariables ≤ n
   count-few = omega (arith, count-past, count-most p 0 n)
@@ -126,53 +130,59 @@ module _ {P : Program} (promised : Promises P) (few : length (P .variables) ≤ 
           (count-none set 0 maxVariables e v (omega arith)
           (let l = founded-declared (P .variables) v (short-founded (variableIn (P .variables) v) (θ v) (m v) t) in omega arith)))
 
-  module _ (most lower : ℕ → Bool) (most-is : (v : ℕ) → most v ≡ asked P set asksMost v) (least-is : (v : ℕ) → lower v ≡ asked P set asksLeast v) where
+  module _ (below above : ℕ → Bool) (below-is : (v : ℕ) → below v ≡ fromBelowIn (P .variables) (shown P θ m) v)
+      (above-is : (v : ℕ) → above v ≡ fromAboveIn (P .variables) (shown P θ m) v)
+      (most lower : ℕ → Bool) (most-is : (v : ℕ) → most v ≡ asked P set asksMost v) (least-is : (v : ℕ) → lower v ≡ asked P set asksLeast v) where
     same-most : most ≡ asked P (shown P θ m) asksMost
     same-most = (λ i v. most-is v i) ∙ ap (λ (p : ℕ → Bool). asked P p asksMost) same-set
 
     same-least : lower ≡ asked P (shown P θ m) asksLeast
     same-least = (λ i v. least-is v i) ∙ ap (λ (p : ℕ → Bool). asked P p asksLeast) same-set
 
-    -- the report has room
-    pub room-enough : 12 * length (P .variables) ≤ length b → 4 * (countFrom set 0 maxVariables + (countFrom most 0 maxVariables + countFrom lower 0 maxVariables)) ≤ length b
-    room-enough h =
-        let x = count-few set (length (P .variables)) (λ v l. is v ∙ shown-past promised θ m v l) few in
-        let y = count-few most (length (P .variables)) (λ v l. most-is v ∙ asked-past promised set asksMost v l) few in
-        let z = count-few lower (length (P .variables)) (λ v l. least-is v ∙ asked-past promised set asksLeast v l) few in omega arith
-
     abbrev n : ℕ
     n = length (P .variables)
 
-    bounds-are : ascending (boundsOf (shown P θ m) m) maxVariables ≡ bounds P θ m
-    bounds-are = ascending-past (boundsOf (shown P θ m) m) n maxVariables (λ v h. rw (shown-past promised θ m v h)) few
+    -- the two parts are the set
+    parts-are : marked below bound above boundAbove m ≡ ascending (boundsOf (P .variables) (shown P θ m) m) maxVariables
+    parts-are = ap₂ (λ (p q : ℕ → Bool). marked p bound q boundAbove m) (λ i v. below-is v i) (λ i v. above-is v i) ∙ marked-bounds (P .variables) (shown P θ m) m maxVariables
 
-    conditions-are : ascending (conditionsOf (asked P (shown P θ m) asksMost) (asked P (shown P θ m) asksLeast) θ) maxVariables ≡ conditions P θ m
-    conditions-are = ascending-past (conditionsOf (asked P (shown P θ m) asksMost) (asked P (shown P θ m) asksLeast) θ) n maxVariables
+    parts-count : countFrom below 0 maxVariables + countFrom above 0 maxVariables ≡ countFrom (shown P θ m) 0 maxVariables
+    parts-count = sym (marked-count below above bound boundAbove m maxVariables) ∙ ap length parts-are ∙ bounds-count (P .variables) (shown P θ m) m maxVariables
+
+    bounds-are : marked below bound above boundAbove m ≡ bounds P θ m
+    bounds-are = parts-are ∙ ascending-past (boundsOf (P .variables) (shown P θ m) m) n maxVariables (λ v h. rw (shown-past promised θ m v h)) few
+
+    conditions-are : marked most atMost lower atLeast θ ≡ conditions P θ m
+    conditions-are =
+        ap₂ (λ (p q : ℕ → Bool). marked p atMost q atLeast θ) same-most same-least
+        ∙ ascending-past (conditionsOf (asked P (shown P θ m) asksMost) (asked P (shown P θ m) asksLeast) θ) n maxVariables
         (λ v h. rw (asked-past promised (shown P θ m) asksMost v h, asked-past promised (shown P θ m) asksLeast v h)) few
 
-    bounds-length : countFrom (shown P θ m) 0 maxVariables ≡ length (bounds P θ m)
-    bounds-length = sym (bounds-count (shown P θ m) m maxVariables) ∙ ap length bounds-are
+    bounds-length : countFrom below 0 maxVariables + countFrom above 0 maxVariables ≡ length (bounds P θ m)
+    bounds-length = sym (marked-count below above bound boundAbove m maxVariables) ∙ ap length bounds-are
 
-    conditions-length : countFrom (asked P (shown P θ m) asksMost) 0 maxVariables + countFrom (asked P (shown P θ m) asksLeast) 0 maxVariables ≡ length (conditions P θ m)
-    conditions-length = sym (conditions-count (asked P (shown P θ m) asksMost) (asked P (shown P θ m) asksLeast) θ maxVariables) ∙ ap length conditions-are
+    conditions-length : countFrom most 0 maxVariables + countFrom lower 0 maxVariables ≡ length (conditions P θ m)
+    conditions-length = sym (marked-count most lower atMost atLeast θ maxVariables) ∙ ap length conditions-are
 
-    pub all-shown : (countFrom set 0 maxVariables ≡ 0 → ⊥) → (b′ : List ℕ) (r : Verdict) → ShowsSets set most lower m θ b b′ r → Judged P θ b (answerOf r) b′
+    -- the report has room: a variable has one bound at most and two conditions
+    pub room-enough : 12 * n ≤ length b
+        → 4 * ((countFrom below 0 maxVariables + countFrom above 0 maxVariables) + (countFrom most 0 maxVariables + countFrom lower 0 maxVariables)) ≤ length b
+    room-enough h =
+        let x = count-few (shown P θ m) n (λ v l. shown-past promised θ m v l) few in
+        let y = count-few most n (λ v l. most-is v ∙ asked-past promised set asksMost v l) few in
+        let z = count-few lower n (λ v l. least-is v ∙ asked-past promised set asksLeast v l) few in omega (arith, parts-count)
+
+    pub all-shown : (countFrom set 0 maxVariables ≡ 0 → ⊥) → (b′ : List ℕ) (r : Verdict) → ShowsSets below above most lower m θ b b′ r → Judged P θ b (answerOf r) b′
     all-shown some b′ r w =
         subst (λ (x : List ℕ). Judged P θ b (answerOf r) x) (sym bytes)
         (subst (λ (x : Answer). Judged P θ b x (reported P θ m b)) (sym answer)
         (some-shown meets least (let v = count-some set 0 maxVariables some in (v .0, subst (λ (p : ℕ → Bool). T (p (v .0))) same-set (v .1)))))
       where
-        shows : ShowsSets (shown P θ m) (asked P (shown P θ m) asksMost) (asked P (shown P θ m) asksLeast) m θ b b′ r
-        shows =
-            subst (λ (p : ℕ → Bool). ShowsSets p (asked P (shown P θ m) asksMost) (asked P (shown P θ m) asksLeast) m θ b b′ r) same-set
-            (subst (λ (p : ℕ → Bool). ShowsSets set p (asked P (shown P θ m) asksLeast) m θ b b′ r) same-most
-            (subst (λ (p : ℕ → Bool). ShowsSets set most p m θ b b′ r) same-least w))
-
         answer : answerOf r ≡ unfounded (length (bounds P θ m)) (length (conditions P θ m))
-        answer = shows .answer ∙ ap₂ unfounded bounds-length conditions-length
+        answer = w .answer ∙ ap₂ unfounded bounds-length conditions-length
 
         bytes : b′ ≡ reported P θ m b
-        bytes = shows .bytes ∙ ap₂ _++_ (ap bytesIn (ap₂ _++_ bounds-are conditions-are)) (ap (λ (j : ℕ). drop (4 * j) b) (ap₂ _+_ bounds-length conditions-length))
+        bytes = w .bytes ∙ ap₂ _++_ (ap bytesIn (ap₂ _++_ bounds-are conditions-are)) (ap (λ (j : ℕ). drop (4 * j) b) (ap₂ _+_ bounds-length conditions-length))
 
 -- ---- a file with these counts, in which every program that it means is met by θ
 
@@ -195,10 +205,25 @@ module _ (s : List ℕ) (k : Counts) (r : AcceptedAs s k) (θ : List ℤ)
     model-small : Small m
     model-small = let a = reads-accepts r in within-small (accepts-promises (a .accepts)) m (least (a .meant) (a .accepts) .model .within)
 
-    module _ (set : ℕ → Bool) (is : (v : ℕ) → set v ≡ variables.short (variableIn (variablesAt s (k .variables)) v) (valued θ v) (valued m v)) where
+    -- the two parts of what is short, and their union
+    module _ (parts : Short) (short : ShortIs (variablesAt s (k .variables)) (valued θ) (valued m) parts)
+        (set : ℕ → Bool) (union : (v : ℕ) → set v ≡ (has (parts .below .words) v || has (parts .above .words) v)) where
       set-is : (P : Program) → Accepts s P → (v : ℕ) → set v ≡ shown P (valued θ) (valued m) v
       set-is P x v =
-          is v ∙ ap (λ (vs : List Variable). variables.short (variableIn vs v) (valued θ v) (valued m v)) (sym (variables-are r x))
+          union v ∙ ap₂ _||_ (short .below v) (short .above v)
+          ∙ whole (shortIn (variablesAt s (k .variables)) (valued θ) (valued m) v) (variables.fromAbove (variableIn (variablesAt s (k .variables)) v))
+          ∙ ap (λ (vs : List Variable). shortIn vs (valued θ) (valued m) v) (sym (variables-are r x))
+        where
+          whole : (a d : Bool) → ((a && not d) || (a && d)) ≡ a
+          whole true true = refl
+          whole true false = refl
+          whole false d = refl
+
+      below-is : (P : Program) → Accepts s P → (v : ℕ) → has (parts .below .words) v ≡ fromBelowIn (P .variables) (shown P (valued θ) (valued m)) v
+      below-is P x v = short .below v ∙ ap (λ (vs : List Variable). fromBelowIn vs (shortIn vs (valued θ) (valued m)) v) (sym (variables-are r x))
+
+      above-is : (P : Program) → Accepts s P → (v : ℕ) → has (parts .above .words) v ≡ fromAboveIn (P .variables) (shown P (valued θ) (valued m)) v
+      above-is P x v = short .above v ∙ ap (λ (vs : List Variable). fromAboveIn vs (shortIn vs (valued θ) (valued m)) v) (sym (variables-are r x))
 
       few-in : (P : Program) → Accepts s P → length (P .variables) ≤ maxVariables
       few-in P x = program-limited x .few-variables
@@ -208,17 +233,17 @@ module _ (s : List ℕ) (k : Counts) (r : AcceptedAs s k) (θ : List ℤ)
 
       module _ (most lower : ℕ → Bool) (most-is : (P : Program) → Accepts s P → (v : ℕ) → most v ≡ asked P set asksMost v)
           (least-is : (P : Program) → Accepts s P → (v : ℕ) → lower v ≡ asked P set asksLeast v) where
-        pub shown-room : checkBytes * k .variables ≤ length b
-            → 4 * (countFrom set 0 maxVariables + (countFrom most 0 maxVariables + countFrom lower 0 maxVariables)) ≤ length b
+        pub shown-room : checkBytes * k .variables ≤ length b → 4 * entryCount (has (parts .below .words)) (has (parts .above .words)) most lower ≤ length b
         shown-room h =
             let x = reads-accepts r .accepts in let P = reads-accepts r .meant in
-            room-enough (accepts-promises x) (few-in P x) (meets P x) (least P x) set (set-is P x) b most lower (most-is P x) (least-is P x)
+            room-enough (accepts-promises x) (few-in P x) (meets P x) (least P x) set (set-is P x) b _ _ (below-is P x) (above-is P x) most lower (most-is P x) (least-is P x)
             (omega (arith, counts-of r x .variables-are))
 
         pub shown-small : Small m × Small θ
         shown-small = (model-small, assigned-small)
 
-        pub some-short : (countFrom set 0 maxVariables ≡ 0 → ⊥) → (b′ : List ℕ) (v : Verdict) → ShowsSets set most lower (valued m) (valued θ) b b′ v
+        pub some-short : (countFrom set 0 maxVariables ≡ 0 → ⊥) → (b′ : List ℕ) (v : Verdict)
+            → ShowsSets (has (parts .below .words)) (has (parts .above .words)) most lower (valued m) (valued θ) b b′ v
             → (P : Program) → Accepts s P → Judged P (valued θ) b (answerOf v) b′
         some-short q b′ v w P x =
-            all-shown (accepts-promises x) (few-in P x) (meets P x) (least P x) set (set-is P x) b most lower (most-is P x) (least-is P x) q b′ v w
+            all-shown (accepts-promises x) (few-in P x) (meets P x) (least P x) set (set-is P x) b _ _ (below-is P x) (above-is P x) most lower (most-is P x) (least-is P x) q b′ v w

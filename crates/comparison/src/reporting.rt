@@ -7,25 +7,27 @@ ghost use Rattle.comparison.specs.Shows.{entryCount, withSets};
 ghost use Rattle.program.specs.Readings.{valued};
 ghost use Rattle.program.specs.Evaluable.{Small};
 use conditions::asking::Asked;
+use conditions::short::Short;
 use format::Format;
 use report::writing;
-use sets::Set;
 
 // The bounds, and directly after the last of them the conditions.
 pub fn write_report(
     report: &mut [u8],
-    set: Set,
+    short: Short,
     asked: Asked,
     model: &[i64; Format::MAX_VARIABLES],
     assigned: &[i64; Format::MAX_VARIABLES],
 )
-    requires { ⌜ 4 * entryCount (has (set .words)) (has (asked .most .words)) (has (asked .least .words)) ≤ length (now report) ⌝ }
+    requires { ⌜ 4 * entryCount (has (short .below .words)) (has (short .above .words)) (has (asked .most .words)) (has (asked .least .words)) ≤ length (now report) ⌝ }
     requires { ⌜ Small (now model) × Small (now assigned) ⌝ }
     ensures { λ _. ⌜ now (report .exit)
-        ≡ withSets (has (set .words)) (has (asked .most .words)) (has (asked .least .words)) (valued (now (model .entry))) (valued (now (assigned .entry)))
-        (now (report .entry)) ⌝ }
+        ≡ withSets (has (short .below .words)) (has (short .above .words)) (has (asked .most .words)) (has (asked .least .words)) (valued (now (model .entry)))
+        (valued (now (assigned .entry))) (now (report .entry)) ⌝ }
 {
-    let n = set.count() as usize;
-    writing::write_bounds(report, set, model);
+    let below = short.below.count() as usize;
+    let above = short.above.count() as usize;
+    let n = below + above;
+    writing::write_bounds(report, short.below, short.above, model);
     writing::write_conditions(&mut report[4 * n..], asked.most, asked.least, assigned);
 }

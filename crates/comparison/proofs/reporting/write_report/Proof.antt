@@ -1,8 +1,9 @@
 -- The bounds take the first entries, the conditions are written into the rest, and together they are the report's bytes.
 use Rattle.format.specs.Limits.{maxVariables}
 use Rattle.words.specs.Bit.{has}
-use Rattle.report.specs.Report.{ascending, boundsOf, conditionsOf}
-use Rattle.report.proofs.Entries.{bounds-count, conditions-count}
+use Rattle.report.specs.Report.{bound, boundAbove, atMost, atLeast}
+use Rattle.report.specs.Written.{marked}
+use Rattle.report.proofs.Entries.{marked-count}
 use Rattle.comparison.proofs.ReportLaws.{report-bytes}
 use borrow.Author.Needs.{needs}
 use Rattle.comparison.proofs.reporting.write_report.Statement.{statement}
@@ -12,8 +13,17 @@ use Rattle.comparison.proofs.reporting.write_report.Tie as tie
 count-requires : tie.Need-count-requires
 count-requires c κs = search needs
 
-cast-n : tie.Need-cast-n
-cast-n c = search needs
+cast-below : tie.Need-cast-below
+cast-below c = search needs
+
+count-requires-2 : tie.Need-count-requires-2
+count-requires-2 c κs = search needs
+
+cast-above : tie.Need-cast-above
+cast-above c = search needs
+
+add-n : tie.Need-add-n
+add-n c = search needs
 
 write-bounds-requires : tie.Need-write-bounds-requires
 write-bounds-requires c κs = search needs
@@ -38,22 +48,30 @@ same-length c = search needs
 
 returns : tie.Need-returns
 returns c =
-    let b = c .before .before .before .before .before .before .before .before .before .before in
-    let k = c .before .before .before .before .before .before .before .before .count in
-    let w = c .before .before .before .before .before .before .write-bounds in
-    let p = has (b .args .set .words) in
+    let w = c .before .before .before .before .before .before in
+    let k = w .before .before in
+    let b = k .before .before .before in
+    let p = has (b .args .short .below .words) in
+    let o = has (b .args .short .above .words) in
     let q = has (b .args .asked .most .words) in
     let r = has (b .args .asked .least .words) in
-    rw (k .ensures) (report-bytes (ascending (boundsOf p (valued (b .args .model .now))) maxVariables) (ascending (conditionsOf q r (valued (b .args .assigned .now))) maxVariables)
-    (b .args .report .now) _ _ (bounds-count p _ maxVariables) (conditions-count q r _ maxVariables) (b .pre .0)
-    (w .last .0) (c .before .before .write-conditions .last .0) (w .ensures) (rw (k .ensures) at (c .before .before .write-conditions .ensures)))
+    let m = valued (b .args .model .now) in
+    let θ = valued (b .args .assigned .now) in
+    let v = c .before .before .write-conditions in
+    rw (k .before .count .ensures, k .count2 .ensures)
+    (report-bytes (marked p bound o boundAbove m) (marked q atMost r atLeast θ) (b .args .report .now) _ _
+    (marked-count p o bound boundAbove m maxVariables) (marked-count q r atMost atLeast θ maxVariables) (b .pre .0)
+    (w .write-bounds .last .0) (v .last .0) (w .write-bounds .ensures) (rw (k .before .count .ensures, k .count2 .ensures) at (v .ensures)))
 
 pub write-report-spec : {M : Type 1} → statement M
 write-report-spec =
     tie.close
     (tie.spec
     count-requires
-    cast-n
+    cast-below
+    count-requires-2
+    cast-above
+    add-n
     write-bounds-requires
     mul-write-conditions
     sub-write-conditions
