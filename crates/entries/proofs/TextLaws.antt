@@ -36,9 +36,13 @@ module _ (v mark : ℕ) (z : ℤ) where
   unfolding entryLine
   at-least-line e = rw e refl
 
-  pub no-line : (mark ≡ 0 → ⊥) → (mark ≡ 1 → ⊥) → (mark ≡ 2 → ⊥) → [] ≡ entryLine v mark z
+  pub least-line : mark ≡ 3 → entryWith (word "least ") v (word " ") z ≡ entryLine v mark z
   unfolding entryLine
-  no-line h k l = simp (ne-eqb mark 0 h, ne-eqb mark 1 k, ne-eqb mark 2 l)
+  least-line e = rw e refl
+
+  pub no-line : (mark ≡ 0 → ⊥) → (mark ≡ 1 → ⊥) → (mark ≡ 2 → ⊥) → (mark ≡ 3 → ⊥) → [] ≡ entryLine v mark z
+  unfolding entryLine
+  no-line h k l n = simp (ne-eqb mark 0 h, ne-eqb mark 1 k, ne-eqb mark 2 l, ne-eqb mark 3 n)
 
 -- ---- how long it is
 
@@ -56,15 +60,17 @@ with-length x v y z h k =
 
 pub entry-short : (v mark : ℕ) (z : ℤ) → v < 256 → natAbs z ≤ 32768 → length (entryLine v mark z) ≤ entryMost
 unfolding entryLine
-entry-short v mark z h k = go (eqb mark 0) (eqb mark 1) (eqb mark 2)
+entry-short v mark z h k = go (eqb mark 0) (eqb mark 1) (eqb mark 2) (eqb mark 3)
   where
-    go : (p q r : Bool) → length
+    go : (p q r s : Bool) → length
         (cond p (entryWith (word "most ") v (word " ") z)
-        (cond q (entryWith (word "when ") v (word " <= ") z) (cond r (entryWith (word "when ") v (word " >= ") z) []))) ≤ entryMost
-    go true q r = omega (arith, with-length (word "most ") v (word " ") z h k)
-    go false true r = omega (arith, with-length (word "when ") v (word " <= ") z h k)
-    go false false true = omega (arith, with-length (word "when ") v (word " >= ") z h k)
-    go false false false = omega arith
+        (cond q (entryWith (word "when ") v (word " <= ") z)
+        (cond r (entryWith (word "when ") v (word " >= ") z) (cond s (entryWith (word "least ") v (word " ") z) [])))) ≤ entryMost
+    go true q r s = omega (arith, with-length (word "most ") v (word " ") z h k)
+    go false true r s = omega (arith, with-length (word "when ") v (word " <= ") z h k)
+    go false false true s = omega (arith, with-length (word "when ") v (word " >= ") z h k)
+    go false false false true = omega (arith, with-length (word "least ") v (word " ") z h k)
+    go false false false false = omega arith
 
 -- an entry's line is written
 pub entry-done : (v mark : ℕ) (z : ℤ) → v < 256 → natAbs z ≤ 32768 → {x : List ℕ} {at k : ℕ} {c d : List ℕ} → x ≡ entryLine v mark z → Appends x at k c d

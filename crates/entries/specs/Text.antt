@@ -6,7 +6,7 @@ use Prim.Native.String as string
 use mathlib.Core.List.{List, [], _∷_, _++_}
 use lib.IntN.{ℤ}
 use Rattle.program.specs.Tables.{_⇒_, select}
-use Rattle.report.specs.Report.{bound, atMost, atLeast}
+use Rattle.report.specs.Report.{bound, boundAbove, atMost, atLeast}
 use Rattle.verdict.specs.Checks.{Answer, refusal, range, rule, constraint, unfounded, stable}
 use Rattle.verdict.specs.Demands.{variableAt, markAt, numberAt}
 use Rattle.text.specs.Decimal.{decimal, number}
@@ -29,12 +29,14 @@ answerLine (constraint i) = line (word "constraint " ++ decimal i)
 answerLine (unfounded n k) = line (word "unfounded " ++ decimal n ++ word " " ++ decimal k)
 answerLine stable = line (word "stable")
 
--- "then `most V N` for bounds and `when V <= N` or `when V >= N` for conditions": an entry's line goes by its mark
+-- "then `most V N` for bounds and `when V <= N` or `when V >= N` for conditions"; document 02, wish 3: "Its bound entry has mark 3 and prints `least V N`".
+-- An entry's line goes by its mark
 unfoldable pub entryLine : ℕ → ℕ → ℤ → List ℕ
 entryLine v mark z = select mark (
     (bound ⇒ line (word "most " ++ decimal v ++ word " " ++ number z))
     ∷ (atMost ⇒ line (word "when " ++ decimal v ++ word " <= " ++ number z))
     ∷ (atLeast ⇒ line (word "when " ++ decimal v ++ word " >= " ++ number z))
+    ∷ (boundAbove ⇒ line (word "least " ++ decimal v ++ word " " ++ number z))
     ∷ []
     ) []
 

@@ -39,6 +39,7 @@ fn put_entry(output: &mut [u8], at: usize, report: &[u8], i: usize) -> usize
         Mark::BOUND => put_line(output, at, b"most ", v, b" ", z),
         Mark::AT_MOST => put_line(output, at, b"when ", v, b" <= ", z),
         Mark::AT_LEAST => put_line(output, at, b"when ", v, b" >= ", z),
+        Mark::BOUND_ABOVE => put_line(output, at, b"least ", v, b" ", z),
         _ => at,
     }
 }

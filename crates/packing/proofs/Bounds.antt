@@ -67,7 +67,7 @@ least-fits (least.least-model c i l) = alone 8 (omega arith)
 module _ {s : List ℕ} {P : Program} (a : Accepts s P) where
   bounds-few : (θ m : Valuation) → length (bounds P θ m) < 65536
   bounds-few θ m =
-      omega (arith, bounds-count (shown P θ m) m (length (P .variables)), count-most (shown P θ m) (length (P .variables)), program-limited a .few-variables)
+      omega (arith, bounds-count (P .variables) (shown P θ m) m (length (P .variables)), count-most (shown P θ m) (length (P .variables)), program-limited a .few-variables)
 
   conditions-few : (θ m : Valuation) → length (conditions P θ m) < 65536
   conditions-few θ m =

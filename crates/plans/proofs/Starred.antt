@@ -18,7 +18,7 @@ use Rattle.program.specs.Refusals.{cutShort, unknownTag, tagBelow, oneTooMany, 
 use Rattle.program.specs.Refusals.{unknownForm, wrongDivisor, wrongConstraint, wrongForm, outsideTerm, outsideDivisor, outsideRange, undeclaredTerm, wrongHead, undeclared}
 use Rattle.program.specs.Refusals.{wrongCountOf, wrongDivisors, wrongCount, repeatedTerm, variableTwice, negativeTerm, negativeProduct, itemRefusal, valueRefusal}
 use Rattle.program.specs.Refusals.{fieldRefusal}
-use Rattle.program.specs.Idle.{demanding, mostAt, most, isIdle}
+use Rattle.program.specs.Idle.{furthest, nearest, demanding, mostAt, most, isIdle}
 use Rattle.program.specs.Components.{draws, edge}
 use Rattle.program.specs.Reading.{Accepts}
 use Rattle.program.proofs.Conditions.{never, none-below}
@@ -70,7 +70,7 @@ unfolding wrongDivisor outsideDivisor wrongDivisors wrongCount repeatedTerm vari
 bodies-compute = tt
 
 valid-compute : Unit {0}
-unfolding demanding mostAt most isIdle draws edge closed share-test offends-at offends-test unfit
+unfolding furthest nearest demanding mostAt most isIdle draws edge closed share-test offends-at offends-test unfit
 valid-compute = tt
 
 -- and this also the tests and the search

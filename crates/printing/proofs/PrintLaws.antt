@@ -9,7 +9,8 @@ use lib.Dec.{T, T-not, ltb}
 use lib.ListN.{length, take, drop, length-drop}
 use lib.Seq.{take-all, take-at}
 use borrow.Author.Tests.{ltb-false, lt-ltb, le-ltb}
-use Rattle.program.specs.Program.{Program}
+use Rattle.program.specs.Program.{Program, variableIn}
+use Rattle.program.specs.Reading.{Accepts}
 use Rattle.meaning.specs.Stable.{assigned}
 use Rattle.verdict.specs.Checks.{Answer, refusal, unfounded, outside, rule-unmet, constraint-unmet, some-shown, is-stable, Checks, turned-down, judged}
 use Rattle.verdict.specs.Demands.{variableAt, markAt, numberAt, Shows, Demands}
@@ -21,7 +22,7 @@ use Rattle.text.specs.Output.{Holds, Appends}
 use Rattle.entries.specs.Text.{word, line, answerLine, entryLine, entriesOf, textOf, firstMost, entryMost}
 use Rattle.printing.specs.Prints.{maxInput, announced, fileIn, assignmentIn, misframed, reportBytes, blank, Prints, bad-frame, checked, room, Told, Printed}
 use Rattle.text.proofs.OutputLaws.{holds-none}
-use Rattle.entries.proofs.TextLaws.{most-line, at-most-line, at-least-line, no-entries}
+use Rattle.entries.proofs.TextLaws.{most-line, least-line, at-most-line, at-least-line, no-entries}
 
 -- ---- the framing
 
@@ -61,12 +62,22 @@ entries-fit (judged c (constraint-unmet w h f)) d = omega arith
 entries-fit (judged c (some-shown t l s)) d = d .shows _ (c .accepts) _ _ refl .inside
 entries-fit (judged c (is-stable st)) d = omega arith
 
--- ---- the lines of `unfounded n k`: `most` for the first n entries, `when` for the k after them
+-- ---- the lines of `unfounded n k`: `most` or `least` for the first n entries, by the variable's kind, `when` for the k after them
 
 module _ {f a b : List ℕ} {n k : ℕ} {r : List ℕ} (c : Checks f a b (unfounded n k) r) where
-  pub bounds-most : (i : ℕ) → i < n
-      → entryLine (variableAt r i) (markAt r i) (numberAt r i) ≡ line (word "most " ++ decimal (variableAt r i) ++ word " " ++ number (numberAt r i))
-  bounds-most i h = sym (most-line _ _ _ (shown-by c .1 .bounds-marked i h))
+  pub bounds-line : (P : Program) → Accepts f P → (i : ℕ) → i < n → let x = variableIn (P .variables) (variableAt r i) in
+      ((entryLine (variableAt r i) (markAt r i) (numberAt r i) ≡ line (word "most " ++ decimal (variableAt r i) ++ word " " ++ number (numberAt r i))) × (x .kind ≡ 1))
+      ⊎ ((entryLine (variableAt r i) (markAt r i) (numberAt r i) ≡ line (word "least " ++ decimal (variableAt r i) ++ word " " ++ number (numberAt r i))) × (x .kind ≡ 2))
+  bounds-line P accepts i h = go (checks-demands {a = a} c .shows P accepts n k refl .bounds-marked i h)
+    where
+      kind : ℕ
+      kind = variableIn (P .variables) (variableAt r i) .kind
+
+      go : ((markAt r i ≡ 0) × (kind ≡ 1)) ⊎ ((markAt r i ≡ 3) × (kind ≡ 2))
+          → ((entryLine (variableAt r i) (markAt r i) (numberAt r i) ≡ line (word "most " ++ decimal (variableAt r i) ++ word " " ++ number (numberAt r i))) × (kind ≡ 1))
+          ⊎ ((entryLine (variableAt r i) (markAt r i) (numberAt r i) ≡ line (word "least " ++ decimal (variableAt r i) ++ word " " ++ number (numberAt r i))) × (kind ≡ 2))
+      go (inl e) = inl (sym (most-line _ _ _ (e .0)), e .1)
+      go (inr e) = inr (sym (least-line _ _ _ (e .0)), e .1)
 
   pub conditions-when : (i : ℕ) → n ≤ i → i < n + k
       → (entryLine (variableAt r i) (markAt r i) (numberAt r i) ≡ line (word "when " ++ decimal (variableAt r i) ++ word " <= " ++ number (numberAt r i)))

@@ -12,7 +12,7 @@ use Rattle.verdict.specs.Demands.{variableAt, markAt, numberAt}
 use Rattle.text.specs.Output.{Appends}
 use Rattle.entries.specs.Text.{word, entryLine, entryMost}
 use Rattle.text.proofs.OutputLaws.{appends-as, appends-none}
-use Rattle.entries.proofs.TextLaws.{entryWith, most-line, at-most-line, at-least-line, no-line, entry-done}
+use Rattle.entries.proofs.TextLaws.{entryWith, most-line, at-most-line, at-least-line, least-line, no-line, entry-done}
 use borrow.Author.Needs.{needs}
 use Rattle.entries.proofs.put_entry.Statement.{statement}
 use Rattle.entries.proofs.put_entry.Tie as tie
@@ -100,6 +100,15 @@ slice-aggregate-put-line-6 c = search needs
 put-line-requires-3 : tie.Need-put-line-requires-3
 put-line-requires-3 c κs = asked (c .before .before .before .before) (omega arith) (omega arith)
 
+slice-aggregate-put-line-7 : tie.Need-slice-aggregate-put-line-7
+slice-aggregate-put-line-7 c = search needs
+
+slice-aggregate-put-line-8 : tie.Need-slice-aggregate-put-line-8
+slice-aggregate-put-line-8 c = search needs
+
+put-line-requires-4 : tie.Need-put-line-requires-4
+put-line-requires-4 c κs = asked (c .before .before .before .before) (omega arith) (omega arith)
+
 same-length : tie.Need-same-length
 same-length c = search needs
 
@@ -124,10 +133,18 @@ returns-3 c =
     done (c .before .before .before .before .before .before .before) (word "when ") (word " >= ")
     (at-least-line _ _ _ (c .before .before .before .before .before .before .match .keys3)) (c .before .before .put-line3 .ensures)
 
+same-length-4 : tie.Need-same-length-4
+same-length-4 c = search needs
+
 returns-4 : tie.Need-returns-4
 returns-4 c =
+    done (c .before .before .before .before .before .before .before) (word "least ") (word " ")
+    (least-line _ _ _ (c .before .before .before .before .before .before .match .keys4)) (c .before .before .put-line4 .ensures)
+
+returns-5 : tie.Need-returns-5
+returns-5 c =
     let n = c .match .rest in
-    (appends-as (no-line _ _ _ (n .0 .0 .1) (n .0 .1) (n .1)) (appends-none _ _), search needs)
+    (appends-as (no-line _ _ _ (n .0 .0 .0 .1) (n .0 .0 .1) (n .0 .1) (n .1)) (appends-none _ _), search needs)
 
 pub put-entry-spec : {M : Type 1} → statement M
 put-entry-spec =
@@ -150,10 +167,15 @@ put-entry-spec =
     slice-aggregate-put-line-5
     slice-aggregate-put-line-6
     put-line-requires-3
+    slice-aggregate-put-line-7
+    slice-aggregate-put-line-8
+    put-line-requires-4
     same-length
     returns
     same-length-2
     returns-2
     same-length-3
     returns-3
-    returns-4)
+    same-length-4
+    returns-4
+    returns-5)
