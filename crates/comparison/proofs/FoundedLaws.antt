@@ -28,7 +28,8 @@ use Rattle.run.specs.declared.Ending.the-variants as ending
 use Rattle.meaning.proofs.InRanges.{founded-declared, past-zero, within-small}
 use Rattle.meaning.proofs.Theory.{self-model, self-least-iff}
 use Rattle.meaning.proofs.Monotone.{laws}
-use Rattle.report.specs.Report.{bytesIn, bound, boundAbove, atMost, atLeast, ascending, boundsOf, conditionsOf, asksMost, asksLeast, askedAt, askedBy, asked, shown, bounds, conditions, reported}
+use Rattle.report.specs.Report.{bytesIn, bound, boundAbove, atMost, atLeast, ascending, boundsOf, conditionsOf}
+use Rattle.report.specs.Report.{asksMost, asksLeast, askedAt, askedBy, asked, shown, bounds, conditions, reported}
 use Rattle.report.specs.Written.{marked, fromBelowIn, fromAboveIn}
 use Rattle.report.proofs.Entries.{ascending-past, bounds-count, marked-count}
 use Rattle.report.proofs.WritingLaws.{marked-bounds}
@@ -246,4 +247,5 @@ module _ (s : List ℕ) (k : Counts) (r : AcceptedAs s k) (θ : List ℤ)
             → ShowsSets (has (parts .below .words)) (has (parts .above .words)) most lower (valued m) (valued θ) b b′ v
             → (P : Program) → Accepts s P → Judged P (valued θ) b (answerOf v) b′
         some-short q b′ v w P x =
-            all-shown (accepts-promises x) (few-in P x) (meets P x) (least P x) set (set-is P x) b _ _ (below-is P x) (above-is P x) most lower (most-is P x) (least-is P x) q b′ v w
+            all-shown (accepts-promises x) (few-in P x) (meets P x) (least P x) set (set-is P x) b _ _ (below-is P x) (above-is P x) most lower (most-is P x) (least-is P x)
+            q b′ v w

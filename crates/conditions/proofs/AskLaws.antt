@@ -1,6 +1,6 @@
 -- What is asked by one position more, and by one rule more.
 use Prim.Native.Nat.{ℕ, _+_}
-use mathlib.Core.Path.{_≡_, refl, sym, ap, ap₂, _∙_}
+use mathlib.Core.Path.{_≡_, sym, ap, ap₂, _∙_}
 use mathlib.Core.Bool.{Bool, true, false, _||_, _&&_, or-false, or-assoc}
 use mathlib.Core.List.{List}
 use lib.Dec.{eqb}

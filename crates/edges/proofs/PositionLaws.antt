@@ -1,6 +1,6 @@
 -- The positions of one rule, and rows that take in edges, case by case.
 use Prim.Native.Nat.{ℕ, _+_}
-use mathlib.Core.Path.{_≡_, refl, sym, ap, ap₂, _∙_, subst}
+use mathlib.Core.Path.{_≡_, sym, ap, ap₂, _∙_, subst}
 use mathlib.Core.List.{List}
 use mathlib.Core.Bool.{Bool, true, false, _||_, _&&_, or-false, or-comm, or-assoc}
 use lib.ListN.{length}
@@ -8,7 +8,7 @@ use lib.Dec.{eqb}
 use borrow.Author.Tests.{eq-eqb, ne-eqb}
 use Rattle.reach.specs.Rows.{Marked}
 use Rattle.program.specs.Tables.{anyBelow}
-use Rattle.program.specs.Program.{Rule, termIn}
+use Rattle.program.specs.Program.{Rule}
 use Rattle.program.specs.Directions.{direction, isMixed}
 use Rattle.program.specs.Readings.{bodyVariable}
 use Rattle.program.proofs.Conditions.{any-next}

@@ -51,7 +51,8 @@ gives-up {P} p i h m θ m′ θ′ wm wθ wm′ wθ′ less =
     no-more-as P (r .head) (gives (P .variables) r m θ) (gives (P .variables) r m′ θ′)
     (evaluate-up (p .rules i h) (reading (P .variables) r m θ) (reading (P .variables) r m′ θ′)
     (λ j k. record { first = read-between P wm wθ (kept (P .variables) r j) (bodyVariable r j); second = read-between P wm′ wθ′ (kept (P .variables) r j) (bodyVariable r j) })
-    (λ j k. moves-of P m θ m′ θ′ (bodyVariable r j) (direction (P .variables) r j) (less (bodyVariable r j) (away (variableIn (P .variables) (bodyVariable r j)) (direction (P .variables) r j)) (j, k, refl, refl))))
+    (λ j k. moves-of P m θ m′ θ′ (bodyVariable r j) (direction (P .variables) r j)
+    (less (bodyVariable r j) (away (variableIn (P .variables) (bodyVariable r j)) (direction (P .variables) r j)) (j, k, refl, refl))))
   where
     r : Rule
     r = ruleIn (P .rules) i

@@ -27,7 +27,7 @@ use Rattle.program.specs.Variables.{swaps, start, far, notPast, noMore, started
 use Rattle.program.specs.Readings.{Valuation, kept, gives, valued}
 use Rattle.program.specs.declared.Variable.{Variable}
 use Rattle.program.proofs.Tests.{cases}
-use Rattle.meaning.proofs.Laws.{below-refl, short-below}
+use Rattle.meaning.proofs.Laws.{at-refl, before-at}
 
 -- unfolding this unfolds the search and what it reads of a program
 unfoldable pub computes : Unit {0}
@@ -143,7 +143,7 @@ module _ {P : Program} (p : Promises P) {θ : Valuation} (w : Within (system P) 
     raised-way : T (allows (variableIn (P .variables) x) a) → OnWay (set m x a)
     raised-way t = record {
       len = length-set m x a ∙ o .len;
-      progress = progress-raise (laws p) w (o .progress) j h (head-founded p j h) a a (u .value-is) (below-refl x a) (short-below (record { lt = u .more })) (record { le = t })
+      progress = progress-raise (laws p) w (o .progress) j h (head-founded p j h) a a (u .value-is) (at-refl x a) (before-at (record { lt = u .more })) (record { le = t })
           (valued (set m x a)) (stored m x a (omega (arith, there, o .len)));
     }
 

@@ -10,9 +10,9 @@ use Rattle.program.specs.declared.Direction.{Direction}
 use Rattle.program.specs.declared.Direction.the-variants.{Rising, Falling, Mixed}
 use Rattle.program.specs.declared.Given.{Given}
 use Rattle.program.specs.declared.Given.the-variants.{Nothing, Value}
-use Rattle.meaning.specs.Founded.{System, Below, Short, GivenNoMore, Within, Model, Floor, Least}
+use Rattle.meaning.specs.Founded.{System, AtOrBefore, Before, GivenNoMore, Within, Model, Floor, Least}
 use Rattle.meaning.specs.Unfounded.{over, Unfounded, short, Conditions}
-use Rattle.meaning.proofs.Laws.{NoMore, Less, Laws, below-refl, below-trans, below-antisym, short-below, from-start, to-far, within-ends}
+use Rattle.meaning.proofs.Laws.{NoMore, Less, Laws, at-refl, at-trans, at-antisym, before-at, from-start, to-far, within-ends}
 use Rattle.meaning.proofs.Lesser.{lesser, lesser-left, lesser-right, lesser-of, lesser-given}
 use Rattle.program.specs.Readings.{Valuation}
 use Rattle.program.proofs.Tests.{cases, is-true, and-both}
@@ -25,12 +25,12 @@ pub record Progress (𝒮 : System) (θ m : Valuation) : Type 0 where
   pub within : Within 𝒮 m
   pub floor : Floor 𝒮 θ m
 
--- m is at or below m′ at the founded variables, and all three lie in the ranges
-pub record Lower (𝒮 : System) (θ m m′ : Valuation) : Type 0 where
+-- m is at or before m′ at the founded variables, and all three lie in the ranges
+pub record Earlier (𝒮 : System) (θ m m′ : Valuation) : Type 0 where
   pub assigned : Within 𝒮 θ
-  pub lower : Within 𝒮 m
-  pub upper : Within 𝒮 m′
-  pub under : (x : ℕ) → T (isFounded (𝒮 .variable x)) → Below 𝒮 x (m x) (m′ x)
+  pub earlier : Within 𝒮 m
+  pub later : Within 𝒮 m′
+  pub under : (x : ℕ) → T (isFounded (𝒮 .variable x)) → AtOrBefore 𝒮 x (m x) (m′ x)
 
 module _ {𝒮 : System} where
   open System 𝒮 using (variable, Rule, In, head, gives)
@@ -44,7 +44,7 @@ module _ {𝒮 : System} where
   self-model w met = record { standard = λ v n. refl; within = w; rules = met }
 
   pub least-unique : {θ m m′ : Valuation} → Least 𝒮 θ m → Least 𝒮 θ m′ → (v : ℕ) → m v ≡ m′ v
-  least-unique {θ} {m} {m′} l k v = below-antisym (l .floor .under m′ (k .model) v) (k .floor .under m (l .model) v)
+  least-unique {θ} {m} {m′} l k v = at-antisym (l .floor .under m′ (k .model) v) (k .floor .under m (l .model) v)
 
   -- standard variables as assigned, founded ones at their starting ends
   pub progress-start : {θ : Valuation} → Within 𝒮 θ → (m : Valuation) → ((v : ℕ) → m v ≡ started (variable v) (θ v)) → Progress 𝒮 θ m
@@ -52,8 +52,8 @@ module _ {𝒮 : System} where
     standard = λ v n. is v ∙ cases (isFounded (variable v)) (λ b. T (not b) → cond b (start (variable v)) (θ v) ≡ θ v) (λ t f. absurd f) (λ t f. refl) n;
     within = record { inside = λ v. rw (is v) (started-in (variable v) (θ v) (wθ .inside v)) };
     floor = record {
-      under = λ m′ k v. rw (is v) (cases (isFounded (variable v)) (λ b. Below 𝒮 v (cond b (start (variable v)) (θ v)) (m′ v)) (λ t. from-start (k .within) v)
-          (λ n. rw (k .standard v n) (below-refl v (θ v))));
+      under = λ m′ k v. rw (is v) (cases (isFounded (variable v)) (λ b. AtOrBefore 𝒮 v (cond b (start (variable v)) (θ v)) (m′ v)) (λ t. from-start (k .within) v)
+          (λ n. rw (k .standard v n) (at-refl v (θ v))));
     };
   }
 
@@ -66,33 +66,33 @@ module _ {𝒮 : System} (L : Laws 𝒮) where
   no-more v b (Value a) Nothing n t = absurd n
   no-more v b (Value a) (Value c) n t = past-trans (variable v) a c b (n .le) t
 
-  -- a rule gives no more in a lower valuation
-  pub lift : {θ m m′ : Valuation} → Lower 𝒮 θ m m′ → (r : Rule) → In r → NoMore 𝒮 (head r) (gives r m θ) (gives r m′ θ)
-  lift {θ} {m} {m′} w r i = L .mono r i m θ m′ θ (w .lower) (w .assigned) (w .upper) (w .assigned) (λ x d o. at x d)
+  -- a rule gives no more in an earlier valuation
+  pub lift : {θ m m′ : Valuation} → Earlier 𝒮 θ m m′ → (r : Rule) → In r → NoMore 𝒮 (head r) (gives r m θ) (gives r m′ θ)
+  lift {θ} {m} {m′} w r i = L .mono r i m θ m′ θ (w .earlier) (w .assigned) (w .later) (w .assigned) (λ x d o. at x d)
     where
       at : (x : ℕ) (d : Direction) → Less 𝒮 x d m θ m′ θ
-      at x Rising = cases (isFounded (variable x)) (λ b. Below 𝒮 x (cond b (m x) (θ x)) (cond b (m′ x) (θ x))) (w .under x) (λ t. below-refl x (θ x))
-      at x Falling = below-refl x (θ x)
+      at x Rising = cases (isFounded (variable x)) (λ b. AtOrBefore 𝒮 x (cond b (m x) (θ x)) (cond b (m′ x) (θ x))) (w .under x) (λ t. at-refl x (θ x))
+      at x Falling = at-refl x (θ x)
       at x Mixed = refl
 
   -- so it is met by what meets it there
-  pub met-below : {θ m m′ : Valuation} → Lower 𝒮 θ m m′ → (r : Rule) → In r → (b : ℤ) → GivenNoMore 𝒮 (head r) (gives r m′ θ) b → GivenNoMore 𝒮 (head r) (gives r m θ) b
-  met-below {θ} {m} {m′} w r i b = no-more (head r) b (gives r m θ) (gives r m′ θ) (lift w r i)
+  pub met-before : {θ m m′ : Valuation} → Earlier 𝒮 θ m m′ → (r : Rule) → In r → (b : ℤ) → GivenNoMore 𝒮 (head r) (gives r m′ θ) b → GivenNoMore 𝒮 (head r) (gives r m θ) b
+  met-before {θ} {m} {m′} w r i b = no-more (head r) b (gives r m θ) (gives r m′ θ) (lift w r i)
 
   -- ---- the steps by which the least model is found
 
   module _ {θ : Valuation} (wθ : Within 𝒮 θ) {m : Valuation} (p : Progress 𝒮 θ m) (r : Rule) (i : In r) where
     -- what a rule gives on the way, its head has in every model
     pub under-given : (m′ : Valuation) → Model 𝒮 θ m′ → GivenNoMore 𝒮 (head r) (gives r m θ) (m′ (head r))
-    under-given m′ k = met-below (record { assigned = wθ; lower = p .within; upper = k .within; under = λ x t. p .floor .under m′ k x }) r i (m′ (head r)) (k .rules r i)
+    under-given m′ k = met-before (record { assigned = wθ; earlier = p .within; later = k .within; under = λ x t. p .floor .under m′ k x }) r i (m′ (head r)) (k .rules r i)
 
     -- a head is raised to what one of its rules gives, or to less
-    pub progress-raise : T (isFounded (variable (head r))) → (g a : ℤ) → gives r m θ ≡ Value g → Below 𝒮 (head r) a g
-        → Below 𝒮 (head r) (m (head r)) a → Below 𝒮 (head r) a (far (variable (head r)))
+    pub progress-raise : T (isFounded (variable (head r))) → (g a : ℤ) → gives r m θ ≡ Value g → AtOrBefore 𝒮 (head r) a g
+        → AtOrBefore 𝒮 (head r) (m (head r)) a → AtOrBefore 𝒮 (head r) a (far (variable (head r)))
         → (m⁺ : Valuation) → ((v : ℕ) → (m⁺ v ≡ m v) ⊎ ((head r ≡ v) × (m⁺ v ≡ a))) → Progress 𝒮 θ m⁺
     progress-raise f g a e le lo hi m⁺ is = record {
       standard = λ v n. same v n (is v);
-      within = within-ends (λ v. low v (is v)) (λ v. high v (is v));
+      within = within-ends (λ v. from v (is v)) (λ v. to v (is v));
       floor = record { under = λ m′ k v. under m′ k v (is v) };
     }
       where
@@ -100,80 +100,81 @@ module _ {𝒮 : System} (L : Laws 𝒮) where
         same v n (inl q) = q ∙ p .standard v n
         same v n (inr q) = absurd (T-not (isFounded (variable v)) n (subst (λ w. T (isFounded (variable w))) (q .0) f))
 
-        low : (v : ℕ) → (m⁺ v ≡ m v) ⊎ ((head r ≡ v) × (m⁺ v ≡ a)) → Below 𝒮 v (start (variable v)) (m⁺ v)
-        low v (inl q) = rw q (from-start (p .within) v)
-        low v (inr q) = rw (q .1, ← q .0) (below-trans (from-start (p .within) (head r)) lo)
+        from : (v : ℕ) → (m⁺ v ≡ m v) ⊎ ((head r ≡ v) × (m⁺ v ≡ a)) → AtOrBefore 𝒮 v (start (variable v)) (m⁺ v)
+        from v (inl q) = rw q (from-start (p .within) v)
+        from v (inr q) = rw (q .1, ← q .0) (at-trans (from-start (p .within) (head r)) lo)
 
-        high : (v : ℕ) → (m⁺ v ≡ m v) ⊎ ((head r ≡ v) × (m⁺ v ≡ a)) → Below 𝒮 v (m⁺ v) (far (variable v))
-        high v (inl q) = rw q (to-far (p .within) v)
-        high v (inr q) = rw (q .1, ← q .0) hi
+        to : (v : ℕ) → (m⁺ v ≡ m v) ⊎ ((head r ≡ v) × (m⁺ v ≡ a)) → AtOrBefore 𝒮 v (m⁺ v) (far (variable v))
+        to v (inl q) = rw q (to-far (p .within) v)
+        to v (inr q) = rw (q .1, ← q .0) hi
 
-        under : (m′ : Valuation) → Model 𝒮 θ m′ → (v : ℕ) → (m⁺ v ≡ m v) ⊎ ((head r ≡ v) × (m⁺ v ≡ a)) → Below 𝒮 v (m⁺ v) (m′ v)
+        under : (m′ : Valuation) → Model 𝒮 θ m′ → (v : ℕ) → (m⁺ v ≡ m v) ⊎ ((head r ≡ v) × (m⁺ v ≡ a)) → AtOrBefore 𝒮 v (m⁺ v) (m′ v)
         under m′ k v (inl q) = rw q (p .floor .under m′ k v)
-        under m′ k v (inr q) = rw (q .1, ← q .0) (below-trans le (record { le = rw e at (under-given m′ k) }))
+        under m′ k v (inr q) = rw (q .1, ← q .0) (at-trans le (record { le = rw e at (under-given m′ k) }))
 
     -- a rule that asks for more than its head's far end leaves no model
-    pub progress-over : (g : ℤ) → gives r m θ ≡ Value g → Short 𝒮 (head r) (far (variable (head r))) g → (m′ : Valuation) → Model 𝒮 θ m′ → ⊥
+    pub progress-over : (g : ℤ) → gives r m θ ≡ Value g → Before 𝒮 (head r) (far (variable (head r))) g → (m′ : Valuation) → Model 𝒮 θ m′ → ⊥
     progress-over g e s m′ k =
-        let b : Below 𝒮 (head r) g (m′ (head r)) = record { le = rw e at (under-given m′ k) } in
-        T-not (notPast (variable (head r)) g (far (variable (head r)))) (s .lt) (below-trans b (to-far (k .within) (head r)) .le)
+        let b : AtOrBefore 𝒮 (head r) g (m′ (head r)) = record { le = rw e at (under-given m′ k) } in
+        T-not (notPast (variable (head r)) g (far (variable (head r)))) (s .lt) (at-trans b (to-far (k .within) (head r)) .le)
 
   -- ---- unfounded sets, and the least model
 
   module _ {θ : Valuation} (self : Model 𝒮 θ θ) where
     -- θ with the bounds of an unfounded set put in is a model
     module _ {dom : ℕ → Bool} {bound : Valuation} (U : Unfounded 𝒮 θ dom bound) where
-      lowered-below : (v : ℕ) → Below 𝒮 v (over dom bound θ v) (θ v)
-      lowered-below v = cases (dom v) (λ b. Below 𝒮 v (cond b (bound v) (θ v)) (θ v)) (λ t. short-below (U .less v t)) (λ t. below-refl v (θ v))
+      replaced-before : (v : ℕ) → AtOrBefore 𝒮 v (over dom bound θ v) (θ v)
+      replaced-before v = cases (dom v) (λ b. AtOrBefore 𝒮 v (cond b (bound v) (θ v)) (θ v)) (λ t. before-at (U .before v t)) (λ t. at-refl v (θ v))
 
-      lowered-within : Within 𝒮 (over dom bound θ)
-      lowered-within = within-ends
-          (λ v. cases (dom v) (λ b. Below 𝒮 v (start (variable v)) (cond b (bound v) (θ v))) (U .low v) (λ t. from-start (self .within) v))
-          (λ v. below-trans (lowered-below v) (to-far (self .within) v))
+      replaced-within : Within 𝒮 (over dom bound θ)
+      replaced-within = within-ends
+          (λ v. cases (dom v) (λ b. AtOrBefore 𝒮 v (start (variable v)) (cond b (bound v) (θ v))) (U .from-start v) (λ t. from-start (self .within) v))
+          (λ v. at-trans (replaced-before v) (to-far (self .within) v))
 
-      lowered : Model 𝒮 θ (over dom bound θ)
-      lowered = record {
+      replaced : Model 𝒮 θ (over dom bound θ)
+      replaced = record {
         standard = λ v n. cases (dom v) (λ b. cond b (bound v) (θ v) ≡ θ v) (λ t. absurd (T-not (isFounded (variable v)) n (U .are v t))) (λ t. refl);
-        within = lowered-within;
+        within = replaced-within;
         rules = λ r i. cases (dom (head r)) (λ b. GivenNoMore 𝒮 (head r) (gives r (over dom bound θ) θ) (cond b (bound (head r)) (θ (head r)))) (U .rules r i)
-            (λ t. met-below (record { assigned = self .within; lower = lowered-within; upper = self .within; under = λ x f. lowered-below x }) r i (θ (head r)) (self .rules r i));
+            (λ t. met-before (record { assigned = self .within; earlier = replaced-within; later = self .within; under = λ x f. replaced-before x }) r i (θ (head r))
+            (self .rules r i));
       }
 
     module _ {M : Valuation} (least : Least 𝒮 θ M) where
       -- every unfounded set lies in the set of the short variables, with no smaller bounds
-      pub inside-short : {dom : ℕ → Bool} {bound : Valuation} → Unfounded 𝒮 θ dom bound → (v : ℕ) → T (dom v) → T (short 𝒮 θ M v) × Below 𝒮 v (M v) (bound v)
+      pub inside-short : {dom : ℕ → Bool} {bound : Valuation} → Unfounded 𝒮 θ dom bound → (v : ℕ) → T (dom v) → T (short 𝒮 θ M v) × AtOrBefore 𝒮 v (M v) (bound v)
       inside-short {dom} {bound} U v t = (and-both (isFounded (variable v)) (not (notPast (variable v) (θ v) (M v))) (U .are v t) fall, under)
         where
-          under : Below 𝒮 v (M v) (bound v)
-          under = subst (λ b. Below 𝒮 v (M v) (cond b (bound v) (θ v))) (is-true (dom v) t) (least .floor .under (over dom bound θ) (lowered U) v)
+          under : AtOrBefore 𝒮 v (M v) (bound v)
+          under = subst (λ b. AtOrBefore 𝒮 v (M v) (cond b (bound v) (θ v))) (is-true (dom v) t) (least .floor .under (over dom bound θ) (replaced U) v)
 
           fall : T (not (notPast (variable v) (θ v) (M v)))
-          fall = not-T (notPast (variable v) (θ v) (M v)) (λ h. T-not (notPast (variable v) (θ v) (bound v)) (U .less v t .lt) (below-trans (record { le = h }) under .le))
+          fall = not-T (notPast (variable v) (θ v) (M v)) (λ h. T-not (notPast (variable v) (θ v) (bound v)) (U .before v t .lt) (at-trans (record { le = h }) under .le))
 
-      above : (v : ℕ) → T (not (short 𝒮 θ M v)) → Below 𝒮 v (θ v) (M v)
-      above v n = cases (notPast (variable v) (θ v) (M v)) (λ b. Below 𝒮 v (θ v) (M v)) (λ h. record { le = h })
-          (λ h. subst (λ a. Below 𝒮 v (θ v) a) (sym (least .model .standard v (unfounded h))) (below-refl v (θ v)))
+      above : (v : ℕ) → T (not (short 𝒮 θ M v)) → AtOrBefore 𝒮 v (θ v) (M v)
+      above v n = cases (notPast (variable v) (θ v) (M v)) (λ b. AtOrBefore 𝒮 v (θ v) (M v)) (λ h. record { le = h })
+          (λ h. subst (λ a. AtOrBefore 𝒮 v (θ v) a) (sym (least .model .standard v (unfounded h))) (at-refl v (θ v)))
         where
           unfounded : T (not (notPast (variable v) (θ v) (M v))) → T (not (isFounded (variable v)))
           unfounded h = not-T (isFounded (variable v)) (λ f. T-not (short 𝒮 θ M v) n (and-both (isFounded (variable v)) (not (notPast (variable v) (θ v) (M v))) f h))
 
       -- off the short variables θ and M agree
-      mixed-below : (v : ℕ) → Below 𝒮 v (over (short 𝒮 θ M) M θ v) (M v)
-      mixed-below v = cases (short 𝒮 θ M v) (λ b. Below 𝒮 v (cond b (M v) (θ v)) (M v)) (λ t. below-refl v (M v)) (above v)
+      mixed-before : (v : ℕ) → AtOrBefore 𝒮 v (over (short 𝒮 θ M) M θ v) (M v)
+      mixed-before v = cases (short 𝒮 θ M v) (λ b. AtOrBefore 𝒮 v (cond b (M v) (θ v)) (M v)) (λ t. at-refl v (M v)) (above v)
 
       mixed-within : Within 𝒮 (over (short 𝒮 θ M) M θ)
       mixed-within = within-ends
-          (λ v. cases (short 𝒮 θ M v) (λ b. Below 𝒮 v (start (variable v)) (cond b (M v) (θ v))) (λ t. from-start (least .model .within) v) (λ t. from-start (self .within) v))
-          (λ v. below-trans (mixed-below v) (to-far (least .model .within) v))
+          (λ v. cases (short 𝒮 θ M v) (λ b. AtOrBefore 𝒮 v (start (variable v)) (cond b (M v) (θ v))) (λ t. from-start (least .model .within) v) (λ t. from-start (self .within) v))
+          (λ v. at-trans (mixed-before v) (to-far (least .model .within) v))
 
       -- the short variables, with what the least model gives them, are an unfounded set where there are any
       pub short-unfounded : (v : ℕ) → T (short 𝒮 θ M v) → Unfounded 𝒮 θ (short 𝒮 θ M) M
       short-unfounded v t = record {
         some = (v, t);
         are = λ w. short-founded (variable w) (θ w) (M w);
-        low = λ w s. from-start (least .model .within) w;
-        less = λ w s. record { lt = short-before (variable w) (θ w) (M w) s };
-        rules = λ r i s. met-below (record { assigned = self .within; lower = mixed-within; upper = least .model .within; under = λ x f. mixed-below x }) r i
+        from-start = λ w s. from-start (least .model .within) w;
+        before = λ w s. record { lt = short-before (variable w) (θ w) (M w) s };
+        rules = λ r i s. met-before (record { assigned = self .within; earlier = mixed-within; later = least .model .within; under = λ x f. mixed-before x }) r i
             (M (head r)) (least .model .rules r i);
       }
 
@@ -184,7 +185,7 @@ module _ {𝒮 : System} (L : Laws 𝒮) where
       pub self-least-iff : Least 𝒮 θ θ ↔ ((v : ℕ) → T (not (short 𝒮 θ M v)))
       self-least-iff = (
         λ s v. not-T (short 𝒮 θ M v) (λ t. T-not (notPast (variable v) (θ v) (M v)) (short-before (variable v) (θ v) (M v) t) (s .floor .under M (least .model) v .le)),
-        λ n. record { model = self; floor = record { under = λ m′ k v. below-trans (above v (n v)) (least .floor .under m′ k v) } },
+        λ n. record { model = self; floor = record { under = λ m′ k v. at-trans (above v (n v)) (least .floor .under m′ k v) } },
       )
 
       -- ---- what the conditions say of another assignment that is the least model of its own reduct
@@ -194,24 +195,24 @@ module _ {𝒮 : System} (L : Laws 𝒮) where
         abbrev τ : Valuation
         τ = over (short 𝒮 θ M) (lesser 𝒮 θ′ M) θ′
 
-        τ-below : (v : ℕ) → Below 𝒮 v (τ v) (θ′ v)
-        τ-below v = cases (short 𝒮 θ M v) (λ b. Below 𝒮 v (cond b (lesser 𝒮 θ′ M v) (θ′ v)) (θ′ v)) (λ t. lesser-left 𝒮 θ′ M v)
-            (λ t. below-refl v (θ′ v))
+        τ-before : (v : ℕ) → AtOrBefore 𝒮 v (τ v) (θ′ v)
+        τ-before v = cases (short 𝒮 θ M v) (λ b. AtOrBefore 𝒮 v (cond b (lesser 𝒮 θ′ M v) (θ′ v)) (θ′ v)) (λ t. lesser-left 𝒮 θ′ M v)
+            (λ t. at-refl v (θ′ v))
 
         τ-within : Within 𝒮 τ
         τ-within = within-ends
-            (λ v. cases (short 𝒮 θ M v) (λ b. Below 𝒮 v (start (variable v)) (cond b (lesser 𝒮 θ′ M v) (θ′ v)))
+            (λ v. cases (short 𝒮 θ M v) (λ b. AtOrBefore 𝒮 v (start (variable v)) (cond b (lesser 𝒮 θ′ M v) (θ′ v)))
             (λ t. lesser-of 𝒮 θ′ M v (start (variable v)) (from-start (stable .model .within) v) (from-start (least .model .within) v))
             (λ t. from-start (stable .model .within) v))
-            (λ v. below-trans (τ-below v) (to-far (stable .model .within) v))
+            (λ v. at-trans (τ-before v) (to-far (stable .model .within) v))
 
         τ-less : (r : Rule) → In r → T (short 𝒮 θ M (head r)) → (x : ℕ) (d : Direction) → occurs r x d → Less 𝒮 x d τ θ′ M θ
-        τ-less r i s x Rising o = cases (isFounded (variable x)) (λ b. Below 𝒮 x (cond b (τ x) (θ′ x)) (cond b (M x) (θ x)))
-            (λ f. cases (short 𝒮 θ M x) (λ b. Below 𝒮 x (cond b (lesser 𝒮 θ′ M x) (θ′ x)) (M x)) (λ t. lesser-right 𝒮 θ′ M x)
-            (λ n. below-trans (meets r i s x Rising o n) (above x n)))
+        τ-less r i s x Rising o = cases (isFounded (variable x)) (λ b. AtOrBefore 𝒮 x (cond b (τ x) (θ′ x)) (cond b (M x) (θ x)))
+            (λ f. cases (short 𝒮 θ M x) (λ b. AtOrBefore 𝒮 x (cond b (lesser 𝒮 θ′ M x) (θ′ x)) (M x)) (λ t. lesser-right 𝒮 θ′ M x)
+            (λ n. at-trans (meets r i s x Rising o n) (above x n)))
             (λ n. meets r i s x Rising o (not-T (short 𝒮 θ M x) (λ t. T-not (isFounded (variable x)) n (short-founded (variable x) (θ x) (M x) t))))
         τ-less r i s x Falling o = meets r i s x Falling o
-        τ-less r i s x Mixed o = below-antisym (meets r i s x Mixed o .0) (meets r i s x Mixed o .1)
+        τ-less r i s x Mixed o = at-antisym (meets r i s x Mixed o .0) (meets r i s x Mixed o .1)
 
         τ-model : Model 𝒮 θ′ τ
         τ-model = record {
@@ -223,15 +224,15 @@ module _ {𝒮 : System} (L : Laws 𝒮) where
         }
           where
             left : (r : Rule) → In r → GivenNoMore 𝒮 (head r) (gives r τ θ′) (θ′ (head r))
-            left r i = met-below (record { assigned = stable .model .within; lower = τ-within; upper = stable .model .within; under = λ x f. τ-below x }) r i
+            left r i = met-before (record { assigned = stable .model .within; earlier = τ-within; later = stable .model .within; under = λ x f. τ-before x }) r i
                 (θ′ (head r)) (stable .model .rules r i)
 
             right : (r : Rule) → In r → T (short 𝒮 θ M (head r)) → GivenNoMore 𝒮 (head r) (gives r τ θ′) (M (head r))
             right r i s = no-more (head r) (M (head r)) (gives r τ θ′) (gives r M θ)
                 (L .mono r i τ θ′ M θ τ-within (stable .model .within) (least .model .within) (self .within) (τ-less r i s)) (least .model .rules r i)
 
-        -- it is at or below the bounds in the set
-        pub bounded : (v : ℕ) → T (short 𝒮 θ M v) → Below 𝒮 v (θ′ v) (M v)
+        -- it is at or before the bounds in the set
+        pub bounded : (v : ℕ) → T (short 𝒮 θ M v) → AtOrBefore 𝒮 v (θ′ v) (M v)
         bounded v t =
             let b = stable .floor .under τ τ-model v in
-            below-trans (subst (λ b. Below 𝒮 v (θ′ v) (cond b (lesser 𝒮 θ′ M v) (θ′ v))) (is-true (short 𝒮 θ M v) t) b) (lesser-right 𝒮 θ′ M v)
+            at-trans (subst (λ b. AtOrBefore 𝒮 v (θ′ v) (cond b (lesser 𝒮 θ′ M v) (θ′ v))) (is-true (short 𝒮 θ M v) t) b) (lesser-right 𝒮 θ′ M v)

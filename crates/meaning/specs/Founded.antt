@@ -27,10 +27,10 @@ module _ (𝒮 : System) where
   open System 𝒮 using (variable, Rule, In, head, gives)
 
   -- a is at or before b, and a is before b, in the order of the variable v
-  pub record Below (v : ℕ) (a b : ℤ) : Type 0 where
+  pub record AtOrBefore (v : ℕ) (a b : ℤ) : Type 0 where
     pub le : T (notPast (variable v) a b)
 
-  pub record Short (v : ℕ) (a b : ℤ) : Type 0 where
+  pub record Before (v : ℕ) (a b : ℤ) : Type 0 where
     pub lt : T (not (notPast (variable v) b a))
 
   -- a head v that has b is given no more
@@ -49,9 +49,9 @@ module _ (𝒮 : System) where
     pub within : Within m
     pub rules : (r : Rule) → In r → GivenNoMore (head r) (gives r m θ) (m (head r))
 
-  -- m is at or below every model
+  -- m is at or before every model
   pub record Floor (θ m : Valuation) : Type 0 where
-    pub under : (m′ : Valuation) → Model θ m′ → (v : ℕ) → Below v (m v) (m′ v)
+    pub under : (m′ : Valuation) → Model θ m′ → (v : ℕ) → AtOrBefore v (m v) (m′ v)
 
   -- the least model of the reduct of θ
   pub record Least (θ m : Valuation) : Type 0 where
@@ -61,10 +61,10 @@ module _ (𝒮 : System) where
   -- 003: a solution such that there is no other solution, and a variable at which that other is below it
   pub record Minimal (θ m : Valuation) : Type 0 where
     pub model : Model θ m
-    pub none-below : (m′ : Valuation) → Model θ m′ → (v : ℕ) → Short v (m′ v) (m v) → ⊥
+    pub none-before : (m′ : Valuation) → Model θ m′ → (v : ℕ) → Before v (m′ v) (m v) → ⊥
 
   -- 000, section 2: "The minimal solution to a HORN-CP is a solution θ such that there does not exist another solution θ' with ∀v ∈ V,
-  -- θ'(v) ≤ θ(v)." A solution at or below it everywhere is no other one
+  -- θ'(v) ≤ θ(v)." A solution at or before it everywhere is no other one
   pub record MinimalEverywhere (θ m : Valuation) : Type 0 where
     pub model : Model θ m
-    pub no-other : (m′ : Valuation) → Model θ m′ → ((v : ℕ) → Below v (m′ v) (m v)) → (v : ℕ) → m′ v ≡ m v
+    pub no-other : (m′ : Valuation) → Model θ m′ → ((v : ℕ) → AtOrBefore v (m′ v) (m v)) → (v : ℕ) → m′ v ≡ m v

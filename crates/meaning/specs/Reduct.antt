@@ -15,6 +15,7 @@ system P = record {
   Rule = ℕ;
   In = λ i. i < length (P .rules);
   head = λ i. ruleIn (P .rules) i .head;
-  occurs = λ i x d. (j : ℕ) × (j < length (ruleIn (P .rules) i .terms)) × (bodyVariable (ruleIn (P .rules) i) j ≡ x) × (away (variableIn (P .variables) x) (direction (P .variables) (ruleIn (P .rules) i) j) ≡ d);
+  occurs = λ i x d. (j : ℕ) × (j < length (ruleIn (P .rules) i .terms)) × (bodyVariable (ruleIn (P .rules) i) j ≡ x)
+      × (away (variableIn (P .variables) x) (direction (P .variables) (ruleIn (P .rules) i) j) ≡ d);
   gives = λ i. gives (P .variables) (ruleIn (P .rules) i);
 }

@@ -22,7 +22,7 @@ use Rattle.program.specs.declared.Given.the-variants.{Value}
 use Rattle.program.proofs.Conditions.{neither}
 use Rattle.program.proofs.Promises.{Promises, accepts-promises}
 use Rattle.reader.proofs.Published.{accepts-unique, variables-length, variable-at, variable-lies, program-limited}
-use Rattle.meaning.specs.Founded.{GivenNoMore, Within, Model, Least, Below}
+use Rattle.meaning.specs.Founded.{GivenNoMore, Within, Model, Least, AtOrBefore}
 use Rattle.meaning.specs.Reduct.{system}
 use Rattle.meaning.specs.Reads.{readsKept}
 use Rattle.tables.specs.Tabled.{Tabled, rowWords}
@@ -42,7 +42,7 @@ use Rattle.program.specs.declared.Variable.{Variable}
 use Rattle.program.specs.Evaluable.{Small}
 use Rattle.program.proofs.Gives.{promised-evaluable}
 use Rattle.program.proofs.Tests.{is-test}
-use Rattle.meaning.proofs.Laws.{below-refl, short-below}
+use Rattle.meaning.proofs.Laws.{at-refl, before-at}
 use Rattle.program.proofs.Variables.{past-refl, no-more-past}
 
 -- ---- rows
@@ -182,19 +182,19 @@ module _ {s offsets masks readers : List ℕ} {θ m : List ℤ} {waiting : List 
       is : Raised (valued m) (valued m⁺) (headOf (k .program) i) a
       is = rw (r .model-is) (raised-is m (headOf (k .program) i) a (omega (arith, few, full)))
 
-      more : Below (system (k .program)) (headOf (k .program) i) (valued m (headOf (k .program) i)) a
-      more = short-below (x .exceeds .more)
+      more : AtOrBefore (system (k .program)) (headOf (k .program) i) (valued m (headOf (k .program) i)) a
+      more = before-at (x .exceeds .more)
 
       next : Progress (system (k .program)) (valued θ) (valued m⁺)
       next =
           progress-raise (laws promises) (k .assigned) progress i (x .among) (head-founded promises i (x .among)) a a (x .exceeds .gives-it)
-          (below-refl (headOf (k .program) i) a) more (record { le = t }) (valued m⁺) is
+          (at-refl (headOf (k .program) i) a) more (record { le = t }) (valued m⁺) is
 
-      risen : (v : ℕ) → Below (system (k .program)) v (valued m v) (valued m⁺ v)
+      risen : (v : ℕ) → AtOrBefore (system (k .program)) v (valued m v) (valued m⁺ v)
       risen v = go (is v)
         where
-          go : (valued m⁺ v ≡ valued m v) ⊎ ((headOf (k .program) i ≡ v) × (valued m⁺ v ≡ a)) → Below (system (k .program)) v (valued m v) (valued m⁺ v)
-          go (inl q) = rw q (below-refl v (valued m v))
+          go : (valued m⁺ v ≡ valued m v) ⊎ ((headOf (k .program) i ≡ v) × (valued m⁺ v ≡ a)) → AtOrBefore (system (k .program)) v (valued m v) (valued m⁺ v)
+          go (inl q) = rw q (at-refl v (valued m v))
           go (inr q) = rw (q .1, ← q .0) more
 
       outside : MetOutside (k .program) (valued θ) (valued m⁺) (has w⁺)

@@ -16,7 +16,7 @@ use Rattle.program.specs.Reading.{Accepts}
 use Rattle.program.specs.declared.Variable.{Variable}
 use Rattle.program.specs.declared.Given.{Given}
 use Rattle.program.specs.declared.Given.the-variants.{Nothing, Value}
-use Rattle.meaning.specs.Founded.{GivenNoMore, Short, Within, Floor, Model, Least}
+use Rattle.meaning.specs.Founded.{GivenNoMore, Before, Within, Floor, Model, Least}
 use Rattle.meaning.specs.Reduct.{system}
 use Rattle.tables.specs.Tabled.{Tabled}
 use Rattle.tables.specs.Laid.{Placed}
@@ -43,7 +43,7 @@ RuleMetIn P θ m i = GivenNoMore (system P) (headOf P i) (givenBy P θ m i) (m (
 -- rule i gives a, which is more than its head has
 pub record Exceeds (P : Program) (θ m : Valuation) (i : ℕ) (a : ℤ) : Type 0 where
   pub gives-it : givenBy P θ m i ≡ Value a
-  pub more : Short (system P) (headOf P i) (m (headOf P i)) a
+  pub more : Before (system P) (headOf P i) (m (headOf P i)) a
 
 -- ---- one rule
 
@@ -125,7 +125,7 @@ Lifted x readers h a model model⁺ waiting waiting⁺ false = T (not (notPast x
 
 -- ---- the run
 
--- the values lie in their ranges, standard ones as assigned, at or below every model; and every rule outside the set is met
+-- the values lie in their ranges, standard ones as assigned, at or before every model; and every rule outside the set is met
 pub record Running (s offsets masks readers : List ℕ) (θ m : List ℤ) (waiting : List ℕ) : Type 0 where
   pub program : Program
   pub accepts : Accepts s program

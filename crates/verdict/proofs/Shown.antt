@@ -18,11 +18,11 @@ use Rattle.program.specs.declared.Direction.{Direction}
 use Rattle.program.specs.declared.Direction.the-variants.{Rising, Falling, Mixed}
 use Rattle.program.proofs.Conditions.{some-below, below-some}
 use Rattle.program.proofs.Promises.{Promises}
-use Rattle.meaning.specs.Founded.{Below, Model, Least}
+use Rattle.meaning.specs.Founded.{AtOrBefore, Model, Least}
 use Rattle.meaning.specs.Reduct.{system}
 use Rattle.meaning.specs.Stable.{Meets}
 use Rattle.meaning.specs.Unfounded.{over, Unfounded, AskedOf, Conditions}
-use Rattle.meaning.proofs.Laws.{below-refl}
+use Rattle.meaning.proofs.Laws.{at-refl}
 use Rattle.meaning.proofs.Theory.{self-model, inside-short, short-unfounded, bounded}
 use Rattle.meaning.proofs.Monotone.{laws}
 use Rattle.meaning.proofs.InRanges.{founded-declared, value-small}
@@ -65,8 +65,8 @@ module _ (P : Program) (θ : Valuation) (dom dom′ : ℕ → Bool) (bound bound
   same-unfounded d e u = record {
     some = (u .some .0, rw (← d (u .some .0)) (u .some .1));
     are = λ v t. u .are v (back v t);
-    low = λ v t. rw (← e v (back v t)) (u .low v (back v t));
-    less = λ v t. rw (← e v (back v t)) (u .less v (back v t));
+    from-start = λ v t. rw (← e v (back v t)) (u .from-start v (back v t));
+    before = λ v t. rw (← e v (back v t)) (u .before v (back v t));
     rules = λ r i t. rw (← same-over d e, ← e _ (back _ t)) (u .rules r i (back _ t));
   }
     where
@@ -146,7 +146,8 @@ module _ {P : Program} (promised : Promises P) {θ m : Valuation} (meets : Meets
 
       f : T (shown P θ m (e .variable)) × (e .mark ≡ boundMark (variableIn (P .variables) (e .variable))) × (e .number ≡ m (e .variable))
       f = bounds-every (P .variables) (shown P θ m) m (length (P .variables))
-          (λ x. T (shown P θ m (x .variable)) × (x .mark ≡ boundMark (variableIn (P .variables) (x .variable))) × (x .number ≡ m (x .variable))) (λ v t. (t, refl, refl)) i h
+          (λ x. T (shown P θ m (x .variable)) × (x .mark ≡ boundMark (variableIn (P .variables) (x .variable))) × (x .number ≡ m (x .variable)))
+          (λ v t. (t, refl, refl)) i h
 
       r : (variableAt b i ≡ e .variable) × (markAt b i ≡ e .mark) × (numberAt b i ≡ e .number)
       r = read-at i (omega arith) e (left-is (bounds P θ m) (conditions P θ m) i h) (rw (f .2) (model-small (e .variable)))
@@ -160,7 +161,8 @@ module _ {P : Program} (promised : Promises P) {θ m : Valuation} (meets : Meets
 
       outof : T (shown P θ m v) → isShown b n v ≡ true
       outof t =
-          let l = bounds-listed (P .variables) (shown P θ m) m (length (P .variables)) v (founded-declared (P .variables) v (short-founded (variableIn (P .variables) v) (θ v) (m v) t)) t in
+          let d = founded-declared (P .variables) v (short-founded (variableIn (P .variables) v) (θ v) (m v) t) in
+          let l = bounds-listed (P .variables) (shown P θ m) m (length (P .variables)) v d t in
           below-some n (λ i. eqb (variableAt b i) v) (l .at) (l .inside)
           (eq-eqb (variableAt b (l .at)) v (bound-at (l .at) (l .inside) .variable ∙ ap (λ (x : Entry). x .variable) (l .is)))
 
@@ -293,7 +295,7 @@ module _ {P : Program} (promised : Promises P) {θ m : Valuation} (meets : Meets
         go Falling q = record { le = subst (λ d. Onward (notPast x) d (θ′ y) (θ y)) q (onward (unkept Falling q refl)) }
         go Mixed q =
             let e = subst (λ d. Onward (notPast x) d (θ′ y) (θ y)) q (onward (unkept Mixed q refl)) in
-            (subst (λ a. Below (system P) y (θ′ y) a) e (below-refl y (θ′ y)), subst (λ a. Below (system P) y a (θ′ y)) e (below-refl y (θ′ y)))
+            (subst (λ a. AtOrBefore (system P) y (θ′ y) a) e (at-refl y (θ′ y)), subst (λ a. AtOrBefore (system P) y a (θ′ y)) e (at-refl y (θ′ y)))
 
   -- ---- the sentences
 

@@ -13,7 +13,7 @@ use Rattle.format.specs.Numbers.{signedAt}
 use Rattle.program.specs.Tables.{_⇒_, select, anyBelow}
 use Rattle.program.specs.Program.{Program, variableIn}
 use Rattle.program.specs.Reading.{Accepts}
-use Rattle.meaning.specs.Founded.{Below}
+use Rattle.meaning.specs.Founded.{AtOrBefore}
 use Rattle.meaning.specs.Reduct.{system}
 use Rattle.meaning.specs.Stable.{assigned, Meets, Stable}
 use Rattle.meaning.specs.Calls.{Refuses, lengths}
@@ -70,11 +70,11 @@ pub record Shows (P : Program) (θ : Valuation) (b : List ℕ) (n k : ℕ) : Typ
   -- "It contains the variables of every other unfounded set of the assignment, none of them with a bound above that set's.": none further from the starting
   -- end, in the variable's order
   pub largest : (dom : ℕ → Bool) (bounds : Valuation) → Unfounded (system P) θ dom bounds → (v : ℕ) → T (dom v)
-      → T (isShown b n v) × Below (system P) v (shownBound b n v) (bounds v)
+      → T (isShown b n v) × AtOrBefore (system P) v (shownBound b n v) (bounds v)
   -- "The conditions shown are true of the assignment."
   pub conditions-true : ConditionsMet θ b n k
   -- "Every stable assignment of the file that meets them keeps each shown variable at or below its shown bound.": at or above it where it is founded from above
-  pub keeps : (θ′ : Valuation) → Stable P θ′ → ConditionsMet θ′ b n k → (v : ℕ) → T (isShown b n v) → Below (system P) v (θ′ v) (shownBound b n v)
+  pub keeps : (θ′ : Valuation) → Stable P θ′ → ConditionsMet θ′ b n k → (v : ℕ) → T (isShown b n v) → AtOrBefore (system P) v (θ′ v) (shownBound b n v)
 
 -- ---- the demands
 

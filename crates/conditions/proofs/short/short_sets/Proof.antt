@@ -1,18 +1,13 @@
 -- One variable after the other.
-use mathlib.Core.Path.{_≡_, _∙_}
-use mathlib.Core.Bool.{_&&_}
-use Prim.Native.Nat.{ℕ, _-_, _≤_}
+use mathlib.Core.Path.{_≡_}
+use Prim.Native.Nat.{_-_, _≤_}
 use native.Mathlib.Omega.{arith}
 use borrow.Author.Needs.{needs}
 use mir.Syntax.{w64}
 use mir.Val.{toZ, ofZ}
-use lib.Dec.{ltb}
 use lib.IntN.{pos}
 use lib.ListN.{getD}
-use Rattle.program.specs.Program.{variablesAt}
 use Rattle.words.specs.Bit.{has}
-use Rattle.conditions.specs.Shortfall.{shortIn}
-use Rattle.conditions.proofs.MemberLaws.{below-none, below-one}
 use Rattle.conditions.proofs.ShortLaws.{ShortTo, short-none, short-more, short-all}
 use Rattle.conditions.proofs.short.short_sets.Statement.{statement}
 use Rattle.program.specs.Readings.{valued}
