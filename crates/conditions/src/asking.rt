@@ -54,10 +54,11 @@ fn ask_position(
     ensures { λ r. ⌜ AsksMore before r (λ asks. askedAt (variablesAt (now (file .entry)) variables) (has (set .words)) asks (ruleOf (now (value .entry))) j) ⌝ }
 {
     let p = position_at(file, variables, value, j);
+    let kept = p.kept;
     let d = p.direction;
     let x = p.variable;
     let inside = set.contains(x);
-    let except = p.kept & inside;
+    let except = kept & inside;
     let most = before.most;
     let least = before.least;
     Asked {

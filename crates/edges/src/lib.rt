@@ -27,9 +27,10 @@ fn mark_position(
     ensures { λ _. ⌜ Grown (rowHas (now (rows .entry))) (rowHas (now (rows .exit))) (drawsAt (variablesAt (now (file .entry)) variables) (ruleOf (now (value .entry))) i) ⌝ }
 {
     let p = position_at(file, variables, value, i);
+    let kept = p.kept;
     let d = p.direction;
     let mixed = d.is_mixed();
-    let draws = p.kept | mixed;
+    let draws = kept | mixed;
     if !draws {
         return;
     }

@@ -14,8 +14,8 @@ is-mixed-requires c κs = search needs
 
 returns : tie.Need-returns
 returns c =
-    let b = c .before .before .before in
-    (b .before .before .before .pre .1 .1, draws-none _ _ _ _ (draws-as _ _ _ (b .position-at .ensures) (c .before .before .is-mixed .ensures) (not-true _ (c .if1 .taken))))
+    let b = c .before .before in
+    (b .before .before .before .pre .1 .1, draws-none _ _ _ _ (draws-as _ _ _ (b .position-at .ensures) (c .before .is-mixed .ensures) (not-true _ (c .if1 .taken))))
 
 header-requires : tie.Need-header-requires
 header-requires c κs = search needs
@@ -32,7 +32,7 @@ mark-requires c κs = search needs
 returns-2 : tie.Need-returns-2
 returns-2 c =
     let k = c .before .before .before .before .before in
-    let m = k .before .before in
+    let m = k .before in
     let p = m .before .position-at .ensures in
     let h = c .before .before .before .wide .ensures .0 ∙ c .before .before .before .before .header .ensures .head-is in
     let x = c .before .before .wide2 .ensures .0 ∙ p .variable-is in

@@ -24,8 +24,8 @@ with-if-requires-2 c κs = search needs
 
 returns : tie.Need-returns
 returns c =
-    let p = c .before .before .before .before .before .before .before .before .position-at in
-    position-asks _ _ _ _ (p .ensures) (c .before .before .before .before .before .before .before .contains .ensures)
+    let p = c .before .before .before .before .before .before .before .position-at in
+    position-asks _ _ _ _ (p .ensures) (c .before .before .before .before .before .before .contains .ensures)
     (c .before .before .before .asks-most .ensures) (c .before .asks-least .ensures) (c .before .before .with-if .ensures) (c .with-if2 .ensures)
 
 pub ask-position-spec : {M : Type 1} → statement M
