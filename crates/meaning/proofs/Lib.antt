@@ -2,6 +2,7 @@ pub mod Laws
 pub mod Lesser
 pub mod Theory
 pub mod Minimal
+pub mod Mirror
 pub mod Monotone
 pub mod Denials
 pub mod Determined

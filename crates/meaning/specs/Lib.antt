@@ -2,6 +2,7 @@ pub mod Founded
 pub mod Reduct
 pub mod Stable
 pub mod LeftOut
+pub mod Mirror
 pub mod Calls
 pub mod LeastCall
 pub mod LeastDemands
