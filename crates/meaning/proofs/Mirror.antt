@@ -16,7 +16,7 @@ use Rattle.program.specs.declared.Given.the-variants.{Nothing, Value}
 use Rattle.program.specs.declared.Variable.{Variable}
 use Rattle.program.proofs.Tests.{cases, is-true}
 use Rattle.program.proofs.Variables.{swaps-not, swaps-so}
-use Rattle.meaning.specs.Founded.{System, AtOrBefore, GivenNoMore, Within, Model, Least}
+use Rattle.meaning.specs.Founded.{System, GivenNoMore, Model, Least}
 use Rattle.meaning.specs.Mirror.{mirrored, turned, turnedGiven, turnedAll, mirror}
 use Rattle.meaning.specs.Reduct.{system}
 use Rattle.meaning.specs.Stable.{Meets, Stable}
@@ -108,7 +108,8 @@ module _ (𝒮 : System) where
   met-iff : (r : Rule) (m θ : Valuation) (b : ℤ)
       → GivenNoMore (mirror 𝒮) (head r) (mirror 𝒮 .gives r (turn m) (turn θ)) (turned (variable (head r)) b) ≡ GivenNoMore 𝒮 (head r) (gives r m θ) b
   met-iff r m θ b =
-      ap₂ (λ (k η : Valuation). T (noMore (mirrored (variable (head r))) (turnedGiven (variable (head r)) (gives r k η)) (turned (variable (head r)) b))) (turn-back m) (turn-back θ)
+      ap₂ (λ (k η : Valuation). T (noMore (mirrored (variable (head r))) (turnedGiven (variable (head r)) (gives r k η)) (turned (variable (head r)) b)))
+      (turn-back m) (turn-back θ)
       ∙ ap T (mirrored-given (variable (head r)) (gives r m θ) b)
 
   module _ {θ : Valuation} where

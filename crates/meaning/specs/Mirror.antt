@@ -1,6 +1,5 @@
 -- Document 000, section 3: "for each ub-founded variable x in the program, create an lb-founded variable x' and replace every occurrence of x in P with
 -- -x', and then map the stable models of the modified program to the original program via θ(x) = -θ(x')." It serves laws alone (proofs/Mirror.antt).
-use Prim.Native.Nat.{ℕ}
 use lib.IntN.{ℤ, negℤ}
 use Rattle.program.specs.Variables.{swaps}
 use Rattle.program.specs.Readings.{Valuation}
