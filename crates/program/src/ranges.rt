@@ -1,7 +1,7 @@
 // What a variable's record says of its values.
 ghost use mathlib.Core.Path.{_≡_};
 ghost use mathlib.Core.Bool.{not};
-ghost use Rattle.program.specs.Variables.{isFounded, fromAbove, start, far, notPast, inRange, started, short};
+ghost use Rattle.program.specs.Variables.{isFounded, fromAbove, swaps, start, far, notPast, inRange, started, short};
 use crate::Variable;
 
 impl Variable {
@@ -19,21 +19,24 @@ impl Variable {
         self.kind == 2
     }
 
+    // The first of two, or the second where it is founded from above.
+    fn swaps(self, a: i64, b: i64) -> i64
+        ensures { λ r. ⌜ r ≡ swaps self a b ⌝ }
+    {
+        if self.is_from_above() { b } else { a }
+    }
+
     // The end of its range from which rules lift it, and the other end.
     pub fn start(self) -> i64
         ensures { λ r. ⌜ r ≡ start self ⌝ }
     {
-        let low = self.low;
-        let high = self.high;
-        if self.is_from_above() { high } else { low }
+        self.swaps(self.low, self.high)
     }
 
     pub fn far(self) -> i64
         ensures { λ r. ⌜ r ≡ far self ⌝ }
     {
-        let low = self.low;
-        let high = self.high;
-        if self.is_from_above() { low } else { high }
+        self.swaps(self.high, self.low)
     }
 
     // Whether a comes before b in its order.
