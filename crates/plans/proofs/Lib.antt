@@ -2,6 +2,7 @@ pub mod Starred
 pub mod StarredChecks
 pub mod Shared
 pub mod IdlePlans
+pub mod Arrivals
 pub mod WrongCalls
 pub mod WrongChecks
 pub mod WrongLeast
