@@ -74,9 +74,13 @@ pub own-not-valid : Reads (own-above 4) (refused 13 8)
 unfolding plans.computes
 own-not-valid = refused-by (whole-by (own-above 4) 2 (lit≤ tt) refl (lit≤ tt)) 0 (lit< tt) refl refl
 
-pub sized-not-valid : Reads sized-above (refused 13 16)
+pub sized-not-valid : Reads (sized-above 9) (refused 13 16)
 unfolding plans.computes
-sized-not-valid = refused-by (whole-by sized-above 4 (lit≤ tt) refl (lit≤ tt)) 0 (lit< tt) refl refl
+sized-not-valid = refused-by (whole-by (sized-above 9) 4 (lit≤ tt) refl (lit≤ tt)) 0 (lit< tt) refl refl
+
+sized-idle-read : Accepts (sized-above 10) (program (sized-above 10) 4)
+unfolding plans.computes
+sized-idle-read = read (sized-above 10) 4 (lit≤ tt) refl (lit≤ tt) refl
 
 pub sized-read : Accepts sized-apart (program sized-apart 4)
 unfolding plans.computes
@@ -140,6 +144,9 @@ arrival-checks = record {
       own-read 1 refl 0 tt _ _ refl refl _ refl refl;
   own-refused = λ a b. turned-down (bad-file own-not-valid);
   sized-refused = λ a b. turned-down (bad-file sized-not-valid);
+  sized-idle-stable = stable-checked (stable-plan (plan-of _ sized-idle-read refl refl) 9 (pos 10 ∷ pos 10 ∷ []) refl refl refl refl) 2 refl;
+  sized-idle-shown = unfounded-checked (unfounded-plan (plan-of _ sized-idle-read refl refl) 9 (pos 7 ∷ pos 10 ∷ []) refl refl refl 1 refl)
+      sized-idle-read 2 refl 1 tt _ _ refl refl _ refl refl;
   sized-stable = stable-checked (stable-plan (plan-of _ sized-read refl refl) 9 (pos 3 ∷ pos 3 ∷ []) refl refl refl refl) 2 refl;
   sized-shown = unfounded-checked (unfounded-plan (plan-of _ sized-read refl refl) 9 (pos 2 ∷ pos 3 ∷ []) refl refl refl 0 refl)
       sized-read 2 refl 0 tt _ _ refl refl _ refl refl;

@@ -7,3 +7,5 @@ pub mod WrongCalls
 pub mod WrongChecks
 pub mod WrongLeast
 pub mod WrongMixed
+pub mod Choices
+pub mod WrongArrivals

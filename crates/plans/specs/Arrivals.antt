@@ -122,9 +122,9 @@ half-above = whole 2 (whole 0 (0x02 ∷ 0x00 ∷ 0x0C ∷ 0x08 ∷ 0x00 ∷ 0x00
 abbrev pub own-above : ℕ → List ℕ
 own-above c = variable 2 0xFF 0xFB 0x00 0x05 (size 0 c 0 [])
 
--- a in 0..10 and b in -10..10, both founded from above; a ≤ |b|; b ≤ a
-abbrev pub sized-above : List ℕ
-sized-above = natural 2 (whole 2 (size 0 0 1 (plus 1 0 0 [])))
+-- a in 0..10 and b in -10..10, both founded from above; a ≤ |b|; b ≤ a + c
+abbrev pub sized-above : ℕ → List ℕ
+sized-above c = natural 2 (whole 2 (size 0 0 1 (plus 1 c 0 [])))
 
 -- a founded from below in 0..10, b from above in -10..10; a ≥ |b|; b ≤ a
 abbrev pub sized-apart : List ℕ
@@ -197,7 +197,10 @@ pub record ArrivalChecks : Type 0 where
   -- |a| + 4 can be less: the file is not valid, whatever else is lent
   pub own-refused : (a b : List ℕ) → Checks (own-above 4) a b (refusal 13 8) b
   -- "edges run to kept and mixed variables": a, founded from above, falls in the rule for b, so that each reaches the other
-  pub sized-refused : (a b : List ℕ) → Checks sized-above a b (refusal 13 16) b
+  pub sized-refused : (a b : List ℕ) → Checks (sized-above 9) a b (refusal 13 16) b
+  -- the least that a + 10 is, is b's high: an idle rule, which draws no edge. With b in the set it asks that a is at least 7
+  pub sized-idle-stable : Checked (sized-above 10) (two 10 10) 2 stable []
+  pub sized-idle-shown : Checked (sized-above 10) (two 7 7) 2 (unfounded 1 1) (0x01 ∷ 0x03 ∷ small 10 (0x00 ∷ 0x02 ∷ small 7 []))
   -- a, which is founded from below, falls in the rule for b: no edge leads back
   pub sized-stable : Checked sized-apart (two 3 3) 2 stable []
   pub sized-shown : Checked sized-apart (two 3 2) 2 (unfounded 2 3)
