@@ -81,6 +81,11 @@ pub row-7 : Reads (0x01 ∷ 0x00 ∷ 0x05 ∷ 0x03 ∷ 0x00 ∷ 0x00 ∷ 0x00 �
 unfolding computes
 row-7 = bad-field {k = 0} (passed-none _ (lit≤ tt)) (lit< tt) (lit< tt)
 
+-- document 02, wish 3: "Kind 2, which refusal 7 now lets pass"
+pub row-7-kind-2 : Reads (variable 2 []) (accepted 1 0 0)
+unfolding computes
+row-7-kind-2 = accepted-by (whole-by (variable 2 []) 1 (lit≤ tt) refl (lit≤ tt)) refl
+
 pub row-8 : Reads (0x01 ∷ 0x00 ∷ 0x05 ∷ 0x00 ∷ 0x00 ∷ 0x01 ∷ 0x00 ∷ 0x00 ∷ []) (refused 8 0)
 unfolding computes
 row-8 = bad-field {k = 0} (passed-none _ (lit≤ tt)) (lit< tt) (lit< tt)
@@ -184,6 +189,10 @@ module _ (read : List ℕ → Answer) (right : (s : List ℕ) → Reads s (read 
 
   pub not-accepting : (a b c : ℕ) → read (0x09 ∷ []) ≡ accepted a b c → ⊥
   not-accepting a b c e = accepted-not a b c 2 0 (sym (answers _ cut-header e))
+
+  -- it takes a variable founded from above
+  pub not-kind-2-refused : (n at : ℕ) → read (variable 2 []) ≡ refused n at → ⊥
+  not-kind-2-refused n at e = accepted-not 1 0 0 n at (answers _ row-7-kind-2 e)
 
   -- it compares a variable with that at the first position of the body: one that leaves this position out accepts `a ≥ 2·b - b`
   pub not-first-position-left-out : (a b c : ℕ) → read repeated ≡ accepted a b c → ⊥
