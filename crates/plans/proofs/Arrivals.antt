@@ -105,7 +105,7 @@ arrival-checks = record {
   both-shown = unfounded-checked (unfounded-plan (plan-of _ both-read refl refl) 9 (pos 3 ∷ negℤ (pos 3) ∷ pos 4 ∷ pos 3 ∷ []) refl refl refl 1 refl)
       both-read 4 refl 1 tt _ _ refl refl _ refl refl;
   literals-stable = stable-checked (stable-plan (plan-of _ literals-read refl refl) 9 (pos 1 ∷ pos 1 ∷ pos 0 ∷ []) refl refl refl refl) 3 refl;
-  literals-idle-stable = stable-checked (stable-plan (plan-of _ literals-read refl refl) 9 (pos 0 ∷ pos 0 ∷ pos 1 ∷ []) refl refl refl refl) 3 refl;
+  literals-start-stable = stable-checked (stable-plan (plan-of _ literals-read refl refl) 9 (pos 0 ∷ pos 0 ∷ pos 1 ∷ []) refl refl refl refl) 3 refl;
   literals-shown = unfounded-checked (unfounded-plan (plan-of _ literals-read refl refl) 9 (pos 0 ∷ pos 0 ∷ pos 1 ∷ []) refl refl refl 1 refl)
       literals-read 3 refl 1 tt _ _ refl refl _ refl refl;
   apart-stable = stable-checked (stable-plan (plan-of _ apart-read refl refl) 9 (pos 2 ∷ pos 2 ∷ []) refl refl refl refl) 2 refl;

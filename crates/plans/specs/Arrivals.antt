@@ -156,9 +156,9 @@ pub record ArrivalChecks : Type 0 where
   pub both-stable : Checked both-kinds (small 3 (below 3 (small 4 (small 3 [])))) 4 stable []
   pub both-shown : Checked both-kinds (small 5 (below 5 (small 6 (small 3 [])))) 4 (unfounded 3 1)
       (0x00 ∷ 0x00 ∷ small 3 (0x01 ∷ 0x03 ∷ below 3 (0x02 ∷ 0x00 ∷ small 4 (0x03 ∷ 0x01 ∷ small 3 []))))
-  -- and through literals, which do not swap. s at most 0
+  -- and through literals, which do not swap: both lifted by s, both at their starting ends, and both held by each other alone, with s at most 0
   pub literals-stable : Checked by-literals (three 1 1 0) 3 stable []
-  pub literals-idle-stable : Checked by-literals (three 0 0 1) 3 stable []
+  pub literals-start-stable : Checked by-literals (three 0 0 1) 3 stable []
   pub literals-shown : Checked by-literals (three 0 1 0) 3 (unfounded 2 1) (0x01 ∷ 0x00 ∷ small 0 (0x02 ∷ 0x03 ∷ small 1 (0x00 ∷ 0x01 ∷ small 0 [])))
   -- a founded from below falls in a rule for a head founded from above: it is not kept, and in the set it still is at least 5
   pub apart-stable : Checked apart (two 2 2) 2 stable []
