@@ -1,7 +1,6 @@
 -- Plans with variables that are founded from above, under the check, computed from their bytes.
 use mathlib.Core.Path.{refl}
-use mathlib.Core.List.{List, [], _∷_}
-use Prim.Native.Nat.{ℕ}
+use mathlib.Core.List.{[], _∷_}
 use lib.Dec.{lit<, lit≤}
 use lib.IntN.{pos, negℤ}
 use Rattle.program.specs.Program.{program}

@@ -190,7 +190,10 @@ module _ (read : List ℕ → Answer) (right : (s : List ℕ) → Reads s (read 
   pub not-accepting : (a b c : ℕ) → read (0x09 ∷ []) ≡ accepted a b c → ⊥
   not-accepting a b c e = accepted-not a b c 2 0 (sym (answers _ cut-header e))
 
-  -- it takes a variable founded from above
+  -- it takes a variable founded from above, and no variable of kind 3
+  pub not-kind-3 : (a b c : ℕ) → read (variable 3 []) ≡ accepted a b c → ⊥
+  not-kind-3 a b c e = accepted-not a b c 7 0 (sym (answers _ row-7 e))
+
   pub not-kind-2-refused : (n at : ℕ) → read (variable 2 []) ≡ refused n at → ⊥
   not-kind-2-refused n at e = accepted-not 1 0 0 n at (answers _ row-7-kind-2 e)
 
@@ -215,6 +218,10 @@ module _ (read : List ℕ → Answer) (right : (s : List ℕ) → Reads s (read 
 
   pub not-field-at-the-end : read (sized 0 0) ≡ refused 2 27 → ⊥
   not-field-at-the-end e = accepted-not 2 2 0 2 27 (answers _ row-13-from-zero e)
+
+  -- the size of a variable from 0 on is not mixed
+  pub not-mixed-from-zero : read (sized 0 0) ≡ refused 13 16 → ⊥
+  not-mixed-from-zero e = accepted-not 2 2 0 13 16 (answers _ row-13-from-zero e)
 
   -- it takes a product of variables from 0 on
   pub not-12-at-zero : (at : ℕ) → read product ≡ refused 12 at → ⊥
