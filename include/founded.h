@@ -1,7 +1,7 @@
 /*
  * Founded cover for C: reads a rule file, finds the least model for an assignment, checks an assignment. Link with libfounded.a (x86-64
  * Linux); it needs memset of the C library and nothing else. The calls are proved: each returns, for every input that is passed as said
- * here, and answers and writes what document 01 and document 02's first two wishes define (crates/founded).
+ * here, and answers and writes what document 01 and document 02's first three wishes define (crates/founded).
  *
  * What a caller passes:
  * - Each buffer is a pointer and its length in bytes. So many bytes can be read there, and written where the pointer is not const.
@@ -41,7 +41,7 @@ extern "C" {
 #define FOUNDED_CHECK_BYTES 12u     /* at least, of the report that founded_check writes: they are enough, and can all be used */
 
 /*
- * ---- stack of a thread that makes the call and little else. In the tests the calls touched at most 10,800, 105,000 and 105,300 bytes; the
+ * ---- stack of a thread that makes the call and little else. In the tests the calls touched at most 10,800, 105,100 and 105,400 bytes; the
  * rest is for the thread's own start and a margin.
  */
 
@@ -56,7 +56,8 @@ uint64_t founded_read(const uint8_t *file, size_t file_len);
 
 /*
  * REFUSED; RANGE with the first variable that is assigned outside its range; NONE where the reduct has no model; or FOUND. Only FOUND
- * writes: the least model, a value of 2 bytes for each variable.
+ * writes: the least model, a value of 2 bytes for each variable. A standard variable is as assigned. A founded one starts at its low and is
+ * pushed up by rules, one that is founded from above (kind 2) starts at its high and is pushed down, each no further than rules demand.
  */
 uint64_t founded_least(const uint8_t *file, size_t file_len, const uint8_t *assignment, size_t assignment_len, uint8_t *buffer,
                        size_t buffer_len);
@@ -111,9 +112,10 @@ static inline void founded_assign(uint8_t *values, size_t v, int value)
 /* ---- entries of the report, 4 bytes each: variable, mark, number. Entry i of an UNFOUNDED answer, i below bounds + conditions. */
 
 enum {
-    FOUNDED_BOUND = 0,   /* the variable's least value is number, below its assigned one */
-    FOUNDED_AT_MOST = 1, /* a condition: the variable is assigned at most number */
-    FOUNDED_AT_LEAST = 2 /* a condition: the variable is assigned at least number */
+    FOUNDED_BOUND = 0,       /* kind 1: rules push the variable up to number at most, below its assigned value */
+    FOUNDED_BOUND_ABOVE = 3, /* kind 2: rules push the variable down to number at least, above its assigned value */
+    FOUNDED_AT_MOST = 1,     /* a condition: the variable is assigned at most number */
+    FOUNDED_AT_LEAST = 2     /* a condition: the variable is assigned at least number */
 };
 
 static inline unsigned founded_entry_variable(const uint8_t *report, size_t i) { return report[4 * i]; }
