@@ -127,9 +127,10 @@ static void say(uint64_t a)
 
 static void say_entry(const uint8_t *report, size_t i)
 {
-    static const char *const MARKS[] = {"most", "<=", ">="};
+    static const char *const MARKS[] = {
+        [FOUNDED_BOUND] = "most", [FOUNDED_AT_MOST] = "<=", [FOUNDED_AT_LEAST] = ">=", [FOUNDED_BOUND_ABOVE] = "least"};
     unsigned mark = founded_entry_mark(report, i);
-    printf("; %u %s %d", founded_entry_variable(report, i), mark < 3 ? MARKS[mark] : "?", founded_entry_number(report, i));
+    printf("; %u %s %d", founded_entry_variable(report, i), mark < 4 ? MARKS[mark] : "?", founded_entry_number(report, i));
 }
 
 /* a few values or entries, or the first and the last of many */
@@ -238,7 +239,7 @@ static void term(unsigned v, unsigned op, int n)
     put_number(n);
 }
 
-enum { STANDARD, FOUNDED, SUM = 1, MAX, MIN, PRODUCT, SIZE, IF, CARRY, DIVIDED };
+enum { STANDARD, FOUNDED, FROM_ABOVE, SUM = 1, MAX, MIN, PRODUCT, SIZE, IF, CARRY, DIVIDED };
 enum { PLAIN, OVER, UNDER, DIVISOR };
 
 static void variables(size_t n, unsigned kind, int low, int high)
@@ -304,7 +305,7 @@ static void rows(void)
     variables(FOUNDED_MAX_VARIABLES + 1, FOUNDED, 0, 10);
     try_read("row 5");
     row("row 6", BYTES(1, 0, 4, 0, 0, 0, 0));
-    row("row 7", BYTES(1, 0, 5, 2, 0, 0, 0, 1));
+    row("row 7", BYTES(1, 0, 5, 3, 0, 0, 0, 1));
     row("row 8", BYTES(1, 0, 5, 0, 0, 1, 0, 0));
     row("row 9", BYTES(2, 0, 4, 1, 0, 0, 0));
     row("row 10", BYTES(3, 0, 3, 2, 0, 0));
@@ -507,21 +508,25 @@ static void needing(int n)
     term(3, OVER, n);
 }
 
-/* a in -5..5, a >= |a| + c */
-static void own_size(int c)
+/* a of this kind in -5..5, a by the rule |a| + c */
+static void own_size(unsigned kind, int c)
 {
     fresh();
-    variable(FOUNDED, -5, 5);
+    variable(kind, -5, 5);
     rule(SIZE, 0, c);
     term(0, PLAIN, 0);
 }
 
-/* all variables in -10..10, each at least the size of the one before it less 1, and the first at least the size of the last and c */
-static void sizes(int c)
+/*
+ * All variables in -10..10, those with odd numbers of the kind odd, each by the size of the one before it less 1, and the first at least the size
+ * of the last and c.
+ */
+static void sizes(unsigned odd, int c)
 {
     const unsigned last = FOUNDED_MAX_VARIABLES - 1;
     fresh();
-    variables(FOUNDED_MAX_VARIABLES, FOUNDED, -10, 10);
+    for (unsigned v = 0; v <= last; v++)
+        variable(v % 2 ? odd : (unsigned)FOUNDED, -10, 10);
     for (unsigned v = 0; v < last; v++) {
         rule(SIZE, v + 1, -1);
         term(v, PLAIN, 0);
@@ -547,21 +552,85 @@ static void idle_rules(void)
     try_read("d >= 5 if a >= 1, s >= 9");
     both("d >= 5 if a >= 1, s >= 9: 3 3 3 4", VALUES(3, 3, 3, 4), 8, 48);
     both("d >= 5 if a >= 1, s >= 9: 3 3 3 9", VALUES(3, 3, 3, 9), 8, 48);
-    own_size(-9);
+    own_size(FOUNDED, -9);
     try_read("a >= |a| - 9");
-    own_size(-10);
+    own_size(FOUNDED, -10);
     try_read("a >= |a| - 10");
     both("a >= |a| - 10: 0, row 15", VALUES(0), 1, 11);
     both("a >= |a| - 10: 0", VALUES(0), 2, 12);
     both("a >= |a| - 10: 0, more lent", VALUES(0), 3, 13);
     rule(SUM, 0, 2);
     both("the same with a >= 2: 0", VALUES(0), 2, 12);
-    sizes(-19);
+    sizes(FOUNDED, -19);
     try_read("256 sizes, the last rule not idle");
-    sizes(-20);
+    sizes(FOUNDED, -20);
     both("256 sizes, row 15", tens, FOUNDED_MAX_VARIABLES, 511, 3071);
     both("256 sizes", tens, FOUNDED_MAX_VARIABLES, 512, 3072);
     both("256 sizes, more lent", tens, FOUNDED_MAX_VARIABLES, 513, 3073);
+}
+
+/* ---- kind 2, founded from above */
+
+/* arrival times in 0..100: t0 <= 5, t1 <= t0 + 10, t2 <= t1 + 10, t1 <= t2 + 10, t0 <= t1 + 10 */
+static void arrival(void)
+{
+    static const unsigned legs[][2] = {{0, 1}, {1, 2}, {2, 1}, {1, 0}};
+    fresh();
+    variables(3, FROM_ABOVE, 0, 100);
+    rule(SUM, 0, 5);
+    for (size_t i = 0; i < 4; i++) {
+        rule(SUM, legs[i][1], 10);
+        term(legs[i][0], PLAIN, 1);
+    }
+}
+
+static void from_above(void)
+{
+    static int turns[FOUNDED_MAX_VARIABLES];
+    for (size_t v = 0; v < FOUNDED_MAX_VARIABLES; v++)
+        turns[v] = v % 2 ? -5 : 5;
+    arrival();
+    try_read("arrival");
+    both("arrival 5 15 25", VALUES(5, 15, 25), 6, 36);
+    both("arrival 5 14 24", VALUES(5, 14, 24), 6, 36);
+    both("arrival 5 14 24, more lent", VALUES(5, 14, 24), 9, 40);
+    both("arrival 5 14 24, row 15", VALUES(5, 14, 24), 5, 35);
+    both("arrival 5 16 25", VALUES(5, 16, 25), 6, 36);
+    both("arrival 5 15 101", VALUES(5, 15, 101), 6, 36);
+    fresh();
+    variable(STANDARD, 0, 1);
+    rule(SUM, 0, 0);
+    try_read("standard head");
+    fresh();
+    variable(FOUNDED, 0, 10);
+    variable(FROM_ABOVE, 0, 10);
+    rule(SUM, 0, 10);
+    term(1, PLAIN, -1);
+    rule(SUM, 1, 10);
+    term(0, PLAIN, -1);
+    rule(SUM, 0, 3);
+    both("a >= 10 - b, b <= 10 - a, a >= 3: 3 7", VALUES(3, 7), 4, 24);
+    both("a >= 10 - b, b <= 10 - a, a >= 3: 4 6", VALUES(4, 6), 4, 24);
+    fresh();
+    variables(2, FROM_ABOVE, 0, 5);
+    rule(SUM, 0, -1);
+    term(1, PLAIN, 1);
+    rule(SUM, 1, 0);
+    term(0, PLAIN, 1);
+    both("a <= b - 1, b <= a: 0 0", VALUES(0, 0), 4, 24);
+    own_size(FROM_ABOVE, 4);
+    try_read("a <= |a| + 4");
+    own_size(FROM_ABOVE, 5);
+    try_read("a <= |a| + 5");
+    both("a <= |a| + 5: 0, row 15", VALUES(0), 1, 11);
+    both("a <= |a| + 5: 0", VALUES(0), 2, 12);
+    both("a <= |a| + 5: 0, more lent", VALUES(0), 3, 13);
+    sizes(FROM_ABOVE, -19);
+    try_read("256 sizes of both kinds, the last rule not idle");
+    sizes(FROM_ABOVE, -20);
+    both("256 sizes of both kinds, row 15", turns, FOUNDED_MAX_VARIABLES, 511, 3071);
+    both("256 sizes of both kinds", turns, FOUNDED_MAX_VARIABLES, 512, 3072);
+    both("256 sizes of both kinds, more lent", turns, FOUNDED_MAX_VARIABLES, 513, 3073);
 }
 
 /* ---- threads at the same time, over one file and one assignment */
@@ -618,6 +687,7 @@ int main(int argc, char **argv)
     limits();
     plans();
     idle_rules();
+    from_above();
     at_once();
     for (int i = 0; i < 3; i++)
         if (deepest[i] + MARGIN > STACKS[i])
