@@ -1,11 +1,11 @@
-/* Checks a plan that is built in memory, document 01's printing example, and says the answer in words. */
+/* Checks plans that are built in memory, document 01's printing example and earliest arrival times, and says the answers in words. */
 #include <stdio.h>
 
 #include "founded.h"
 
 enum { VARIABLES = 3 };
 
-static const uint8_t FILE_BYTES[] = {
+static const uint8_t COVER[] = {
     1, 0, 5, 0, 0, 0, 0, 1,          /* variable 0: standard, 0..1 */
     1, 0, 5, 1, 0, 0, 0, 1,          /* variable 1: founded, 0..1 */
     1, 0, 5, 1, 0, 0, 0, 1,          /* variable 2: founded, 0..1 */
@@ -14,22 +14,33 @@ static const uint8_t FILE_BYTES[] = {
     2, 0, 8, 6, 2, 0, 1, 1, 1, 0, 1, /* 2 is at least 1 if 1 is at least 1 */
 };
 
+static const uint8_t ARRIVAL[] = {
+    1, 0, 5, 2, 0, 0, 0, 100,         /* variable 0: founded from above, 0..100 */
+    1, 0, 5, 2, 0, 0, 0, 100,         /* variable 1: founded from above, 0..100 */
+    1, 0, 5, 2, 0, 0, 0, 100,         /* variable 2: founded from above, 0..100 */
+    2, 0, 4, 1, 0, 0, 5,              /* 0 is at most 5 */
+    2, 0, 8, 1, 1, 0, 10, 0, 0, 0, 1, /* 1 is at most 10 more than 0 */
+    2, 0, 8, 1, 2, 0, 10, 1, 0, 0, 1, /* 2 is at most 10 more than 1 */
+    2, 0, 8, 1, 1, 0, 10, 2, 0, 0, 1, /* 1 is at most 10 more than 2 */
+};
+
 static void say_entries(const uint8_t *report, unsigned bounds, unsigned conditions)
 {
     for (unsigned i = 0; i < bounds; i++)
-        printf("  variable %u is held up to %d only\n", founded_entry_variable(report, i), founded_entry_number(report, i));
+        printf("  variable %u is held %s to %d only\n", founded_entry_variable(report, i),
+               founded_entry_mark(report, i) == FOUNDED_BOUND ? "up" : "down", founded_entry_number(report, i));
     for (unsigned i = bounds; i < bounds + conditions; i++)
         printf("  as long as variable %u is %s %d\n", founded_entry_variable(report, i),
                founded_entry_mark(report, i) == FOUNDED_AT_MOST ? "at most" : "at least", founded_entry_number(report, i));
 }
 
-static void check(int a, int b, int c)
+static void check(const uint8_t *file, size_t file_len, int a, int b, int c)
 {
     uint8_t assignment[FOUNDED_ASSIGNMENT_BYTES * VARIABLES], report[FOUNDED_CHECK_BYTES * VARIABLES];
     founded_assign(assignment, 0, a);
     founded_assign(assignment, 1, b);
     founded_assign(assignment, 2, c);
-    uint64_t answer = founded_check(FILE_BYTES, sizeof FILE_BYTES, assignment, sizeof assignment, report, sizeof report);
+    uint64_t answer = founded_check(file, file_len, assignment, sizeof assignment, report, sizeof report);
     printf("%d, %d, %d is ", a, b, c);
     switch (founded_word(answer)) {
     case FOUNDED_STABLE: printf("stable\n"); break;
@@ -46,9 +57,12 @@ static void check(int a, int b, int c)
 
 int main(void)
 {
-    check(1, 1, 1);
-    check(0, 1, 1);
-    check(1, 0, 0);
-    check(0, 2, 0);
+    check(COVER, sizeof COVER, 1, 1, 1);
+    check(COVER, sizeof COVER, 0, 1, 1);
+    check(COVER, sizeof COVER, 1, 0, 0);
+    check(COVER, sizeof COVER, 0, 2, 0);
+    check(ARRIVAL, sizeof ARRIVAL, 5, 15, 25);
+    check(ARRIVAL, sizeof ARRIVAL, 5, 14, 24);
+    check(ARRIVAL, sizeof ARRIVAL, 5, 16, 25);
     return 0;
 }
