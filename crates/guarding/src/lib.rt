@@ -52,6 +52,7 @@ fn marked(v: usize, mark: u8) {
             say(b", when", v);
             text(b" >=");
         }
+        3 => say(b", least", v),
         _ => say(b", no such mark", v),
     }
 }
