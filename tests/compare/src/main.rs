@@ -115,8 +115,10 @@ fn brute_force(first: u64, programs: u64, failures: &mut Vec<String>) {
         }
     }
     println!("brute force {tried:?}");
-    if programs >= 1_000 && tried.each().iter().any(|&n| n < 20) {
-        failures.push("brute force tried too little".to_string());
+    for (name, count) in tried.each() {
+        if programs >= 1_000 && count < 20 {
+            failures.push(format!("brute force tried too little: {name} {count}"));
+        }
     }
 }
 

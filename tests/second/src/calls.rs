@@ -2,7 +2,7 @@
 
 use crate::graph;
 use crate::meaning::Direction;
-use crate::program::{signed, Program, Rule, QUOTIENT};
+use crate::program::{signed, Kind, Program, Rule, QUOTIENT};
 use crate::reader::{parse, Refusal};
 use crate::wrong::Wrong;
 
@@ -85,7 +85,7 @@ fn open(
 fn first_outside(program: &Program, values: &[i64]) -> Option<usize> {
     (0..values.len()).find(|&v| {
         let variable = &program.variables[v];
-        let tried = variable.founded || program.wrong != Wrong::RangeOfFounded;
+        let tried = variable.founded() || program.wrong != Wrong::RangeOfFounded;
         tried && !(variable.low..=variable.high).contains(&values[v])
     })
 }
@@ -156,23 +156,68 @@ pub fn check_with(file: &[u8], assignment: &[u8], report: &mut [u8], wrong: Wron
     Verdict::Unfounded(bounds.len(), conditions.len())
 }
 
-/// Mark 0: each founded variable whose least value is below its assigned one.
+/// Mark 0: each variable of kind 1 whose least value is below its assigned
+/// one. Mark 3: each of kind 2 whose least value is above its assigned one.
 fn bounds(program: &Program, assigned: &[i64], least: &[i64]) -> Vec<Entry> {
     let edges = graph::edges(program);
-    let on_circle = |v: usize| graph::reached(&edges, v)[v] && assigned[v] > program.variables[v].low;
     let mut bounds = Vec::new();
-    for v in 0..assigned.len() {
-        let founded = program.variables[v].founded;
-        if founded && least[v] < assigned[v] {
-            bounds.push(Entry { variable: v, mark: 0, number: least[v] });
-        } else if program.wrong == Wrong::StrikesCircles && founded && on_circle(v) {
-            bounds.push(Entry { variable: v, mark: 0, number: program.variables[v].low });
+    for (v, variable) in program.variables.iter().enumerate() {
+        let moved = variable.further(assigned[v], variable.start());
+        let struck = || moved && graph::reached(&edges, v)[v];
+        let in_set = match program.wrong {
+            Wrong::AboveSetTurned => least[v] < assigned[v],
+            _ => variable.further(assigned[v], least[v]),
+        };
+        let number = match program.wrong {
+            Wrong::AboveShowsHigh if variable.above() => variable.high,
+            _ if in_set => least[v],
+            _ => variable.start(),
+        };
+        let mark = match variable.kind {
+            Kind::Above if program.wrong != Wrong::AboveMarkZero => 3,
+            _ => 0,
+        };
+        if variable.founded() && (in_set || program.wrong == Wrong::StrikesCircles && struck()) {
+            bounds.push(Entry { variable: v, mark, number });
         }
     }
-    if program.wrong == Wrong::ShowsFirstOnly {
-        bounds.truncate(1);
+    match program.wrong {
+        Wrong::ShowsFirstOnly => bounds.truncate(1),
+        Wrong::GroupedByMark => bounds.sort_by_key(|entry| entry.mark),
+        _ => {}
     }
     bounds
+}
+
+/// Does this occurrence of a variable of the set give no condition?
+fn drops(program: &Program, rule: &Rule, position: usize) -> bool {
+    let above = program.variables[rule.terms[position].variable].above();
+    match program.wrong {
+        Wrong::DropsAllOfSet => true,
+        Wrong::AboveRisingNoCondition if above => program.direction(rule, position) != Direction::Mixed,
+        Wrong::AboveKeptCondition if above => false,
+        _ => program.kept(rule, position),
+    }
+}
+
+/// At most for a rising position, at least for a falling one, both for a
+/// mixed one, whatever the kinds.
+fn asks(program: &Program, rule: &Rule, position: usize) -> (bool, bool) {
+    let above = program.variables[rule.terms[position].variable].above();
+    let into_above = program.variables[rule.head].above();
+    let (most, least) = match program.direction(rule, position) {
+        Direction::Rising => (true, false),
+        Direction::Falling => (false, true),
+        Direction::Mixed => (true, true),
+    };
+    match program.wrong {
+        Wrong::AboveFallingAtMost if above && !most => (true, false),
+        Wrong::AboveConditionsTurned if above => (least, most),
+        Wrong::AboveRulesTurned if into_above => (least, most),
+        Wrong::AboveFallingBoth if into_above => (true, least),
+        Wrong::AboveMixedOnce if into_above && least => (false, true),
+        _ => (most, least),
+    }
 }
 
 /// Marks 1 and 2: what the rules heading into the set rest on.
@@ -181,24 +226,19 @@ fn conditions(program: &Program, assigned: &[i64], bounds: &[Entry]) -> Vec<Entr
     // For every variable: how often "at most" and "at least" are needed.
     let mut at_most = vec![0; assigned.len()];
     let mut at_least = vec![0; assigned.len()];
-    let asks = |rule: &&Rule| program.wrong != Wrong::IdleNoConditions || !program.idle(rule);
-    for rule in program.rules.iter().filter(|rule| in_set(rule.head)).filter(asks) {
+    let counts = |rule: &&Rule| program.wrong != Wrong::IdleNoConditions || !program.idle(rule);
+    for rule in program.rules.iter().filter(|rule| in_set(rule.head)).filter(counts) {
         if rule.form == QUOTIENT && program.wrong == Wrong::DivisorIsCondition && !in_set(0) {
             at_most[0] += 1;
         }
         for position in 0..rule.terms.len() {
             let v = rule.terms[position].variable;
-            if in_set(v) && (program.kept(rule, position) || program.wrong == Wrong::DropsAllOfSet) {
+            if in_set(v) && drops(program, rule, position) {
                 continue;
             }
-            match program.direction(rule, position) {
-                Direction::Rising => at_most[v] += 1,
-                Direction::Falling => at_least[v] += 1,
-                Direction::Mixed => {
-                    at_most[v] += 1;
-                    at_least[v] += 1;
-                }
-            }
+            let (most, least) = asks(program, rule, position);
+            at_most[v] += usize::from(most);
+            at_least[v] += usize::from(least);
         }
     }
     let mut entries = Vec::new();

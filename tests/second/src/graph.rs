@@ -1,7 +1,7 @@
 //! The dependency graph and the search for a rule that makes a file invalid.
 
 use crate::meaning::Direction;
-use crate::program::{Program, QUOTIENT};
+use crate::program::{Kind, Program, Rule, QUOTIENT};
 use crate::wrong::Wrong;
 
 /// For each variable, the variables an edge runs to.
@@ -23,14 +23,29 @@ fn edges_of(program: &Program, idle: &[bool]) -> Vec<Vec<usize>> {
             edges[rule.head].push(0);
         }
         for (position, term) in rule.terms.iter().enumerate() {
-            let falling = program.direction(rule, position) == Direction::Falling;
-            let drawn = !falling || program.wrong == Wrong::DrawsFalling;
-            if drawn && !edges[rule.head].contains(&term.variable) {
+            if draws(program, rule, position) && !edges[rule.head].contains(&term.variable) {
                 edges[rule.head].push(term.variable);
             }
         }
     }
     edges
+}
+
+/// Edges run to kept and mixed variables.
+fn draws(program: &Program, rule: &Rule, position: usize) -> bool {
+    let kind = program.variables[rule.terms[position].variable].kind;
+    let head = program.variables[rule.head].kind;
+    let direction = program.direction(rule, position);
+    let (pulls, mixed) = (program.pulls(rule, position), direction == Direction::Mixed);
+    match program.wrong {
+        Wrong::DrawsFalling if direction == Direction::Falling => true,
+        Wrong::NoEdgeToAbove if kind == Kind::Above => mixed,
+        Wrong::EdgeToRisingAbove if kind == Kind::Above => true,
+        Wrong::EdgeToFallingBelow if kind == Kind::Below && head == Kind::Above => true,
+        Wrong::EdgesToKeptOnly => pulls,
+        Wrong::AboveDrawsNone if head == Kind::Above => false,
+        _ => pulls || mixed,
+    }
 }
 
 /// All variables that a path of at least one edge leads to.
@@ -68,6 +83,7 @@ pub fn offending_rules(program: &Program, idle: &[bool]) -> Vec<usize> {
     rules.retain(|&r| match program.wrong {
         Wrong::IdleOffends => true,
         Wrong::IdleEndsSearch => !idle[..=r].contains(&true),
+        Wrong::AboveNeverOffends if program.variables[program.rules[r].head].above() => false,
         _ => !idle[r],
     });
     rules
@@ -80,8 +96,11 @@ fn mixed_rules(program: &Program, edges: &[Vec<usize>]) -> Vec<usize> {
         _ => reached(edges, v),
     };
     let reach: Vec<Vec<bool>> = (0..edges.len()).map(reach_from).collect();
-    let together = |a: usize, b: usize| {
-        (a == b && program.wrong != Wrong::LoopPasses) || (a != b && reach[a][b] && reach[b][a])
+    let kind = |v: usize| program.variables[v].kind;
+    let together = |a: usize, b: usize| match program.wrong {
+        Wrong::LoopPasses if a == b => false,
+        Wrong::ComponentOfOneKind if kind(a) != kind(b) => false,
+        _ => a == b || reach[a][b] && reach[b][a],
     };
     let mixed = |rule: &usize| {
         let rule = &program.rules[*rule];

@@ -1,12 +1,13 @@
-//! Rules that can do nothing (document 02, wish 2). The most that a rule can
-//! give is worked out form by form from the ends of the ranges.
+//! Rules that can do nothing (document 02, wishes 2 and 3). The most that a
+//! rule can give is worked out form by form from the ends of the ranges; for
+//! heads of kind 2 `idle_above` has the least.
 
 use crate::meaning::Direction;
 use crate::program::*;
 use crate::wrong::Wrong;
 
 /// The values that a position goes through.
-type Range = (i64, i64);
+pub(crate) type Range = (i64, i64);
 
 impl Program {
     /// For every rule, whether it is idle.
@@ -20,18 +21,39 @@ impl Program {
         (0..idle.len()).map(shares).collect()
     }
 
-    /// Is the most that the rule can give at most its head's low, or can it
-    /// never give anything?
+    /// Can the rule do nothing? Its head, moved as far as the rule can ask,
+    /// is still where it starts, or the rule can never give anything.
     pub fn idle(&self, rule: &Rule) -> bool {
-        let most = self.most(rule);
         match self.wrong {
             Wrong::IdleNever => false,
+            _ if self.variables[rule.head].above() => self.idle_above(rule),
+            _ => self.idle_below(rule),
+        }
+    }
+
+    /// The furthest from its head's starting end that a rule can give: the
+    /// most, or for kind 2 the least.
+    pub fn furthest(&self, rule: &Rule) -> Option<i64> {
+        if self.variables[rule.head].above() {
+            self.least(rule)
+        } else {
+            self.most(rule)
+        }
+    }
+
+    /// Is the most that the rule can give at most its head's low, or can it
+    /// never give anything?
+    fn idle_below(&self, rule: &Rule) -> bool {
+        let most = self.most(rule);
+        match self.wrong {
             Wrong::IdleLiteralsOnly if rule.form != IF && rule.form != CARRY => false,
             Wrong::IdleSizesOnly if rule.form != SIZE => false,
             Wrong::IdleNoQuotients if rule.form == QUOTIENT => false,
             Wrong::IdleFailingOnly => most.is_none(),
             Wrong::IdleIfFailingOnly if rule.form == IF => most.is_none(),
-            Wrong::IdleNoStandard if rule.terms.iter().any(|t| !self.variables[t.variable].founded) => {
+            Wrong::IdleNoStandard
+                if rule.terms.iter().any(|t| !self.variables[t.variable].founded()) =>
+            {
                 false
             }
             _ => most.is_none_or(|most| most <= self.idle_up_to(rule.head)),
@@ -82,7 +104,7 @@ impl Program {
     }
 
     /// Each literal has a value in its variable's range with which it holds.
-    fn literals_can_hold(&self, body: &[(&Term, Range)]) -> bool {
+    pub(crate) fn literals_can_hold(&self, body: &[(&Term, Range)]) -> bool {
         let mut literals = body.iter().filter(|(t, _)| t.op != PLAIN).peekable();
         let can_hold = |(term, (low, high)): &(&Term, Range)| match (term.op, self.wrong) {
             (AT_LEAST, Wrong::IdleAtLeastEarly) => *high > term.number,
@@ -115,7 +137,8 @@ impl Program {
     /// that a wrong variant passes over.
     fn idle_range(&self, rule: &Rule, position: usize) -> Option<Range> {
         let v = rule.terms[position].variable;
-        let Variable { founded, low, high } = self.variables[v];
+        let Variable { kind, low, high } = self.variables[v];
+        let founded = kind.founded();
         let heads_none = || !self.rules.iter().any(|r| r.head == v);
         let mixed = rule.form == SIZE && low < 0 && 0 < high;
         match self.wrong {

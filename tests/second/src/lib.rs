@@ -6,13 +6,16 @@
 //! ending in `_with` that takes a [`Wrong`]: a deliberate mistake, used to see
 //! whether the generator would notice it. `Wrong::Nothing` is the checker.
 
+pub mod above;
 pub mod brute;
 pub mod calls;
 pub mod gen;
 pub mod graph;
 pub mod idle;
+mod idle_above;
 pub mod idling;
 pub mod meaning;
+pub mod mirror;
 pub mod printing;
 pub mod program;
 pub mod reader;

@@ -11,9 +11,31 @@ pub enum Direction {
     Mixed,
 }
 
+impl Direction {
+    fn swapped(self) -> Direction {
+        match self {
+            Direction::Rising => Direction::Falling,
+            Direction::Falling => Direction::Rising,
+            Direction::Mixed => Direction::Mixed,
+        }
+    }
+}
+
 impl Program {
-    /// Which way the term at this position pushes its rule.
+    /// Which way the term at this position pushes its rule: a larger value of
+    /// a rising one makes the rule demand more of its head, a smaller value of
+    /// a falling one. A head of kind 2 is asked to be at most what is given.
     pub fn direction(&self, rule: &Rule, position: usize) -> Direction {
+        let way = self.below(rule, position);
+        if self.swaps(rule, position) {
+            way.swapped()
+        } else {
+            way
+        }
+    }
+
+    /// The direction in a rule for a head of kind 1.
+    fn below(&self, rule: &Rule, position: usize) -> Direction {
         let term = &rule.terms[position];
         let variable = &self.variables[term.variable];
         let mixed_low = if self.wrong == Wrong::MixedAtZero { 0 } else { -1 };
@@ -29,39 +51,83 @@ impl Program {
         }
     }
 
+    /// In a rule for a head of kind 2 plain terms swap and literals do not.
+    fn swaps(&self, rule: &Rule, position: usize) -> bool {
+        let term = &rule.terms[position];
+        let variable = &self.variables[term.variable];
+        let swaps = self.variables[rule.head].above() && term.op == PLAIN;
+        let unswapped = match self.wrong {
+            Wrong::LiteralsSwap => return self.variables[rule.head].above(),
+            Wrong::SwapsByVariable => return variable.above() && term.op == PLAIN,
+            Wrong::PlainUnswapped => true,
+            Wrong::StandardUnswapped => !variable.founded(),
+            Wrong::OwnHeadUnswapped => term.variable == rule.head,
+            Wrong::CarriedUnswapped => rule.form == CARRY,
+            Wrong::SizeUnswapped => rule.form == SIZE,
+            Wrong::ProductUnswapped => rule.form == PRODUCT,
+            Wrong::LargestUnswapped => rule.form == MAX || rule.form == MIN,
+            Wrong::QuotientUnswapped => rule.form == QUOTIENT,
+            _ => false,
+        };
+        swaps && !unswapped
+    }
+
+    /// Does moving the variable away from its starting end make the rule
+    /// demand more? A standard variable has no starting end.
+    pub fn pulls(&self, rule: &Rule, position: usize) -> bool {
+        let direction = self.direction(rule, position);
+        match self.variables[rule.terms[position].variable].kind {
+            Kind::Standard => false,
+            Kind::Below => direction == Direction::Rising,
+            Kind::Above => direction == Direction::Falling,
+        }
+    }
+
     /// Is the variable at this position kept in the reduct?
     pub fn kept(&self, rule: &Rule, position: usize) -> bool {
-        let founded = self.variables[rule.terms[position].variable].founded;
+        let term = &rule.terms[position];
+        let (kind, head) = (self.variables[term.variable].kind, self.variables[rule.head].kind);
         let direction = self.direction(rule, position);
+        let pulls = self.pulls(rule, position);
         match self.wrong {
-            Wrong::KeepsStandard => direction == Direction::Rising,
+            Wrong::KeepsStandard if kind == Kind::Standard => direction == Direction::Rising,
             Wrong::KeepsOwnComponent => {
-                let edges = graph::edges(self);
-                let back = graph::reached(&edges, rule.terms[position].variable)[rule.head];
-                founded && direction == Direction::Rising && back
+                pulls && graph::reached(&graph::edges(self), term.variable)[rule.head]
             }
-            Wrong::HeadAlwaysKept if rule.terms[position].variable == rule.head => true,
-            Wrong::KeepsFalling => founded && direction != Direction::Mixed,
+            Wrong::HeadAlwaysKept if term.variable == rule.head => true,
+            Wrong::KeepsFalling if kind == Kind::Below => direction != Direction::Mixed,
             Wrong::IdleNotKept if self.idle(rule) => false,
-            _ => founded && direction == Direction::Rising,
+            Wrong::AboveNotKept if kind == Kind::Above => false,
+            Wrong::AboveRisingKept if kind == Kind::Above => direction != Direction::Mixed,
+            Wrong::AboveKeptAmongAbove if kind == Kind::Above => pulls && head == Kind::Above,
+            Wrong::BelowKeptAmongBelow if kind == Kind::Below => pulls && head == Kind::Below,
+            Wrong::AboveNotKeptInLiteral if kind == Kind::Above => pulls && term.op == PLAIN,
+            _ => pulls,
         }
     }
 
-    fn holds(&self, op: u8, value: i64, number: i64) -> bool {
-        match op {
-            AT_LEAST => value >= number,
-            _ if self.wrong == Wrong::BelowOrEqual => value <= number,
-            _ => value < number,
+    /// Does a literal of this variable hold?
+    fn holds(&self, term: &Term, value: i64) -> bool {
+        let turned = self.wrong == Wrong::AboveOpsTurned && self.variables[term.variable].above();
+        match term.op {
+            AT_LEAST if turned => value <= term.number,
+            _ if turned => value > term.number,
+            AT_LEAST => value >= term.number,
+            _ if self.wrong == Wrong::BelowOrEqual => value <= term.number,
+            _ => value < term.number,
         }
     }
 
-    /// The smallest whole number not below `sum` over `divisor`: `div_euclid`
-    /// rounds down, which is up between two turns of the sign.
-    fn over(&self, sum: i64, divisor: i64) -> i64 {
+    /// The smallest whole number not below `sum` over the divisor, for heads of
+    /// both kinds: `div_euclid` rounds down, which is up between two turns of
+    /// the sign.
+    fn over(&self, rule: &Rule, sum: i64) -> i64 {
+        let divisor = rule.divisor;
         match self.wrong {
             Wrong::RoundsDown => sum.div_euclid(divisor),
             Wrong::RoundsToZero => sum / divisor,
             Wrong::RoundsAway if sum < 0 => sum.div_euclid(divisor),
+            Wrong::AboveRoundsDown if self.variables[rule.head].above() => sum.div_euclid(divisor),
             _ => -(-sum).div_euclid(divisor.max(1)),
         }
     }
@@ -73,19 +139,16 @@ impl Program {
             if self.wrong == Wrong::FirstLiteralOnly {
                 positions.end = positions.start + 1;
             }
-            positions.into_iter().all(|i| {
-                let term = &rule.terms[i];
-                self.holds(term.op, value(i), term.number)
-            })
+            positions.into_iter().all(|i| self.holds(&rule.terms[i], value(i)))
         };
         let nothing = if self.wrong == Wrong::NothingIsZero { Some(0) } else { None };
         match rule.form {
             SUM | QUOTIENT => {
                 let sum: i64 = (0..count).map(|i| rule.terms[i].number * value(i)).sum();
                 match self.wrong {
-                    Wrong::ShortSums => Some(self.over(i64::from((rule.c + sum) as i16), rule.divisor)),
-                    Wrong::ConstantLate => Some(rule.c + self.over(sum, rule.divisor)),
-                    _ => Some(self.over(rule.c + sum, rule.divisor)),
+                    Wrong::ShortSums => Some(self.over(rule, i64::from((rule.c + sum) as i16))),
+                    Wrong::ConstantLate => Some(rule.c + self.over(rule, sum)),
+                    _ => Some(self.over(rule, rule.c + sum)),
                 }
             }
             MAX => (0..count).map(&value).max().map(|m| rule.c + m),
@@ -101,9 +164,12 @@ impl Program {
         }
     }
 
-    /// Is the rule met: does it give no more than its head has?
+    /// Is the rule met? Its head is at least what it gives, or for kind 2 at
+    /// most what it gives.
     pub fn rule_met(&self, rule: &Rule, values: &[i64]) -> bool {
+        let above = self.variables[rule.head].above();
         match self.gives(rule, |i| values[rule.terms[i].variable]) {
+            Some(given) if above && self.wrong != Wrong::AboveUnmetByMore => given >= values[rule.head],
             Some(given) => given <= values[rule.head],
             None => true,
         }
@@ -114,42 +180,65 @@ impl Program {
         if constraint.form == AT_MOST_ZERO {
             constraint.c + terms.map(|t| t.number * values[t.variable]).sum::<i64>() <= 0
         } else {
-            terms.any(|t| self.holds(t.op, values[t.variable], t.number))
+            terms.any(|t| self.holds(t, values[t.variable]))
         }
     }
 
-    /// The least model of the reduct by an assignment that lies in its ranges;
-    /// `None` when the reduct has no model in the ranges. All rules are gone
-    /// through again and again until nothing rises any more.
-    pub fn least_model(&self, assigned: &[i64]) -> Option<Vec<i64>> {
-        let mut model = assigned.to_vec();
-        for (v, variable) in self.variables.iter().enumerate() {
-            if variable.founded || self.wrong == Wrong::KeepsStandard {
-                model[v] = if self.wrong == Wrong::StartsAtZero { 0 } else { variable.low };
+    /// The values with which the least model begins.
+    fn starts(&self, assigned: &[i64]) -> Vec<i64> {
+        let start = |(v, variable): (usize, &Variable)| match self.wrong {
+            Wrong::KeepsStandard => variable.start(),
+            _ if !variable.founded() => assigned[v],
+            Wrong::StartsAtZero => 0,
+            Wrong::AboveFromLow => variable.low,
+            _ => variable.start(),
+        };
+        self.variables.iter().enumerate().map(start).collect()
+    }
+
+    /// What the rule gives in the reduct, kept variables read from the model.
+    fn gives_in_reduct(&self, rule: &Rule, assigned: &[i64], model: &[i64]) -> Option<i64> {
+        let from = |i: usize| if self.kept(rule, i) { model } else { assigned };
+        let given = self.gives(rule, |i| from(i)[rule.terms[i].variable])?;
+        match self.wrong {
+            Wrong::AboveNoFloor if self.variables[rule.head].above() => {
+                Some(given.max(self.variables[rule.head].low))
             }
+            _ => Some(given),
         }
+    }
+
+    /// What counts of the rules for the head of this one.
+    fn counts(&self, rule: &Rule, assigned: &[i64], model: &[i64]) -> Option<i64> {
+        if self.wrong == Wrong::AboveLargerCounts && self.variables[rule.head].above() {
+            let rules = self.rules.iter().filter(|other| other.head == rule.head);
+            return rules.filter_map(|other| self.gives_in_reduct(other, assigned, model)).max();
+        }
+        self.gives_in_reduct(rule, assigned, model)
+    }
+
+    /// The least model of the reduct by an assignment that lies in its ranges:
+    /// from the starting ends, no further than the rules ask. All rules are
+    /// gone through again and again until nothing moves any more. The error is
+    /// a rule that asks for more than its head's range has.
+    pub fn least_or_past(&self, assigned: &[i64]) -> Result<Vec<i64>, usize> {
+        let mut model = self.starts(assigned);
         let mut rounds = 0;
         loop {
-            let mut risen = false;
-            for rule in &self.rules {
-                let value = |i: usize| {
-                    let v = rule.terms[i].variable;
-                    if self.kept(rule, i) {
-                        model[v]
-                    } else {
-                        assigned[v]
-                    }
-                };
-                let Some(given) = self.gives(rule, value) else { continue };
-                if given > self.variables[rule.head].high {
-                    return None;
+            let mut moved = false;
+            for (r, rule) in self.rules.iter().enumerate() {
+                let head = &self.variables[rule.head];
+                let Some(given) = self.counts(rule, assigned, &model) else { continue };
+                let over = self.wrong == Wrong::AboveCeiling && given > head.high;
+                if head.further(given, head.far()) || over {
+                    return Err(r);
                 }
-                if given > model[rule.head] {
+                if head.further(given, model[rule.head]) {
                     if self.wrong == Wrong::NoneAtOnce {
-                        return None;
+                        return Err(r);
                     }
                     model[rule.head] = given;
-                    risen = true;
+                    moved = true;
                 }
             }
             rounds += 1;
@@ -158,9 +247,14 @@ impl Program {
                 Wrong::FortyRounds => rounds == 40,
                 _ => false,
             };
-            if !risen || stop {
-                return Some(model);
+            if !moved || stop {
+                return Ok(model);
             }
         }
+    }
+
+    /// The least model, or nothing when the reduct has no model in the ranges.
+    pub fn least_model(&self, assigned: &[i64]) -> Option<Vec<i64>> {
+        self.least_or_past(assigned).ok()
     }
 }

@@ -36,7 +36,9 @@ pub fn print_with(input: &[u8], wrong: Wrong) -> Vec<u8> {
                 text += &match entry[1] {
                     0 => format!("most {variable} {number}\n"),
                     1 => format!("when {variable} <= {number}\n"),
-                    _ => format!("when {variable} >= {number}\n"),
+                    2 => format!("when {variable} >= {number}\n"),
+                    _ if wrong == Wrong::PrintsMost => format!("most {variable} {number}\n"),
+                    _ => format!("least {variable} {number}\n"),
                 };
             }
             text

@@ -29,11 +29,80 @@ pub const BELOW: u8 = 2;
 /// The op of a divisor, which is no term.
 pub const OVER: u8 = 3;
 
+#[derive(Clone, Copy, Debug, PartialEq, Eq)]
+pub enum Kind {
+    /// Kind 0: any value of its range.
+    Standard,
+    /// Kind 1: founded from below, lifted from its low.
+    Below,
+    /// Kind 2: founded from above, pushed down from its high.
+    Above,
+}
+
+impl Kind {
+    pub const ALL: [Kind; 3] = [Kind::Standard, Kind::Below, Kind::Above];
+
+    /// The kind with this number.
+    pub fn numbered(number: u8) -> Option<Kind> {
+        Kind::ALL.get(usize::from(number)).copied()
+    }
+
+    pub fn number(self) -> u8 {
+        match self {
+            Kind::Standard => 0,
+            Kind::Below => 1,
+            Kind::Above => 2,
+        }
+    }
+
+    pub fn founded(self) -> bool {
+        self != Kind::Standard
+    }
+}
+
 #[derive(Clone, Debug)]
 pub struct Variable {
-    pub founded: bool,
+    pub kind: Kind,
     pub low: i64,
     pub high: i64,
+}
+
+impl Variable {
+    pub fn founded(&self) -> bool {
+        self.kind.founded()
+    }
+
+    /// Founded from above?
+    pub fn above(&self) -> bool {
+        self.kind == Kind::Above
+    }
+
+    /// The end at which the variable starts.
+    pub fn start(&self) -> i64 {
+        if self.above() {
+            self.high
+        } else {
+            self.low
+        }
+    }
+
+    /// The other end.
+    pub fn far(&self) -> i64 {
+        if self.above() {
+            self.low
+        } else {
+            self.high
+        }
+    }
+
+    /// Does `value` lie further from the starting end than `other`?
+    pub fn further(&self, value: i64, other: i64) -> bool {
+        if self.above() {
+            value < other
+        } else {
+            value > other
+        }
+    }
 }
 
 #[derive(Clone, Debug)]

@@ -72,7 +72,7 @@ fn refuses(number: usize, program: &Program, previous_tag: u8, rest: &[u8]) -> b
         _ => {
             let value = &rest[3..3 + unsigned(rest, 1)];
             if rest[0] == VARIABLE {
-                refuses_variable(number, value)
+                refuses_variable(number, value, program.wrong)
             } else {
                 refuses_body(number, program, &Body::of(rest[0], value))
             }
@@ -115,12 +115,21 @@ fn most_groups(tag: u8, form: u8, wrong: Wrong) -> usize {
     TERMS + usize::from(one_more)
 }
 
-fn refuses_variable(number: usize, value: &[u8]) -> bool {
+fn refuses_variable(number: usize, value: &[u8], wrong: Wrong) -> bool {
     let (low, high) = (signed(value, 1), signed(value, 3));
     match number {
-        7 => value[0] > 1,
+        7 => kind(value[0], wrong).is_none(),
         8 => low.abs() > VALUE || high.abs() > VALUE || low > high,
         _ => false,
+    }
+}
+
+fn kind(number: u8, wrong: Wrong) -> Option<Kind> {
+    match (number, wrong) {
+        (2, Wrong::KindTwoRefused) => None,
+        (2, Wrong::KindTwoIsOne) => Some(Kind::Below),
+        (3, Wrong::KindThreePasses) => Some(Kind::Above),
+        _ => Kind::numbered(number),
     }
 }
 
@@ -206,10 +215,11 @@ fn refuses_body(number: usize, program: &Program, body: &Body) -> bool {
                 || body.terms.iter().any(|t| number_outside(program, body, t))
         }
         9 => {
-            let bad_head = match body.head {
-                Some(head) => !program.variables.get(head).is_some_and(|v| v.founded),
-                None => false,
+            let heads = |v: &Variable| match program.wrong {
+                Wrong::KindTwoHeadRefused => v.kind == Kind::Below,
+                _ => v.founded(),
             };
+            let bad_head = body.head.is_some_and(|head| !program.variables.get(head).is_some_and(heads));
             bad_head || body.terms.iter().any(|t| t.variable >= program.variables.len())
         }
         10 => !body.count_allowed(program.wrong),
@@ -224,8 +234,10 @@ fn refuses_body(number: usize, program: &Program, body: &Body) -> bool {
             (0..names.len()).any(|i| names[..i].contains(&names[i]))
         }
         12 => {
-            let low = |t: &Term| program.variables[t.variable].low;
-            body.tag == RULE && body.form == PRODUCT && body.terms.iter().any(|t| low(t) < 0)
+            let passes = |v: &Variable| program.wrong == Wrong::AboveProductPasses && v.above();
+            let below = |v: &Variable| v.low < 0 && !passes(v);
+            let bad = |t: &Term| below(&program.variables[t.variable]);
+            body.tag == RULE && body.form == PRODUCT && body.terms.iter().any(bad)
         }
         _ => false,
     }
@@ -283,8 +295,8 @@ fn number_outside(program: &Program, body: &Body, term: &Term) -> bool {
 fn take(program: &mut Program, field: &[u8], place: usize) {
     let value = &field[3..];
     if field[0] == VARIABLE {
-        let founded = value[0] == 1;
-        program.variables.push(Variable { founded, low: signed(value, 1), high: signed(value, 3) });
+        let kind = kind(value[0], program.wrong).unwrap_or(Kind::Standard);
+        program.variables.push(Variable { kind, low: signed(value, 1), high: signed(value, 3) });
         return;
     }
     let Body { form, head, c, divisor, terms, .. } = Body::of(field[0], value);

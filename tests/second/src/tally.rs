@@ -2,6 +2,7 @@
 
 use std::collections::{BTreeMap, BTreeSet};
 
+use crate::above;
 use crate::calls::{check_with, least_with, read_with, Reading, Solved, Verdict};
 use crate::gen::Input;
 use crate::graph;
@@ -70,7 +71,7 @@ impl Tally {
         if let Solved::Refused { number: 15, .. } = seen.solved {
             self.hit("refusal 15 of least");
         }
-        for name in idling::names(input, seen) {
+        for name in idling::names(input, seen).into_iter().chain(above::names(input, seen)) {
             self.hit(name);
         }
         let Ok(program) = parse(&input.file, Wrong::Nothing) else { return };
@@ -151,14 +152,16 @@ impl Tally {
         let on_circle = |v: usize| graph::reached(&edges, v)[v];
         // A head on a circle that goes through a rule of form 8.
         let through_eight = |v: usize| {
-            let back =
-                |t: &Term| t.number > 0 && (t.variable == v || graph::reached(&edges, t.variable)[v]);
+            let back = |x: usize| x == v || graph::reached(&edges, x)[v];
             let mut rules = program.rules.iter().filter(|r| r.form == QUOTIENT && r.head == v);
-            rules.any(|r| r.terms.iter().any(back))
+            rules.any(|r| (0..r.terms.len()).any(|i| program.pulls(r, i) && back(r.terms[i].variable)))
         };
         let value = |v: usize| signed(&input.assignment, 2 * v);
         let Verdict::Unfounded(bounds, conditions) = seen.verdict else {
-            let lifted = |v: usize| program.variables[v].founded && value(v) > program.variables[v].low;
+            let lifted = |v: usize| {
+                let variable = &program.variables[v];
+                variable.founded() && variable.further(value(v), variable.start())
+            };
             let count = program.variables.len();
             if seen.verdict == Verdict::Stable && (0..count).any(|v| lifted(v) && on_circle(v)) {
                 self.hit("circle: sound, stable");
@@ -177,7 +180,7 @@ impl Tally {
         for (i, entry) in entries.iter().enumerate() {
             let v = usize::from(entry[0]);
             names.insert(format!("mark {}", entry[1]));
-            let standing = match (set.contains(&v), program.variables[v].founded) {
+            let standing = match (set.contains(&v), program.variables[v].founded()) {
                 (true, _) => "in the set",
                 (false, true) => "founded, not in the set",
                 (false, false) => "standard",
@@ -198,8 +201,9 @@ impl Tally {
         if set.iter().any(|&v| through_eight(v)) {
             names.insert("form 8: circle, unsound, unfounded".to_string());
         }
-        if entries[..bounds].iter().any(|e| signed(e, 2) > program.variables[usize::from(e[0])].low) {
-            names.insert("bound above low".to_string());
+        if entries[..bounds].iter().any(|e| signed(e, 2) != program.variables[usize::from(e[0])].start())
+        {
+            names.insert("bound beyond the starting end".to_string());
         }
         if bounds + conditions + 1 == 3 * program.variables.len() && bounds > 1 {
             names.insert("report: one entry short of full".to_string());
@@ -271,7 +275,7 @@ fn required() -> Vec<(String, usize)> {
         names.push((format!("direction: form {name}"), 1));
         names.push((format!("into the set, direction: form {name}"), 1));
     }
-    for mark in 0..=2 {
+    for mark in 0..=3 {
         names.push((format!("mark {mark}"), 1));
     }
     for mark in 1..=2 {
@@ -281,6 +285,7 @@ fn required() -> Vec<(String, usize)> {
     }
     names.push(("report: one entry short of full".to_string(), 5));
     names.extend(idling::required());
+    names.extend(above::required());
     names.extend(refused::CASES.iter().map(|case| (refused::name(case), 6)));
     names.push(("form 8: 16 terms".to_string(), 5));
     for name in [
@@ -307,7 +312,7 @@ fn required() -> Vec<(String, usize)> {
         "marks 1 and 2 on one variable",
         "circle: sound, stable",
         "circle: unsound, unfounded",
-        "bound above low",
+        "bound beyond the starting end",
         "no condition",
         "buffer: at its least size for check",
         "buffer: at its least size for least, found",

@@ -1,9 +1,21 @@
 //! Deliberate mistakes. The selftest shows that the generator finds an input
 //! on which each of them answers differently from the checker.
 
-#[derive(Clone, Copy, Debug, PartialEq, Eq)]
-pub enum Wrong {
-    Nothing,
+macro_rules! mistakes {
+    ($($(#[$says:meta])* $name:ident,)*) => {
+        #[derive(Clone, Copy, Debug, PartialEq, Eq)]
+        pub enum Wrong {
+            Nothing,
+            $($(#[$says])* $name,)*
+        }
+
+        impl Wrong {
+            pub const ALL: &'static [Wrong] = &[$(Wrong::$name,)*];
+        }
+    };
+}
+
+mistakes! {
     /// Standard variables are kept in the reduct and fall to their low.
     KeepsStandard,
     /// Founded variables start at 0 and not at low.
@@ -216,115 +228,147 @@ pub enum Wrong {
     IdleNotNumbered,
     /// Idle rules do not count for refusal 5.
     IdleNotLimited,
-}
-
-impl Wrong {
-    pub const ALL: [Wrong; 106] = [
-        Wrong::KeepsStandard,
-        Wrong::StartsAtZero,
-        Wrong::DropsAllOfSet,
-        Wrong::DrawsFalling,
-        Wrong::MarkTwoFirst,
-        Wrong::MixedAtZero,
-        Wrong::EightBeforeSeven,
-        Wrong::TenBeforeNine,
-        Wrong::FifteenBeforeFourteen,
-        Wrong::ThreeBeforeTwo,
-        Wrong::FiveLate,
-        Wrong::HeadCountsTwice,
-        Wrong::LastOffender,
-        Wrong::LoopPasses,
-        Wrong::BelowOrEqual,
-        Wrong::FirstLiteralOnly,
-        Wrong::KeepsFalling,
-        Wrong::ShowsFirstOnly,
-        Wrong::ShowsEverything,
-        Wrong::ShowsTwice,
-        Wrong::StrikesCircles,
-        Wrong::OneRound,
-        Wrong::FortyRounds,
-        Wrong::NoneAtOnce,
-        Wrong::HandsBack,
-        Wrong::ShortSums,
-        Wrong::NothingIsZero,
-        Wrong::OneByteShort,
-        Wrong::ConstraintsFirst,
-        Wrong::RangeOfFounded,
-        Wrong::CoefficientShort,
-        Wrong::ClearsRest,
-        Wrong::ShortProducts,
-        Wrong::SeventeenIsTen,
-        Wrong::BigZeroIsEight,
-        Wrong::CarryOneIsSeven,
-        Wrong::TermByTerm,
-        Wrong::ShortCircles,
-        Wrong::LeastAsksTwelve,
-        Wrong::KeepsOwnComponent,
-        Wrong::HeadAlwaysKept,
-        Wrong::RoundsDown,
-        Wrong::RoundsToZero,
-        Wrong::RoundsAway,
-        Wrong::ConstantLate,
-        Wrong::QuotientRises,
-        Wrong::DivisorZeroPasses,
-        Wrong::DivisorOverPasses,
-        Wrong::DivisorNamesAny,
-        Wrong::DivisorRepeats,
-        Wrong::DivisorDrawsEdge,
-        Wrong::DivisorIsCondition,
-        Wrong::SeventeenPass,
-        Wrong::EightLikeOthers,
-        Wrong::UnknownLikeEight,
-        Wrong::ConstraintLikeEight,
-        Wrong::NoGroupIsEight,
-        Wrong::AloneIsTen,
-        Wrong::IdleNever,
-        Wrong::IdleOneMore,
-        Wrong::IdleBelowOnly,
-        Wrong::IdleByHigh,
-        Wrong::IdleByZero,
-        Wrong::IdleByLeast,
-        Wrong::IdleDraws,
-        Wrong::IdleOffends,
-        Wrong::IdleNamesPlace,
-        Wrong::IdleEndsEdges,
-        Wrong::IdleEndsSearch,
-        Wrong::IdleWholeHead,
-        Wrong::IdleLiteralsOnly,
-        Wrong::IdleSizesOnly,
-        Wrong::IdleNoQuotients,
-        Wrong::IdleFailingOnly,
-        Wrong::IdleIfFailingOnly,
-        Wrong::IdleFailingGives,
-        Wrong::IdleAllFail,
-        Wrong::IdleAtLeastEarly,
-        Wrong::IdleAtLeastLate,
-        Wrong::IdleBelowEarly,
-        Wrong::IdleBelowLate,
-        Wrong::IdleSizeAtLow,
-        Wrong::IdleSizeAtHigh,
-        Wrong::IdleRoundsDown,
-        Wrong::IdleRoundsToZero,
-        Wrong::IdleRoundsAway,
-        Wrong::IdleUndivided,
-        Wrong::IdleConstantLate,
-        Wrong::IdleNoConstant,
-        Wrong::IdleShort,
-        Wrong::IdleMaxAsMin,
-        Wrong::IdleMinAsMax,
-        Wrong::IdleCarriesNothing,
-        Wrong::IdleAllHigh,
-        Wrong::IdleFirstTerm,
-        Wrong::IdleHeadAtLow,
-        Wrong::IdleStandardZero,
-        Wrong::IdleStandardSkipped,
-        Wrong::IdleNoStandard,
-        Wrong::IdleUnlifted,
-        Wrong::IdleNoConditions,
-        Wrong::IdleNotMixed,
-        Wrong::IdleNotKept,
-        Wrong::IdleNotCounted,
-        Wrong::IdleNotNumbered,
-        Wrong::IdleNotLimited,
-    ];
+    // Kind 2, founded from above.
+    /// Kind 2 is refused with 7.
+    KindTwoRefused,
+    /// A head of kind 2 is refused with 9.
+    KindTwoHeadRefused,
+    /// Kind 3 is accepted.
+    KindThreePasses,
+    /// Kind 2 is read as kind 1.
+    KindTwoIsOne,
+    /// A product may have a variable of kind 2 with low below 0.
+    AboveProductPasses,
+    /// In a rule for kind 2 literals swap too.
+    LiteralsSwap,
+    /// In a rule for kind 2 plain terms do not swap.
+    PlainUnswapped,
+    /// In a rule for kind 2 standard variables do not swap.
+    StandardUnswapped,
+    /// In a rule for kind 2 the head itself does not swap.
+    OwnHeadUnswapped,
+    /// In a rule for kind 2 a carried variable does not swap.
+    CarriedUnswapped,
+    /// In a rule for kind 2 the variable of a size does not swap.
+    SizeUnswapped,
+    /// In a rule for kind 2 the variables of a product do not swap.
+    ProductUnswapped,
+    /// In a rule for kind 2 the variables of forms 2 and 3 do not swap.
+    LargestUnswapped,
+    /// In a rule for kind 2 the terms of form 8 do not swap.
+    QuotientUnswapped,
+    /// Plain terms swap where the variable is of kind 2, not the head.
+    SwapsByVariable,
+    /// A falling variable of kind 2 is read as assigned.
+    AboveNotKept,
+    /// A rising variable of kind 2 is kept.
+    AboveRisingKept,
+    /// A variable of kind 2 is kept in rules for kind 2 only.
+    AboveKeptAmongAbove,
+    /// A variable of kind 1 is kept in rules for kind 1 only.
+    BelowKeptAmongBelow,
+    /// A variable of kind 2 is not kept in a literal.
+    AboveNotKeptInLiteral,
+    /// A variable of kind 2 starts at its low.
+    AboveFromLow,
+    /// Of several rules for a head of kind 2 the largest value counts.
+    AboveLargerCounts,
+    /// A rule for kind 2 that gives less than the low leaves it at its low.
+    AboveNoFloor,
+    /// `none` is said where a rule for kind 2 gives more than the high.
+    AboveCeiling,
+    /// A rule for kind 2 rounds a sum over a divisor down.
+    AboveRoundsDown,
+    /// A rule for kind 2 is unmet when it gives more than its head has.
+    AboveUnmetByMore,
+    /// Of a variable of kind 2, op 1 means at most its number.
+    AboveOpsTurned,
+    /// A variable of kind 2 is in the set when its least value is below.
+    AboveSetTurned,
+    /// The bound entry of kind 2 has mark 0.
+    AboveMarkZero,
+    /// The bound entry of kind 2 shows the high.
+    AboveShowsHigh,
+    /// Bound entries stand by mark, then by variable.
+    GroupedByMark,
+    /// A falling variable of kind 2 is asked to be at most its value.
+    AboveFallingAtMost,
+    /// At most and at least are turned for variables of kind 2.
+    AboveConditionsTurned,
+    /// At most and at least are turned in rules for kind 2.
+    AboveRulesTurned,
+    /// In a rule for kind 2 a falling position asks at most, too.
+    AboveFallingBoth,
+    /// A rising variable of kind 2 that is in the set is no condition.
+    AboveRisingNoCondition,
+    /// A kept variable of kind 2 that is in the set is a condition.
+    AboveKeptCondition,
+    /// In a rule for kind 2 a mixed variable asks at least alone.
+    AboveMixedOnce,
+    /// Mark 3 prints `most`.
+    PrintsMost,
+    /// No edge runs to a falling variable of kind 2.
+    NoEdgeToAbove,
+    /// An edge runs to a rising variable of kind 2.
+    EdgeToRisingAbove,
+    /// A rule for kind 2 draws an edge to a falling variable of kind 1.
+    EdgeToFallingBelow,
+    /// No edge runs to a mixed variable.
+    EdgesToKeptOnly,
+    /// A rule for kind 2 draws no edge.
+    AboveDrawsNone,
+    /// Variables of different kinds share no component.
+    ComponentOfOneKind,
+    /// A rule for kind 2 never offends.
+    AboveNeverOffends,
+    /// No rule for kind 2 is idle.
+    AboveIdleNever,
+    /// A rule for kind 2 that gives one less than the high is idle.
+    AboveIdleOneLess,
+    /// A rule for kind 2 that gives the high is not idle.
+    AboveIdleOverOnly,
+    /// A rule for kind 2 is idle by its head's low.
+    AboveIdleByLow,
+    /// A rule for kind 2 is idle by the most that it can give.
+    AboveIdleByMost,
+    /// A rule for kind 2 is idle when the most it can give is at most the low.
+    AboveIdleAsBelow,
+    /// A rule for kind 2 with a literal that never holds is idle by the others.
+    AboveFailingGives,
+    /// In a rule for kind 2 literals are tried where plain terms give least.
+    AboveLiteralsAtLow,
+    /// The least of a mixed size is at the low.
+    AboveSizeAtLow,
+    /// The least of a mixed size is at the high.
+    AboveSizeAtHigh,
+    /// The least of a mixed size is at the end nearer to 0.
+    AboveSizeAtNearer,
+    /// The least of a size is 0 in any range.
+    AboveSizeAtZero,
+    /// The least over a divisor is rounded down.
+    AboveLeastRoundsDown,
+    /// The least over a divisor is rounded towards 0.
+    AboveLeastRoundsToZero,
+    /// The least of form 8 is not divided.
+    AboveLeastUndivided,
+    /// The least is without c.
+    AboveLeastNoConstant,
+    /// The least is cut to two bytes.
+    AboveLeastShort,
+    /// For the least, every variable is at its low.
+    AboveLeastAllLow,
+    /// The least of form 2 is by the smallest low.
+    AboveLeastMaxAsMin,
+    /// The least of form 3 is by the largest low.
+    AboveLeastMinAsMax,
+    /// The least of form 7 is c alone.
+    AboveLeastCarriesNothing,
+    /// The least of a product is 0 and c.
+    AboveLeastProductZero,
+    /// For the least, only the first term counts.
+    AboveLeastFirstTerm,
+    /// For the least, the head in its own body is at its high.
+    AboveLeastHeadAtHigh,
+    /// For the least, standard variables are 0.
+    AboveLeastStandardZero,
 }

@@ -1,5 +1,5 @@
-//! The brute force notices wrong calls: each mistake about idle rules that
-//! shows in a small file.
+//! The brute force notices wrong calls: each mistake about idle rules and about
+//! kind 2 that shows in a small file.
 
 use second::brute::{self, Calls, Tried};
 use second::calls::{check_with, least_with, read_with};
@@ -34,6 +34,26 @@ fn wrong_calls_are_noticed() {
         IdleMaxAsMin IdleMinAsMax IdleCarriesNothing IdleAllHigh IdleFirstTerm IdleHeadAtLow
         IdleStandardZero IdleStandardSkipped IdleNoStandard IdleUnlifted IdleNoConditions
         IdleNotMixed IdleNotKept IdleNotCounted IdleNotNumbered
+    }
+}
+
+#[test]
+fn wrong_calls_about_kind_two_are_noticed() {
+    noticed! {
+        KindTwoRefused KindTwoHeadRefused KindTwoIsOne LiteralsSwap PlainUnswapped StandardUnswapped
+        OwnHeadUnswapped CarriedUnswapped SizeUnswapped ProductUnswapped LargestUnswapped
+        QuotientUnswapped SwapsByVariable AboveNotKept AboveRisingKept AboveKeptAmongAbove
+        BelowKeptAmongBelow AboveNotKeptInLiteral AboveFromLow AboveLargerCounts AboveNoFloor
+        AboveCeiling AboveRoundsDown AboveUnmetByMore AboveOpsTurned AboveSetTurned AboveMarkZero
+        AboveShowsHigh GroupedByMark AboveFallingAtMost AboveConditionsTurned AboveRulesTurned
+        AboveFallingBoth AboveRisingNoCondition AboveKeptCondition AboveMixedOnce NoEdgeToAbove
+        EdgeToRisingAbove EdgeToFallingBelow EdgesToKeptOnly AboveDrawsNone ComponentOfOneKind
+        AboveNeverOffends AboveIdleNever AboveIdleOneLess AboveIdleOverOnly AboveIdleByLow
+        AboveIdleByMost AboveIdleAsBelow AboveFailingGives AboveLiteralsAtLow AboveSizeAtLow
+        AboveSizeAtHigh AboveSizeAtNearer AboveSizeAtZero AboveLeastRoundsDown
+        AboveLeastRoundsToZero AboveLeastUndivided AboveLeastNoConstant AboveLeastAllLow
+        AboveLeastMaxAsMin AboveLeastMinAsMax AboveLeastCarriesNothing AboveLeastProductZero
+        AboveLeastFirstTerm AboveLeastHeadAtHigh AboveLeastStandardZero
     }
 }
 

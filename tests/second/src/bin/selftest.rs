@@ -4,14 +4,19 @@
 //! selftest [inputs] [small programs] [inputs for each wrong variant]
 
 use second::brute::{self, Tried};
+use second::mirror::{self, Turned};
+use second::printing::print_with;
 use second::tally::{see, Tally};
 use second::{gen, Reading, Solved, Verdict, Wrong};
+use std::collections::BTreeMap;
 
 fn main() {
     let given: Vec<u64> = std::env::args().skip(1).map(|a| a.parse().expect("a number")).collect();
     let amount = |i: usize, usual: u64| given.get(i).copied().unwrap_or(usual);
     let mut failures = Vec::new();
     tallies(amount(0, 60_000), &mut failures);
+    mirrors(amount(0, 60_000), Turned::Above, &mut failures);
+    mirrors(amount(0, 60_000), Turned::All, &mut failures);
     brute_force(amount(1, 12_000), &mut failures);
     variants(amount(2, 20_000), &mut failures);
     for failure in failures.iter().take(40) {
@@ -64,6 +69,36 @@ fn tallies(seeds: u64, failures: &mut Vec<String>) {
     failures.extend(missing);
 }
 
+/// Answers on a file and on the file that 000's mirror makes of it.
+fn mirrors(seeds: u64, which: Turned, failures: &mut Vec<String>) {
+    let mut counts: BTreeMap<&str, usize> = BTreeMap::new();
+    for word in ["stable", "unfounded", "rule", "constraint", "range", "refused", "least none"] {
+        counts.insert(word, 0);
+    }
+    for seed in 0..seeds {
+        let input = gen::input(seed);
+        let Some(other) = mirror::mirror(&input, which) else { continue };
+        let seen = see(&input, 0xA5, Wrong::Nothing);
+        if see(&other, 0xA5, Wrong::Nothing) != mirror::mirrored(&input, which, &seen) {
+            failures.push(format!("seed {seed}: the mirrored file, {which:?}, is answered otherwise"));
+        }
+        let word = match seen.verdict {
+            Verdict::Stable => "stable",
+            Verdict::Unfounded(..) => "unfounded",
+            Verdict::Rule(_) => "rule",
+            Verdict::Constraint(_) => "constraint",
+            Verdict::Range(_) => "range",
+            Verdict::Refused { .. } => "refused",
+        };
+        *counts.entry(word).or_default() += 1;
+        *counts.entry("least none").or_default() += usize::from(seen.solved == Solved::None);
+    }
+    println!("mirrored files, {which:?}, by what the check says: {counts:?}");
+    for (word, count) in counts.into_iter().filter(|(_, count)| (*count as u64) < seeds / 1_000) {
+        failures.push(format!("mirrored files, {which:?}, too seldom {word}: {count}"));
+    }
+}
+
 fn brute_force(programs: u64, failures: &mut Vec<String>) {
     let mut tried = Tried::default();
     for seed in 0..programs {
@@ -72,9 +107,17 @@ fn brute_force(programs: u64, failures: &mut Vec<String>) {
         }
     }
     println!("brute force {tried:?}");
-    if programs >= 1_000 && tried.each().iter().any(|&n| n < 50) {
-        failures.push("brute force tried too little".to_string());
+    for (name, count) in tried.each() {
+        if programs >= 1_000 && count < 50 {
+            failures.push(format!("brute force tried too little: {name} {count}"));
+        }
     }
+}
+
+/// Does a mistake of the printing program alone show nothing on this input?
+fn prints_alike(input: &gen::Input, wrong: Wrong) -> bool {
+    let framed = || gen::framed(&input.file, &input.assignment);
+    wrong != Wrong::PrintsMost || print_with(&framed(), wrong) == second::print(&framed())
 }
 
 fn variants(bound: u64, failures: &mut Vec<String>) {
@@ -83,7 +126,7 @@ fn variants(bound: u64, failures: &mut Vec<String>) {
         let input = gen::input(seed);
         let right = see(&input, 0xA5, Wrong::Nothing);
         unseen.retain(|&wrong| {
-            let same = see(&input, 0xA5, wrong) == right;
+            let same = see(&input, 0xA5, wrong) == right && prints_alike(&input, wrong);
             if !same {
                 println!("wrong variant {wrong:?}: first differs on input {seed}");
             }

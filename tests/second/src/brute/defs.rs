@@ -1,64 +1,46 @@
-//! The definitions a second time, by enumeration: values, directions,
-//! components, models and unfounded sets.
+//! The definitions a second time, by enumeration, after document 000's mirror:
+//! "for each ub-founded variable x in the program, create an lb-founded variable
+//! x' and replace every occurrence of x in P with -x'". Mirrored values are those
+//! of x'; by them every founded variable is founded from its low. Which way a
+//! position pushes is not looked up but tried.
 
 use crate::program::*;
 
+/// Outside a set.
+pub const OUT: i64 = i64::MAX;
+
 pub struct Small {
     pub program: Program,
+    /// For every rule and position: 1 when a larger value makes the rule demand
+    /// more, -1 when a smaller one does, 0 for both.
+    ways: Vec<Vec<i64>>,
 }
 
-/// +1 pushes up, -1 pushes down, 0 both.
-fn push(program: &Program, rule: &Rule, i: usize) -> i32 {
-    let term = &rule.terms[i];
-    let (low, high) = (program.variables[term.variable].low, program.variables[term.variable].high);
-    if rule.form == SIZE {
-        return if low >= 0 {
-            1
-        } else if high <= 0 {
-            -1
-        } else {
-            0
-        };
-    }
-    if rule.form == SUM || rule.form == QUOTIENT {
-        return term.number.signum() as i32;
-    }
-    if term.op == BELOW {
-        -1
-    } else {
-        1
-    }
-}
-
-/// What a rule gives for values by position; i64::MIN when nothing.
-fn given(rule: &Rule, values: &[i64]) -> i64 {
-    let mut literals = true;
+/// What a rule gives for values by position.
+fn given(rule: &Rule, values: &[i64]) -> Option<i64> {
     let mut plain = Vec::new();
     for (term, &value) in rule.terms.iter().zip(values) {
         match term.op {
-            AT_LEAST => literals &= value >= term.number,
-            BELOW => literals &= value < term.number,
+            AT_LEAST if value < term.number => return None,
+            BELOW if value >= term.number => return None,
+            AT_LEAST | BELOW => {}
             _ => plain.push(value),
         }
     }
-    if !literals {
-        return i64::MIN;
-    }
     let mut result = rule.c;
     match rule.form {
-        SUM => rule.terms.iter().zip(&plain).for_each(|(t, v)| result += t.number * v),
-        QUOTIENT => {
+        SUM | QUOTIENT => {
             rule.terms.iter().zip(&plain).for_each(|(t, v)| result += t.number * v);
             result = not_below(result, rule.divisor);
         }
-        MAX => result += plain.iter().fold(i64::from(i16::MIN), |a, &b| a.max(b)),
-        MIN => result += plain.iter().fold(i64::from(i16::MAX), |a, &b| a.min(b)),
+        MAX => result += plain.iter().fold(i64::MIN / 2, |a, &b| a.max(b)),
+        MIN => result += plain.iter().fold(i64::MAX / 2, |a, &b| a.min(b)),
         PRODUCT => result += plain.iter().product::<i64>(),
         SIZE => result += if plain[0] < 0 { -plain[0] } else { plain[0] },
         CARRY => result += plain[0],
         _ => {}
     }
-    result
+    Some(result)
 }
 
 /// The smallest whole number that, taken `divisor` times, is not below `sum`.
@@ -109,125 +91,180 @@ pub fn choices(lists: &[Vec<i64>]) -> Vec<Vec<i64>> {
     all
 }
 
+/// Values of a body's positions with which position `i` decides what the rule
+/// gives, with a smaller and with a larger value there.
+fn telling(rule: &Rule, i: usize, low: i64) -> [Vec<i64>; 2] {
+    let calm = |t: &Term| match (rule.form, t.op) {
+        (_, AT_LEAST) => t.number,
+        (_, BELOW) => t.number - 1,
+        (MAX, _) => -1_000_000,
+        (MIN, _) => 1_000_000,
+        (PRODUCT, _) => 1,
+        _ => 0,
+    };
+    let first = match rule.terms[i].op {
+        PLAIN if rule.form == SIZE => low,
+        PLAIN => 0,
+        _ => rule.terms[i].number - 1,
+    };
+    [first, first + rule.divisor].map(|value| {
+        let mut values: Vec<i64> = rule.terms.iter().map(calm).collect();
+        values[i] = value;
+        values
+    })
+}
+
 impl Small {
-    /// Is the rule met by `model` at its head, where `read` gives the values
-    /// of positions?
-    pub fn within(&self, rule: &Rule, head: i64, read: impl Fn(usize) -> i64) -> bool {
-        let values: Vec<i64> = (0..rule.terms.len()).map(read).collect();
-        given(rule, &values) <= head
+    pub fn of(program: Program) -> Small {
+        let mut small = Small { program, ways: Vec::new() };
+        let rules = small.program.rules.iter();
+        let ways = rules.map(|rule| (0..rule.terms.len()).map(|i| small.way(rule, i)).collect());
+        small.ways = ways.collect();
+        small
     }
 
-    pub fn kept(&self, rule: &Rule, i: usize) -> bool {
-        self.program.variables[rule.terms[i].variable].founded && push(&self.program, rule, i) == 1
+    fn sign(&self, v: usize) -> i64 {
+        match self.program.variables[v].kind {
+            Kind::Above => -1,
+            _ => 1,
+        }
     }
 
-    pub fn first_unmet_rule(&self, a: &[i64]) -> Option<usize> {
-        let rules = &self.program.rules;
-        (0..rules.len())
-            .find(|&r| !self.within(&rules[r], a[rules[r].head], |i| a[rules[r].terms[i].variable]))
+    /// Values mirrored, or mirrored ones as they were.
+    pub fn mirrored(&self, values: &[i64]) -> Vec<i64> {
+        (0..values.len()).map(|v| self.sign(v) * values[v]).collect()
     }
 
-    /// For every rule with a divisor above 1, its sum by `a`, and whether the
-    /// divisor leaves a remainder of it.
-    pub fn quotients(&self, a: &[i64]) -> Vec<(i64, bool)> {
+    /// Mirrored low and high.
+    fn range(&self, v: usize) -> (i64, i64) {
+        let Variable { low, high, .. } = self.program.variables[v];
+        let (one, other) = (self.sign(v) * low, self.sign(v) * high);
+        (one.min(other), one.max(other))
+    }
+
+    /// What the rule demands of its head, mirrored, for values by position as
+    /// they are; the least of all numbers when it gives nothing.
+    fn demand(&self, rule: &Rule, values: &[i64]) -> i64 {
+        given(rule, values).map_or(i64::MIN, |given| self.sign(rule.head) * given)
+    }
+
+    /// What the rule demands where `read` gives the mirrored values.
+    fn demand_by(&self, rule: &Rule, read: impl Fn(usize) -> i64) -> i64 {
+        let value = |i: usize| self.sign(rule.terms[i].variable) * read(i);
+        let values: Vec<i64> = (0..rule.terms.len()).map(value).collect();
+        self.demand(rule, &values)
+    }
+
+    /// By a try with a smaller and a larger value.
+    fn way(&self, rule: &Rule, i: usize) -> i64 {
+        let Variable { low, high, .. } = self.program.variables[rule.terms[i].variable];
+        if rule.form == SIZE && low < 0 && 0 < high {
+            return 0;
+        }
+        let [smaller, larger] = telling(rule, i, low);
+        self.demand(rule, &larger).cmp(&self.demand(rule, &smaller)) as i64
+    }
+
+    /// Does moving the variable away from its starting end, which is up when
+    /// mirrored, make the rule demand more?
+    fn kept(&self, r: usize, i: usize) -> bool {
+        let v = self.program.rules[r].terms[i].variable;
+        self.program.variables[v].founded() && self.sign(v) * self.ways[r][i] == 1
+    }
+
+    fn rules(&self) -> impl Iterator<Item = (usize, &Rule)> {
+        self.program.rules.iter().enumerate()
+    }
+
+    pub fn first_unmet_rule(&self, mirrored: &[i64]) -> Option<usize> {
+        self.program.rules.iter().position(|rule| {
+            self.demand_by(rule, |i| mirrored[rule.terms[i].variable]) > mirrored[rule.head]
+        })
+    }
+
+    /// For every rule with a divisor above 1, whether its head is of kind 2,
+    /// its sum by `a`, and whether the divisor leaves a remainder of it.
+    pub fn quotients(&self, a: &[i64]) -> Vec<(bool, i64, bool)> {
         let quotient = |rule: &Rule| {
             let terms = rule.terms.iter().map(|t| t.number * a[t.variable]);
             let sum = terms.fold(rule.c, |sum, term| sum + term);
-            (sum, not_below(sum, rule.divisor) * rule.divisor != sum)
+            (self.sign(rule.head) < 0, sum, not_below(sum, rule.divisor) * rule.divisor != sum)
         };
         self.program.rules.iter().filter(|r| r.divisor > 1).map(quotient).collect()
     }
 
-    /// All valuations in the ranges that meet the reduct by `a`.
+    /// All valuations in the ranges that meet the reduct, all mirrored.
     pub fn models(&self, a: &[i64]) -> Vec<Vec<i64>> {
-        let lists: Vec<Vec<i64>> = self
-            .program
-            .variables
-            .iter()
-            .zip(a)
-            .map(|(v, &now)| if v.founded { (v.low..=v.high).collect() } else { vec![now] })
-            .collect();
-        let mut all = choices(&lists);
+        let values = |v: usize| match self.program.variables[v].founded() {
+            true => (self.range(v).0..=self.range(v).1).collect(),
+            false => vec![a[v]],
+        };
+        let mut all = choices(&(0..a.len()).map(values).collect::<Vec<_>>());
         all.retain(|m| {
-            self.program.rules.iter().all(|rule| {
-                self.within(rule, m[rule.head], |i| {
-                    let v = rule.terms[i].variable;
-                    if self.kept(rule, i) {
-                        m[v]
-                    } else {
-                        a[v]
-                    }
-                })
+            self.rules().all(|(r, rule)| {
+                let read = |i: usize| if self.kept(r, i) { m } else { a };
+                self.demand_by(rule, |i| read(i)[rule.terms[i].variable]) <= m[rule.head]
             })
         });
         all
     }
 
-    /// All unfounded sets of `a`: a bound per variable, i64::MAX outside.
+    /// All unfounded sets of `a`, mirrored: a bound per variable, or `OUT`.
     pub fn unfounded_sets(&self, a: &[i64]) -> Vec<Vec<i64>> {
-        let lists: Vec<Vec<i64>> = self
-            .program
-            .variables
-            .iter()
-            .zip(a)
-            .map(|(v, &now)| {
-                let mut list = vec![i64::MAX];
-                if v.founded {
-                    list.extend(v.low..now);
-                }
-                list
-            })
-            .collect();
-        let mut all = choices(&lists);
-        all.retain(|set| set.iter().any(|&b| b != i64::MAX) && self.is_unfounded(a, set));
+        let bounds = |v: usize| {
+            let mut list = vec![OUT];
+            if self.program.variables[v].founded() {
+                list.extend(self.range(v).0..a[v]);
+            }
+            list
+        };
+        let mut all = choices(&(0..a.len()).map(bounds).collect::<Vec<_>>());
+        all.retain(|set| set.iter().any(|&b| b != OUT) && self.is_unfounded(a, set));
         all
     }
 
     pub fn is_unfounded(&self, a: &[i64], set: &[i64]) -> bool {
-        self.program.rules.iter().filter(|rule| set[rule.head] != i64::MAX).all(|rule| {
-            self.within(rule, set[rule.head], |i| {
+        self.rules().filter(|(_, rule)| set[rule.head] != OUT).all(|(r, rule)| {
+            let demanded = self.demand_by(rule, |i| {
                 let v = rule.terms[i].variable;
-                if set[v] != i64::MAX && self.kept(rule, i) {
+                if set[v] != OUT && self.kept(r, i) {
                     set[v]
                 } else {
                     a[v]
                 }
-            })
+            });
+            demanded <= set[rule.head]
         })
     }
 
     /// The conditions due for a set: variable, mark.
     pub fn conditions(&self, set: &[i64]) -> Vec<(usize, u8)> {
         let mut due = Vec::new();
-        for v in 0..set.len() {
-            for mark in [1, 2] {
-                let asked =
-                    self.program.rules.iter().filter(|rule| set[rule.head] != i64::MAX).any(|rule| {
-                        (0..rule.terms.len()).filter(|&i| rule.terms[i].variable == v).any(|i| {
-                            let way = push(&self.program, rule, i);
-                            let free =
-                                way != 1 || set[v] == i64::MAX || !self.program.variables[v].founded;
-                            free && (way == 0 || (way == 1) == (mark == 1))
-                        })
-                    });
-                if asked {
-                    due.push((v, mark));
-                }
+        for (v, mark) in (0..set.len()).flat_map(|v| [(v, 1), (v, 2)]) {
+            let asked = self.rules().filter(|(_, rule)| set[rule.head] != OUT).any(|(r, rule)| {
+                (0..rule.terms.len()).filter(|&i| rule.terms[i].variable == v).any(|i| {
+                    let way = self.ways[r][i];
+                    let free = set[v] == OUT || !self.kept(r, i);
+                    free && (way == 0 || (way == 1) == (mark == 1))
+                })
+            });
+            if asked {
+                due.push((v, mark));
             }
         }
         due
     }
 
-    /// Does every rule move the way its directions say when one variable of
-    /// its body goes up by one from `a`?
+    /// Does every rule demand more or less as its directions say when one
+    /// variable of its body goes up by one from `a`, as it is?
     pub fn moves_as_said(&self, a: &[i64]) -> bool {
-        self.program.rules.iter().all(|rule| {
+        self.rules().all(|(r, rule)| {
             let before: Vec<i64> = rule.terms.iter().map(|t| a[t.variable]).collect();
             (0..rule.terms.len()).all(|i| {
                 let mut after = before.clone();
                 after[i] += 1;
-                let (old, new) = (given(rule, &before), given(rule, &after));
-                match push(&self.program, rule, i) {
+                let (old, new) = (self.demand(rule, &before), self.demand(rule, &after));
+                match self.ways[r][i] {
                     _ if after[i] > self.program.variables[rule.terms[i].variable].high => true,
                     1 => new >= old,
                     -1 => new <= old,
@@ -237,31 +274,29 @@ impl Small {
         })
     }
 
-    /// For every rule, whether it is idle: each choice of values for its body,
-    /// every variable in its range, gives nothing, or no more than the low.
+    /// For every rule, whether it is idle: no choice of values for its body,
+    /// every variable in its range, demands more than where the head starts.
     pub fn idle(&self) -> Vec<bool> {
-        let variables = &self.program.variables;
         let can_do_nothing = |rule: &Rule| {
-            let range = |t: &Term| (variables[t.variable].low..=variables[t.variable].high).collect();
+            let range = |t: &Term| (self.range(t.variable).0..=self.range(t.variable).1).collect();
             let ranges: Vec<Vec<i64>> = rule.terms.iter().map(range).collect();
-            choices(&ranges).iter().all(|values| given(rule, values) <= variables[rule.head].low)
+            let start = self.range(rule.head).0;
+            choices(&ranges).iter().all(|values| self.demand_by(rule, |i| values[i]) <= start)
         };
         self.program.rules.iter().map(can_do_nothing).collect()
     }
 
-    /// Of the rules that are not idle, the place of the first one with a mixed
-    /// variable in its component.
-    pub fn invalid(&self, idle: &[bool]) -> Option<usize> {
+    /// Where a path leads, over no edge or more, when these rules are idle.
+    /// 000 draws an edge to each variable in which a rule is not increasing.
+    pub fn paths(&self, idle: &[bool]) -> Vec<Vec<bool>> {
         let n = self.program.variables.len();
-        let rules: Vec<&Rule> =
-            self.program.rules.iter().zip(idle).filter(|(_, idle)| !**idle).map(|(r, _)| r).collect();
         let mut path = vec![vec![false; n]; n];
         for v in 0..n {
             path[v][v] = true;
         }
-        for rule in &rules {
-            for i in 0..rule.terms.len() {
-                path[rule.head][rule.terms[i].variable] |= push(&self.program, rule, i) >= 0;
+        for (r, rule) in self.rules().filter(|(r, _)| !idle[*r]) {
+            for (i, term) in rule.terms.iter().enumerate() {
+                path[rule.head][term.variable] |= self.sign(term.variable) * self.ways[r][i] >= 0;
             }
         }
         for k in 0..n {
@@ -271,12 +306,19 @@ impl Small {
                 }
             }
         }
-        let offends = |rule: &&&Rule| {
+        path
+    }
+
+    /// Of the rules that are not idle, the first one with a mixed variable in
+    /// its component.
+    pub fn invalid(&self, idle: &[bool]) -> Option<&Rule> {
+        let path = self.paths(idle);
+        let offends = |(r, rule): &(usize, &Rule)| {
             (0..rule.terms.len()).any(|i| {
                 let v = rule.terms[i].variable;
-                push(&self.program, rule, i) == 0 && path[rule.head][v] && path[v][rule.head]
+                self.ways[*r][i] == 0 && path[rule.head][v] && path[v][rule.head]
             })
         };
-        rules.iter().find(offends).map(|rule| rule.place)
+        self.rules().filter(|(r, _)| !idle[*r]).find(offends).map(|(_, rule)| rule)
     }
 }

@@ -19,17 +19,19 @@ pub fn settle(file: &[u8], start: &[i64]) -> Option<Vec<i64>> {
     None
 }
 
-/// Lifts heads until every rule is met, or gives up.
+/// Moves heads away from their starting ends until every rule is met, or
+/// gives up.
 fn lift(program: &Program, start: &[i64]) -> Option<Vec<i64>> {
     let mut now = start.to_vec();
     for _ in 0..50 {
         let mut lifted = false;
         for rule in &program.rules {
+            let head = &program.variables[rule.head];
             let Some(given) = program.gives(rule, |i| now[rule.terms[i].variable]) else { continue };
-            if given > program.variables[rule.head].high {
+            if head.further(given, head.far()) {
                 return None;
             }
-            if given > now[rule.head] {
+            if head.further(given, now[rule.head]) {
                 now[rule.head] = given;
                 lifted = true;
             }
@@ -39,6 +41,11 @@ fn lift(program: &Program, start: &[i64]) -> Option<Vec<i64>> {
         }
     }
     None
+}
+
+/// Any value from one to the other.
+fn between(random: &mut Random, one: i64, other: i64) -> i64 {
+    random.between(one.min(other), one.max(other))
 }
 
 /// Some assignment of an accepted file, built from its witness.
@@ -60,8 +67,8 @@ pub fn assign(random: &mut Random, file: &[u8], witness: &[i64]) -> Vec<i64> {
             let mut raised = settle(file, &from).unwrap_or(from);
             for _ in 0..1 + random.below(3) {
                 let v = random.below(raised.len());
-                if program.variables[v].founded {
-                    raised[v] = random.between(raised[v], program.variables[v].high);
+                if program.variables[v].founded() {
+                    raised[v] = between(random, raised[v], program.variables[v].far());
                 }
             }
             lift(&program, &raised).unwrap_or(raised)
@@ -74,10 +81,10 @@ pub fn assign(random: &mut Random, file: &[u8], witness: &[i64]) -> Vec<i64> {
             from
         }
         13 => {
-            let mut lowered = settle(file, &from).unwrap_or(from);
-            let v = random.below(lowered.len());
-            lowered[v] = random.between(program.variables[v].low, lowered[v]);
-            lowered
+            let mut back = settle(file, &from).unwrap_or(from);
+            let v = random.below(back.len());
+            back[v] = between(random, program.variables[v].start(), back[v]);
+            back
         }
         14 => any(random),
         _ => program.variables.iter().map(|v| random.pick(&[v.low, v.high])).collect(),

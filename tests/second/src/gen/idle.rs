@@ -2,8 +2,10 @@
 //! mixed variable that one rule closes, or leaves open because it is idle.
 
 use super::fields::{self, Field};
+use super::kinds;
+use super::line::{amount, draft, idle, link, loose, near, rule_field, shuffle, size, tune, Scale};
 use super::prng::Random;
-use super::programs::{self, divisor, Shape};
+use super::programs::{self, Shape};
 use crate::program::*;
 use crate::wrong::Wrong;
 
@@ -15,238 +17,55 @@ pub struct Made {
     pub label: &'static str,
 }
 
-#[derive(Clone, Copy)]
-pub struct Scale {
-    /// How far values lie from 0.
-    reach: i64,
-    /// How many values a range has at most.
-    span: i64,
-    /// How many variables stand beside those of the circle.
-    others: usize,
-    /// How many rules are put in besides.
-    more: usize,
-    /// How many terms a body has at most.
-    terms: usize,
-}
-
-pub const FEW: Scale = Scale { reach: 2, span: 3, others: 1, more: 2, terms: 3 };
-pub const SOME: Scale = Scale { reach: 15, span: 30, others: 4, more: 5, terms: 4 };
-pub const MANY: Scale = Scale { reach: 9, span: 9, others: 18, more: 12, terms: 16 };
+pub const FEW: Scale = Scale { reach: 2, span: 3, others: 1, more: 2, terms: 3, above: 0 };
+pub const SOME: Scale = Scale { reach: 15, span: 30, others: 4, more: 5, terms: 4, above: 0 };
+pub const MANY: Scale = Scale { reach: 9, span: 9, others: 18, more: 12, terms: 16, above: 0 };
 /// No constant is too large for a rule to be idle.
-pub const HALF: Scale = Scale { reach: 15_000, span: 30_001, others: 6, more: 4, terms: 5 };
-pub const FAR: Scale = Scale { reach: 30_000, span: 60_001, others: 6, more: 4, terms: 5 };
+pub const HALF: Scale = Scale { reach: 15_000, span: 30_001, others: 6, more: 4, terms: 5, above: 0 };
+pub const FAR: Scale = Scale { reach: 30_000, span: 60_001, others: 6, more: 4, terms: 5, above: 0 };
 
 /// A variable around 0, so that its size is mixed.
 fn around(random: &mut Random, scale: Scale) -> Variable {
+    let kind = kinds::founded(random, scale.above);
     let (low, high) = if scale.span < 4 {
         random.pick(&[(-1, 1), (-1, 1), (-2, 1), (-1, 2)])
     } else {
         let most = scale.reach.min(scale.span / 2);
         (-random.between(1, most), random.between(1, most))
     };
-    Variable { founded: true, low, high }
+    Variable { kind, low, high }
 }
 
-fn any(random: &mut Random, scale: Scale, founded: bool) -> Variable {
+fn any(random: &mut Random, scale: Scale, kind: Kind) -> Variable {
     let values = if random.percent(15) { 1 } else { random.between(1, scale.span) };
-    let low = random.between(-scale.reach, (scale.reach - values + 1).max(-scale.reach));
-    Variable { founded, low, high: (low + values - 1).min(scale.reach) }
+    // A head of kind 2 that starts below 0 makes negative sums decide.
+    let negative = kind == Kind::Above && random.percent(35);
+    let top = if negative { -values } else { scale.reach - values + 1 };
+    let low = random.between(-scale.reach, top.max(-scale.reach));
+    Variable { kind, low, high: (low + values - 1).min(scale.reach) }
 }
 
 /// From 0 on or above, as a product wants it.
-fn above(random: &mut Random, scale: Scale, founded: bool) -> Variable {
-    let low = if random.percent(60) { 0 } else { random.between(0, scale.reach.min(4)) };
-    Variable { founded, low, high: low + random.between(0, (scale.span - 1).min(scale.reach - low)) }
+fn over_zero(random: &mut Random, scale: Scale, kind: Kind) -> Variable {
+    let zero = if scale.above > 0 { 30 } else { 60 };
+    let low = if random.percent(zero) { 0 } else { random.between(0, scale.reach.min(4)) };
+    Variable { kind, low, high: low + random.between(0, (scale.span - 1).min(scale.reach - low)) }
 }
 
 fn other(random: &mut Random, scale: Scale) -> Variable {
-    let founded = random.percent(50);
+    let kind = kinds::any(random, 50, scale.above);
     match random.below(4) {
-        0 => above(random, scale, founded),
-        1 => Variable { founded, ..around(random, scale) },
-        _ => any(random, scale, founded),
+        0 => over_zero(random, scale, kind),
+        1 => Variable { kind, ..around(random, scale) },
+        _ => any(random, scale, kind),
     }
 }
 
-/// Where a position helps its rule most.
-fn best(program: &Program, rule: &Rule, i: usize) -> i64 {
-    let term = &rule.terms[i];
-    let Variable { low, high, .. } = program.variables[term.variable];
-    let down = term.op == BELOW || [SUM, QUOTIENT].contains(&rule.form) && term.number < 0;
-    let further = rule.form == SIZE && low.abs() > high.abs();
-    if down || further {
-        low
-    } else {
-        high
-    }
-}
-
-/// What the rule gives where every position helps most.
-fn most(program: &Program, rule: &Rule) -> Option<i64> {
-    program.gives(rule, |i| best(program, rule, i))
-}
-
-fn idle(program: &Program, rule: &Rule) -> bool {
-    most(program, rule).is_none_or(|most| most <= program.variables[rule.head].low)
-}
-
-/// Gives the rule a constant with which it gives its head's low and `more`.
-fn tune(random: &mut Random, program: &Program, rule: &mut Rule, more: i64) {
-    rule.c = 0;
-    let wanted = program.variables[rule.head].low + more;
-    let divisor = std::mem::replace(&mut rule.divisor, 1);
-    let rest = if random.percent(30) { 0 } else { random.between(0, divisor - 1) };
-    let c = divisor * wanted - rest - most(program, rule).unwrap_or(0);
-    rule.c = c.clamp(-VALUE, VALUE);
-    rule.divisor = divisor;
-}
-
-/// A literal that can hold, perhaps at one end of the range only.
-fn literal(random: &mut Random, program: &Program, v: usize, rises: bool) -> Term {
-    let Variable { low, high, .. } = program.variables[v];
-    let at_end = random.percent(40);
-    let op = if rises || random.percent(60) { AT_LEAST } else { BELOW };
-    let number = match op {
-        AT_LEAST if at_end => high,
-        AT_LEAST => random.between(low, high),
-        _ if at_end => low + 1,
-        _ => random.between(low + 1, high + 2),
-    };
-    Term { variable: v, op, number: number.clamp(-VALUE, VALUE) }
-}
-
-/// A rule of this form with these variables in its body, not tuned yet. Every
-/// literal can hold. The first variable rises.
-fn draft(random: &mut Random, program: &Program, form: u8, head: usize, body: &[usize]) -> Rule {
-    let plain = |v: usize, number: i64| Term { variable: v, op: PLAIN, number };
-    let mut terms = Vec::new();
-    for (i, &v) in body.iter().enumerate() {
-        terms.push(match form {
-            SUM | QUOTIENT => {
-                let size = random.pick(&[1, 1, 1, 2, 3, 1_000]);
-                let turned = i > 0 && random.percent(50);
-                plain(v, if turned { -size } else { size })
-            }
-            IF => literal(random, program, v, i == 0),
-            CARRY if i > 0 => literal(random, program, v, false),
-            _ => plain(v, 0),
-        });
-    }
-    if form == CARRY && random.percent(50) {
-        // The first one is a literal, another is carried.
-        terms[0] = plain(body[1], 0);
-        terms[1] = literal(random, program, body[0], true);
-    }
-    shuffle(random, &mut terms[usize::from(form == CARRY)..]);
-    let divisor = if form == QUOTIENT { divisor(random) } else { 1 };
-    Rule { place: 0, form, head, c: 0, divisor, terms }
-}
-
-/// Makes one literal of the rule such that it never holds.
-fn fail(random: &mut Random, program: &Program, rule: &mut Rule) {
-    let literals: Vec<usize> = (0..rule.terms.len()).filter(|&i| rule.terms[i].op != PLAIN).collect();
-    let i = random.pick(&literals);
-    let v = rule.terms[i].variable;
-    let Variable { low, high, .. } = program.variables[v];
-    let gap = random.pick(&[0, 0, 0, 0, 1, 5]);
-    let (op, number) = match random.below(5) {
-        0 | 1 if high == 4 => (AT_LEAST, 9),
-        0 | 1 => (AT_LEAST, high + 1 + gap),
-        _ => (BELOW, low - gap),
-    };
-    rule.terms[i] = Term { variable: v, op, number: number.clamp(-VALUE, VALUE) };
-}
-
-/// How much more than the low a rule is to give.
-fn amount(random: &mut Random, scale: Scale) -> i64 {
-    match random.below(10) {
-        0..=2 => 0,
-        3..=6 => 1,
-        7 => -random.between(1, scale.span),
-        _ => random.between(2, scale.span + 1),
-    }
-}
-
-/// A rule with `through` rising in its body, near the line between idle and
-/// not, or with a literal that never holds.
-fn near(random: &mut Random, program: &Program, head: usize, through: usize, scale: Scale) -> Rule {
-    // Sums above 0 decide only where the low is 0 or above.
-    if program.variables[head].low >= 0 && random.percent(35) {
-        return near_quotient(random, program, head, through, scale);
-    }
-    let mut forms = vec![SUM, MAX, MIN, IF, CARRY, QUOTIENT, QUOTIENT];
-    let mut more: Vec<usize> = (0..program.variables.len()).filter(|&v| v != through).collect();
-    let factors: Vec<usize> = more.iter().copied().filter(|&v| program.variables[v].low >= 0).collect();
-    let Variable { low, high, .. } = program.variables[through];
-    if low >= 0 && !factors.is_empty() {
-        forms.extend([PRODUCT, PRODUCT]);
-    }
-    if low >= 0 || high > 0 {
-        forms.push(SIZE);
-    }
-    let form = random.pick(&forms);
-    if form == PRODUCT {
-        more = factors;
-    }
-    let others = match form {
-        SIZE => 0,
-        PRODUCT => 1,
-        CARRY => 1 + random.below(scale.terms - 1),
-        _ => random.below(scale.terms),
-    };
-    let mut body = vec![through];
-    body.extend(random.distinct(more.len(), others).iter().map(|&i| more[i]));
-    if form != PRODUCT && body.len() > 1 && !body.contains(&head) && random.percent(30) {
-        body[1] = head;
-    }
-    let mut rule = draft(random, program, form, head, &body);
-    let fails = [IF, CARRY].contains(&form) && random.percent(45);
-    let wanted = if fails { random.pick(&[1, 1, 2, -1]) } else { amount(random, scale) };
-    tune(random, program, &mut rule, wanted);
-    if fails {
-        fail(random, program, &mut rule);
-    }
-    rule
-}
-
-/// A rule of form 8 near the line.
-fn near_quotient(
-    random: &mut Random,
-    program: &Program,
-    head: usize,
-    through: usize,
-    scale: Scale,
-) -> Rule {
-    let others: Vec<usize> = (0..program.variables.len()).filter(|&v| v != through).collect();
-    let more = random.below(scale.terms);
-    let mut body = vec![through];
-    body.extend(random.distinct(others.len(), more).iter().map(|&i| others[i]));
-    let mut rule = draft(random, program, QUOTIENT, head, &body);
-    rule.divisor = random.between(2, 5);
-    let wanted = random.pick(&[0, 0, 1]);
-    tune(random, program, &mut rule, wanted);
-    rule
-}
-
-/// A rule of form 1 from `to` to `from` that is not idle.
-fn link(random: &mut Random, program: &Program, from: usize, to: usize) -> Rule {
-    let mut rule = draft(random, program, SUM, from, &[to]);
-    let more = random.pick(&[1, 1, 2]);
-    tune(random, program, &mut rule, more);
-    rule
-}
-
-/// head >= |variable|, giving the low and `more`.
-fn size(random: &mut Random, program: &Program, head: usize, variable: usize, more: i64) -> Rule {
-    let mut rule = draft(random, program, SIZE, head, &[variable]);
-    tune(random, program, &mut rule, more);
-    rule
-}
-
-/// Rules that close no circle: idle ones of any kind, constants, falling sums.
+/// Rules that close no circle: idle ones of any sort, constants, sums in which
+/// nothing is kept.
 fn add_more(random: &mut Random, program: &mut Program, scale: Scale) {
     let heads: Vec<usize> =
-        (0..program.variables.len()).filter(|&v| program.variables[v].founded).collect();
+        (0..program.variables.len()).filter(|&v| program.variables[v].founded()).collect();
     for _ in 0..random.below(scale.more + 1) {
         let head = random.pick(&heads);
         let through = random.below(program.variables.len());
@@ -260,7 +79,9 @@ fn add_more(random: &mut Random, program: &mut Program, scale: Scale) {
             _ if !idle(program, &rule) => tune(random, program, &mut rule, 0),
             _ => {}
         }
-        let harmless = rule.terms.iter().all(|t| rule.form == SUM && t.number < 0);
+        let head = program.variables[rule.head].kind;
+        let sign = |t: &Term| kinds::sign(head, program.variables[t.variable].kind);
+        let harmless = rule.terms.iter().all(|t| rule.form == SUM && sign(t) * t.number < 0);
         if harmless {
             let more = random.between(0, 2);
             tune(random, program, &mut rule, more);
@@ -268,13 +89,6 @@ fn add_more(random: &mut Random, program: &mut Program, scale: Scale) {
         if harmless || idle(program, &rule) {
             program.rules.push(rule);
         }
-    }
-}
-
-fn shuffle<T>(random: &mut Random, list: &mut [T]) {
-    for i in 0..list.len() {
-        let j = i + random.below(list.len() - i);
-        list.swap(i, j);
     }
 }
 
@@ -293,16 +107,7 @@ fn rename(random: &mut Random, program: &mut Program) {
 }
 
 fn variable_fields(program: &Program) -> Vec<Field> {
-    program.variables.iter().map(|v| fields::variable(u8::from(v.founded), v.low, v.high)).collect()
-}
-
-fn rule_field(rule: &Rule) -> Field {
-    let terms: Vec<fields::Piece> =
-        rule.terms.iter().map(|t| (t.variable as u8, t.op, t.number)).collect();
-    match rule.form {
-        QUOTIENT => fields::quotient(rule.head as u8, rule.c, rule.divisor, &terms),
-        form => fields::rule(form, rule.head as u8, rule.c, &terms),
-    }
+    program.variables.iter().map(|v| fields::variable(v.kind.number(), v.low, v.high)).collect()
 }
 
 fn empty() -> Program {
@@ -341,16 +146,25 @@ fn add_others(random: &mut Random, program: &mut Program, scale: Scale) {
     }
 }
 
+/// A founded variable, from 0 on in so many of a hundred cases.
+fn founded(random: &mut Random, scale: Scale, percent: usize) -> Variable {
+    let kind = kinds::founded(random, scale.above);
+    if random.percent(percent) {
+        over_zero(random, scale, kind)
+    } else {
+        any(random, scale, kind)
+    }
+}
+
 /// A size rule in a circle that one rule, near the line, closes or not.
 fn closing(random: &mut Random, scale: Scale) -> Made {
     let (a, b, between) = (0, 1, 2);
-    let first = if random.percent(60) { above(random, scale, true) } else { any(random, scale, true) };
+    let first = founded(random, scale, 60);
     let mut program = empty();
     program.variables.extend([first, around(random, scale)]);
     let longer = random.percent(45);
     if longer {
-        let middle =
-            if random.percent(50) { above(random, scale, true) } else { any(random, scale, true) };
+        let middle = founded(random, scale, 50);
         program.variables.push(middle);
     }
     add_others(random, &mut program, scale);
@@ -373,13 +187,44 @@ fn closing(random: &mut Random, scale: Scale) -> Made {
     finish(random, program, closed, "idle: closing")
 }
 
+/// A size rule in a circle that is open because one variable of it is not
+/// kept.
+fn open(random: &mut Random, scale: Scale) -> Made {
+    let (a, b, between) = (0, 1, 2);
+    let mut program = empty();
+    program.variables.extend([founded(random, scale, 60), around(random, scale)]);
+    let longer = random.percent(45);
+    if longer {
+        let middle = founded(random, scale, 50);
+        program.variables.push(middle);
+    }
+    let first_other = program.variables.len();
+    add_others(random, &mut program, scale);
+    let more = random.pick(&[1, 1, 2]);
+    program.rules.push(size(random, &program, a, b, more));
+    let last = if longer { between } else { a };
+    if longer {
+        let made = link(random, &program, between, a);
+        program.rules.push(made);
+    }
+    for _ in 0..1 + random.below(2) {
+        let made = loose(random, &program, b, last, first_other);
+        program.rules.push(made);
+    }
+    add_more(random, &mut program, scale);
+    shuffle(random, &mut program.rules);
+    rename(random, &mut program);
+    finish(random, program, false, "idle: open")
+}
+
 /// One to three sizes, each in its head's component unless it is idle.
 fn offending(random: &mut Random, scale: Scale) -> Made {
     let mut program = empty();
     program.variables.push(around(random, scale));
     let head = if random.percent(40) { 0 } else { 1 };
     if head == 1 {
-        program.variables.push(any(random, scale, true));
+        let kind = kinds::founded(random, scale.above);
+        program.variables.push(any(random, scale, kind));
     }
     add_others(random, &mut program, scale);
     let links = if head == 1 { vec![link(random, &program, 0, 1)] } else { Vec::new() };
@@ -412,13 +257,20 @@ fn full(random: &mut Random, scale: Scale, count: usize) -> Made {
         let made = size(random, &program, head, v, more);
         program.rules.push(made);
     }
-    let witness: Vec<i64> =
-        program.variables.iter().map(|v| random.between(v.low + 1, v.high)).collect();
+    let moved = |v: &Variable| match v.kind {
+        Kind::Above => (v.low, v.high - 1),
+        _ => (v.low + 1, v.high),
+    };
+    let ends: Vec<(i64, i64)> = program.variables.iter().map(moved).collect();
+    let witness: Vec<i64> = ends.iter().map(|&(low, high)| random.between(low, high)).collect();
     for _ in 0..random.below(4) {
-        // Some are lifted a little.
+        // Some are moved a little.
         let head = random.below(count);
+        let variable = &program.variables[head];
+        let last = witness[head] - kinds::away(variable.kind);
+        let (least, most) = (variable.start().min(last), variable.start().max(last));
         let mut made = draft(random, &program, SUM, head, &[]);
-        made.c = random.between(program.variables[head].low, witness[head] - 1);
+        made.c = random.between(least, most);
         program.rules.push(made);
     }
     shuffle(random, &mut program.rules);
@@ -432,7 +284,8 @@ pub fn sprinkle(random: &mut Random, list: &mut Vec<Field>, scale: Scale) {
     let heads = programs::heads(list);
     let mut program = empty();
     for (kind, low, high) in fields::variables(list) {
-        program.variables.push(Variable { founded: kind == 1, low, high });
+        let kind = Kind::numbered(kind).unwrap_or(Kind::Standard);
+        program.variables.push(Variable { kind, low, high });
     }
     let count = program.variables.len();
     if heads.is_empty() || count < 2 {
@@ -486,35 +339,78 @@ fn example(random: &mut Random) -> Made {
     }
 }
 
-/// A file for all calls.
-pub fn made(random: &mut Random) -> Made {
+/// Examples of kind 2: a <= |a| with a constant, row 13 turned over, and a head
+/// that needs 9 from a variable ending at 4.
+fn example_above(random: &mut Random) -> Made {
+    let above = |low, high| fields::variable(2, low, high);
+    let place = |list: &[Field], r: usize| fields::place(list, r);
+    let label = "idle: example of kind 2";
+    match random.below(3) {
+        0 => {
+            let c = random.pick(&[4, 4, 5, 5, 6]);
+            let list = vec![above(-5, 5), fields::rule(5, 0, c, &[(0, 0, 0)])];
+            let due = if c >= 5 { (0, 0) } else { (13, place(&list, 1)) };
+            Made { fields: list, witness: vec![random.between(-5, 5)], due: Some(due), label }
+        }
+        1 => {
+            // a <= |b|, b <= 2a + c: the least of the second is c - 20.
+            let c = random.pick(&[6, 29, 30, 31]);
+            let rules = [fields::rule(5, 0, 0, &[(1, 0, 0)]), fields::rule(1, 1, c, &[(0, 0, 2)])];
+            let list = [vec![above(-10, 10), above(-10, 10)], rules.to_vec()].concat();
+            let due = if c >= 30 { (0, 0) } else { (13, place(&list, 2)) };
+            Made { fields: list, witness: vec![-10, 10], due: Some(due), label }
+        }
+        _ => {
+            // b moves if a < 1 and d >= 9, b of any founded kind; a <= |b| - 1.
+            let (number, end) = random.pick(&[(9, 4), (9, 4), (9, 4), (4, 4), (9, 9)]);
+            let closed = fields::variable(random.pick(&[0, 1, 2]), 0, end);
+            let kind = kinds::founded(random, 60);
+            let needs = [(0, 2, 1), (2, 1, number)];
+            let c = kinds::away(kind) * random.between(0, 2);
+            let rules = [fields::rule(6, 1, c, &needs), fields::rule(5, 0, -1, &[(1, 0, 0)])];
+            let b = fields::variable(kind.number(), -2, 2);
+            let list = [vec![above(-2, 2), b, closed], rules.to_vec()].concat();
+            let due = if number > end { (0, 0) } else { (13, place(&list, 4)) };
+            Made { fields: list, witness: vec![-1, random.between(-2, 2), end], due: Some(due), label }
+        }
+    }
+}
+
+/// A file for all calls; so many of a hundred founded variables are founded
+/// from above.
+pub fn made(random: &mut Random, above: usize) -> Made {
     let scale = random.pick(&[FEW, FEW, SOME, SOME, SOME, SOME, SOME, MANY, FAR, FAR]);
+    let scale = Scale { above, ..scale };
     match random.below(100) {
+        40..=47 if above > 0 => open(random, scale),
         0..=47 => closing(random, scale),
         48..=67 => offending(random, scale),
         68..=75 => {
             let count = random.pick(&[1, 1, 1, 2, 2, 3, 5, 17, 64, 256]);
             let scale = random.pick(&[FEW, SOME, HALF]);
-            full(random, scale, count)
+            full(random, Scale { above, ..scale }, count)
         }
         76..=93 => {
             let shape = random.pick(&[programs::SMALL, programs::SMALL, programs::MIDDLE]);
-            among(random, shape, SOME)
+            among(random, Shape { above, ..shape }, Scale { above, ..SOME })
         }
+        _ if above > 0 && random.percent(80) => example_above(random),
         _ => example(random),
     }
 }
 
 /// A file for the brute force.
-pub fn small(random: &mut Random) -> Vec<Field> {
+pub fn small(random: &mut Random, above: usize) -> Vec<Field> {
+    let few = Scale { above, ..FEW };
     let made = match random.below(20) {
-        0..=8 => closing(random, FEW),
-        9..=13 => offending(random, FEW),
+        7 | 8 if above > 0 => open(random, few),
+        0..=8 => closing(random, few),
+        9..=13 => offending(random, few),
         14 | 15 => {
             let count = 1 + random.below(2);
-            full(random, FEW, count)
+            full(random, few, count)
         }
-        _ => among(random, programs::SMALL, FEW),
+        _ => among(random, Shape { above, ..programs::SMALL }, few),
     };
     made.fields
 }

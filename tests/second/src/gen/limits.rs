@@ -1,6 +1,7 @@
 //! Files at and just beyond the limits of the format.
 
 use super::fields::{self, Field, Piece};
+use super::kinds;
 use super::prng::Random;
 
 pub type Due = Option<(usize, usize)>;
@@ -37,14 +38,14 @@ fn divided(random: &mut Random, groups: usize) -> Field {
     fields::quotient(random.byte(), random.pick(&[-30_000, -1, 0, 1]), divisor, &terms)
 }
 
-fn variables(count: usize) -> Vec<Field> {
-    (0..count).map(|_| fields::variable(1, 0, 1)).collect()
+fn variables(random: &mut Random, above: usize, count: usize) -> Vec<Field> {
+    (0..count).map(|_| fields::variable(kinds::founded(random, above).number(), 0, 1)).collect()
 }
 
 /// Exactly 60,000 bytes of sound fields: 256 variables, r rules and k
 /// constraints, and as many groups as are needed to fill the rest.
-fn brimful(random: &mut Random) -> Vec<Field> {
-    let mut out = variables(256);
+fn brimful(random: &mut Random, above: usize) -> Vec<Field> {
+    let mut out = variables(random, above, 256);
     let (rules, constraints) = (4 * (200 + random.below(10)), 2 * (20 + random.below(5)));
     let mut groups = (60_000 - 2_048 - 7 * rules - 6 * constraints) / 4;
     let divides = random.percent(50);
@@ -62,12 +63,12 @@ fn brimful(random: &mut Random) -> Vec<Field> {
 }
 
 /// A file at a limit, or one beyond it, with what is due.
-pub fn at_limit(random: &mut Random) -> (Vec<u8>, usize, Due) {
-    let founded = |n: usize| variables(n);
+pub fn at_limit(random: &mut Random, above: usize) -> (Vec<u8>, usize, Due) {
+    let founded = |random: &mut Random, n: usize| variables(random, above, n);
     match random.below(12) {
-        0 => (fields::bytes(&brimful(random)), 256, None),
+        0 => (fields::bytes(&brimful(random, above)), 256, None),
         1 => {
-            let mut file = fields::bytes(&brimful(random));
+            let mut file = fields::bytes(&brimful(random, above));
             file.push(random.byte());
             if random.percent(50) {
                 file[0] = 9;
@@ -75,10 +76,10 @@ pub fn at_limit(random: &mut Random) -> (Vec<u8>, usize, Due) {
             (file, 256, Some((1, 0)))
         }
         2 => (vec![random.byte(); random.pick(&[60_001, 60_500, 60_900])], 1, Some((1, 0))),
-        3 => (fields::bytes(&founded(256)), 256, None),
+        3 => (fields::bytes(&founded(random, 256)), 256, None),
         4 => {
             // The 257th field may hold anything.
-            let mut out = founded(256);
+            let mut out = founded(random, 256);
             let value = (0..random.below(8)).map(|_| random.byte()).collect();
             out.push(Field { tag: 1, value });
             (fields::bytes(&out), 256, Some((5, 2_048)))
@@ -87,7 +88,7 @@ pub fn at_limit(random: &mut Random) -> (Vec<u8>, usize, Due) {
             // 2,048 rules and 512 constraints, or one more of either.
             let count = 1 + random.below(3);
             let (more_rules, more_constraints) = random.pick(&[(0, 0), (1, 0), (0, 1), (1, 1)]);
-            let mut out = founded(count);
+            let mut out = founded(random, count);
             for i in 0..2_048 + more_rules {
                 let head = (i % count) as u8;
                 out.push(fields::rule(1, head, random.between(-1, 1), &[]));
@@ -103,21 +104,21 @@ pub fn at_limit(random: &mut Random) -> (Vec<u8>, usize, Due) {
             (fields::bytes(&out), count, place)
         }
         7 => {
-            let mut out = founded(256);
+            let mut out = founded(random, 256);
             let tag = 2 + random.below(2) as u8;
             out.push(filler(random, tag, 16));
             (fields::bytes(&out), 256, None)
         }
         8 | 9 => {
             // 16 terms beside a divisor, or one more.
-            let mut out = founded(256);
+            let mut out = founded(random, 256);
             let more = random.below(2);
             out.push(divided(random, 17 + more));
             (fields::bytes(&out), 256, if more == 0 { None } else { Some((6, 2_048)) })
         }
         10 => {
             // 17 groups that only form 8 of a rule may have.
-            let mut out = founded(256);
+            let mut out = founded(random, 256);
             let mut field = divided(random, 17);
             if random.percent(50) {
                 field.value[0] = random.pick(&[0, 1, 2, 6, 7, 9, 9, 9, 128, 255]);
@@ -130,7 +131,7 @@ pub fn at_limit(random: &mut Random) -> (Vec<u8>, usize, Due) {
         }
         _ => {
             // 17 terms, sound ones too; also for a product and with a wrong op.
-            let mut out = founded(256);
+            let mut out = founded(random, 256);
             let tag = 2 + random.below(2) as u8;
             let mut field = filler(random, tag, 17);
             if random.percent(50) {

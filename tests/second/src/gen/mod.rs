@@ -1,13 +1,17 @@
 //! Inputs drawn from a seed. The same seed always gives the same input.
 
+pub mod arrivals;
 pub mod assignments;
 pub mod damage;
 pub mod divisors;
 pub mod fields;
 pub mod idle;
+pub mod kinds;
 pub mod limits;
+pub mod line;
 pub mod prng;
 pub mod programs;
+pub mod slack;
 pub mod spoil;
 pub mod whole;
 
@@ -29,18 +33,40 @@ pub struct Input {
     pub due: Option<(usize, usize)>,
 }
 
+/// How many of a hundred founded variables are founded from above: none in
+/// every other six of the seeds.
+fn above(seed: u64) -> usize {
+    match seed / 6 % 8 {
+        1 | 5 => 50,
+        3 => 75,
+        7 => 100,
+        _ => 0,
+    }
+}
+
 /// The input of this seed.
 pub fn input(seed: u64) -> Input {
     let random = &mut Random::new(seed);
-    if seed % 6 == 5 {
-        return idle(random);
+    let above = above(seed);
+    if seed % 6 == 5 || above > 0 && seed % 6 == 2 {
+        return idle(random, above);
     }
     let drawn = random.below(100);
+    let shape = |shape| programs::Shape { above, ..shape };
     let mut made = match drawn {
-        0..=19 => plan(random, "small", programs::SMALL),
-        20..=33 => plan(random, "middle", programs::MIDDLE),
-        34..=36 => plan(random, "large", programs::LARGE),
-        37..=40 => plan(random, "extreme", programs::EXTREME),
+        10..=19 if above > 0 => {
+            let made = slack::slack(random);
+            let mut input = dress(random, "slack", &made);
+            if random.percent(60) {
+                input.assignment = fields::assignment(&made.1);
+            }
+            input
+        }
+        0..=19 => plan(random, "small", shape(programs::SMALL)),
+        20..=33 => plan(random, "middle", shape(programs::MIDDLE)),
+        34..=36 => plan(random, "large", shape(programs::LARGE)),
+        37..=40 => plan(random, "extreme", shape(programs::EXTREME)),
+        41..=49 if above > 0 => arrival(random, drawn, above),
         41..=47 => {
             let made = programs::ring(random);
             dress(random, "ring", &made)
@@ -53,18 +79,18 @@ pub fn input(seed: u64) -> Input {
             let made = programs::crowded(random);
             dress(random, "crowded", &made)
         }
-        50..=68 => spoilt(random),
+        50..=68 => spoilt(random, above),
         69 | 70 => {
-            let (file, variables, due) = limits::at_limit(random);
+            let (file, variables, due) = limits::at_limit(random, above);
             let top = random.between(0, 1);
             let values: Vec<i64> =
                 (0..variables).map(|_| if random.percent(20) { 0 } else { top }).collect();
             let buffer = 12 * variables;
             Input { file, assignment: fields::assignment(&values), buffer, label: "limit", due }
         }
-        71..=73 => misdivided(random),
+        71..=73 => misdivided(random, above),
         74..=94 => {
-            let shape = random.pick(&[programs::SMALL, programs::MIDDLE]);
+            let shape = shape(random.pick(&[programs::SMALL, programs::MIDDLE]));
             let mut input = plan(random, "damaged", shape);
             damage::damage(random, &mut input.file);
             input
@@ -74,7 +100,7 @@ pub fn input(seed: u64) -> Input {
             Input { file, assignment: vec![0; 2], buffer: 24, label: "noise", due: None }
         }
         _ => {
-            let mut input = plan(random, "assignment length", programs::SMALL);
+            let mut input = plan(random, "assignment length", shape(programs::SMALL));
             let n = input.assignment.len();
             let other = random.pick(&[n + 1, n.saturating_sub(1), n + 2, 0, 2 * n, 600]);
             input.assignment.resize(other, 0);
@@ -102,9 +128,23 @@ fn lent(random: &mut Random, made: &Input) -> usize {
     }
 }
 
+/// A file around variables founded from above.
+fn arrival(random: &mut Random, drawn: usize, above: usize) -> Input {
+    let (label, made) = match drawn {
+        41..=43 => {
+            let high = random.between(2, 40);
+            ("network", arrivals::network(random, 30, high))
+        }
+        44..=47 => ("both kinds", arrivals::both(random, 20, 30)),
+        48 => ("descent", arrivals::descent(random)),
+        _ => ("crowded, kind 2", arrivals::crowded(random, above)),
+    };
+    dress(random, label, &made)
+}
+
 /// A file in which it matters whether a rule is idle.
-fn idle(random: &mut Random) -> Input {
-    let idle::Made { fields, witness, due, label } = idle::made(random);
+fn idle(random: &mut Random, above: usize) -> Input {
+    let idle::Made { fields, witness, due, label } = idle::made(random, above);
     let room = 12 * witness.len();
     let full = label == idle::FULL;
     let mut made = dress(random, label, &(fields, witness.clone()));
@@ -132,9 +172,9 @@ fn dress(random: &mut Random, label: &'static str, made: &(Vec<Field>, Vec<i64>)
 }
 
 /// A file with faults that are known.
-fn spoilt(random: &mut Random) -> Input {
+fn spoilt(random: &mut Random, above: usize) -> Input {
     let shape = random.pick(&[programs::SMALL, programs::MIDDLE]);
-    let (mut list, witness) = programs::program(random, shape);
+    let (mut list, witness) = programs::program(random, programs::Shape { above, ..shape });
     let assignment = fields::assignment(&witness);
     let accepted = matches!(crate::read(&fields::bytes(&list)), crate::Reading::Accepted { .. });
     let mut due = None;
@@ -148,6 +188,7 @@ fn spoilt(random: &mut Random) -> Input {
             }
             1 => due = whole::disorder(random, &mut list),
             2 | 3 => due = whole::knot(random, &mut list),
+            4 if above > 0 => due = spoil::spoil_product(random, &mut list),
             _ => due = spoil::spoil_some(random, &mut list),
         }
     }
@@ -156,8 +197,9 @@ fn spoilt(random: &mut Random) -> Input {
 }
 
 /// A file with a fault that has to do with a divisor.
-fn misdivided(random: &mut Random) -> Input {
+fn misdivided(random: &mut Random, above: usize) -> Input {
     let shape = random.pick(&[programs::SMALL, programs::MIDDLE]);
+    let shape = programs::Shape { above, ..shape };
     let accepted =
         |list: &[Field]| matches!(crate::read(&fields::bytes(list)), crate::Reading::Accepted { .. });
     let (mut list, witness) = loop {
@@ -171,27 +213,44 @@ fn misdivided(random: &mut Random) -> Input {
     Input { file, assignment, buffer: 0, label: "divisor", due }
 }
 
-/// A small program for the brute force: few variables, short ranges.
+/// A small program for the brute force: few variables, short ranges. Every
+/// other four have no variable founded from above.
 pub fn small(seed: u64) -> Vec<u8> {
     let random = &mut Random::new(seed ^ 0xB207_E0F0_0000_0000);
-    if seed % 4 == 3 {
-        return fields::bytes(&idle::small(random));
+    let above = above(seed / 4 * 6);
+    if seed % 4 == 3 || above > 0 && seed % 4 == 1 {
+        return fields::bytes(&idle::small(random, above));
     }
-    let mut list = programs::program(random, programs::SMALL).0;
+    if above > 0 && random.percent(35) {
+        return fields::bytes(&small_arrival(random));
+    }
+    let mut list = programs::program(random, programs::Shape { above, ..programs::SMALL }).0;
     if random.percent(10) {
         whole::knot(random, &mut list);
     }
     fields::bytes(&list)
 }
 
+/// A small network, or a small circle through both kinds.
+pub fn small_arrival(random: &mut Random) -> Vec<Field> {
+    if random.percent(40) {
+        let high = random.between(1, 2);
+        return arrivals::network(random, 2, high).0;
+    }
+    arrivals::both(random, 3, 2).0
+}
+
+/// A standard input for the printing program.
+pub fn framed(file: &[u8], assignment: &[u8]) -> Vec<u8> {
+    let length = file.len().min(65_535) as u16;
+    [&length.to_be_bytes(), file, assignment].concat()
+}
+
 /// A standard input for the printing program, well framed or not.
 pub fn print_input(seed: u64) -> Vec<u8> {
     let random = &mut Random::new(seed ^ 0x0F12_0000_0000_0000);
     let made = input(random.word() % 1_000_000);
-    let length = made.file.len().min(65_535) as u16;
-    let mut out = length.to_be_bytes().to_vec();
-    out.extend(made.file);
-    out.extend(made.assignment);
+    let mut out = framed(&made.file, &made.assignment);
     match random.below(20) {
         0 => out.truncate(random.below(3)),
         1 => out.truncate(random.below(out.len())),

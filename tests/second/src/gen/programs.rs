@@ -4,7 +4,9 @@
 
 use super::assignments::settle;
 use super::fields::{self, Field, Piece};
+use super::kinds;
 use super::prng::Random;
+use crate::program::{Kind, AT_LEAST};
 
 #[derive(Clone, Copy)]
 pub struct Shape {
@@ -13,12 +15,17 @@ pub struct Shape {
     pub rules: usize,
     pub constraints: usize,
     pub terms: usize,
+    /// How many of a hundred founded variables are founded from above.
+    pub above: usize,
 }
 
-pub const SMALL: Shape = Shape { variables: 4, span: 3, rules: 6, constraints: 2, terms: 3 };
-pub const MIDDLE: Shape = Shape { variables: 12, span: 20, rules: 24, constraints: 5, terms: 5 };
-pub const LARGE: Shape = Shape { variables: 60, span: 300, rules: 150, constraints: 20, terms: 16 };
-pub const EXTREME: Shape = Shape { variables: 4, span: 60_000, rules: 6, constraints: 3, terms: 4 };
+pub const SMALL: Shape = Shape { variables: 4, span: 3, rules: 6, constraints: 2, terms: 3, above: 0 };
+pub const MIDDLE: Shape =
+    Shape { variables: 12, span: 20, rules: 24, constraints: 5, terms: 5, above: 0 };
+pub const LARGE: Shape =
+    Shape { variables: 60, span: 300, rules: 150, constraints: 20, terms: 16, above: 0 };
+pub const EXTREME: Shape =
+    Shape { variables: 4, span: 60_000, rules: 6, constraints: 3, terms: 4, above: 0 };
 
 /// A program with the witness it was built around.
 pub fn program(random: &mut Random, shape: Shape) -> (Vec<Field>, Vec<i64>) {
@@ -38,7 +45,8 @@ pub fn program(random: &mut Random, shape: Shape) -> (Vec<Field>, Vec<i64>) {
             2 => -random.between(0, span),
             _ => 0,
         };
-        out.push(fields::variable(u8::from(random.percent(75)), low, low + span));
+        let kind = kinds::any(random, 75, shape.above);
+        out.push(fields::variable(kind.number(), low, low + span));
         witness.push(random.between(low, low + span));
     }
     let heads: Vec<u8> = heads(&out);
@@ -70,7 +78,8 @@ pub fn program(random: &mut Random, shape: Shape) -> (Vec<Field>, Vec<i64>) {
 /// What the rules of one program have in common.
 #[derive(Clone, Copy)]
 struct Manner {
-    /// No coefficient below 0, no op 2.
+    /// All terms that can be are kept: without kind 2, no coefficient below 0
+    /// and no op 2.
     only_up: bool,
     /// Bodies use higher numbers than their heads, so that size may be mixed.
     no_circle: bool,
@@ -81,12 +90,20 @@ struct Manner {
 /// The numbers of the founded variables.
 pub fn heads(fields: &[Field]) -> Vec<u8> {
     let all = fields::variables(fields);
-    (0..all.len()).filter(|&v| all[v].0 == 1).map(|v| v as u8).collect()
+    (0..all.len()).filter(|&v| all[v].0 > 0).map(|v| v as u8).collect()
 }
 
-fn literal(random: &mut Random, variable: usize, value: i64, hold: bool, only_up: bool) -> Piece {
+fn literal(
+    random: &mut Random,
+    kind: Kind,
+    variable: usize,
+    value: i64,
+    hold: bool,
+    only_up: bool,
+) -> Piece {
     let gap = random.between(0, 2);
-    let (op, number) = match (only_up || random.percent(65), hold) {
+    let kept = only_up || random.percent(65);
+    let (op, number) = match (kept == (kinds::op(kind) == AT_LEAST), hold) {
         (true, true) => (1, value - gap),
         (true, false) => (1, value + 1 + gap),
         (false, true) => (2, value + 1 + gap),
@@ -130,6 +147,8 @@ fn rule(
     manner: Manner,
 ) -> Field {
     let all = fields::variables(fields);
+    let kind = |v: usize| Kind::numbered(all[v].0).unwrap_or(Kind::Standard);
+    let head_kind = kind(usize::from(head));
     let only_up = manner.only_up;
     let first_usable = if manner.no_circle { usize::from(head) + 1 } else { 0 };
     let most = 1 + random.below(shape.terms);
@@ -155,8 +174,9 @@ fn rule(
         1 | 8 => {
             let least = usize::from(form == 8 && !body.is_empty() && random.percent(80));
             body.truncate(random.between(least as i64, body.len() as i64) as usize);
+            let sign = |v: usize| kinds::sign(head_kind, kind(v));
             let terms: Vec<Piece> =
-                body.iter().map(|&v| (v as u8, 0, coefficient(random, only_up))).collect();
+                body.iter().map(|&v| (v as u8, 0, sign(v) * coefficient(random, only_up))).collect();
             let sum = terms.iter().map(|t| t.2 * at(usize::from(t.0))).sum();
             (terms, Some(sum))
         }
@@ -177,7 +197,7 @@ fn rule(
                 if i < first {
                     terms.push(plain(&v));
                 } else {
-                    terms.push(literal(random, v, at(v), hold || i != fails, only_up));
+                    terms.push(literal(random, kind(v), v, at(v), hold || i != fails, only_up));
                 }
             }
             let carried = if form == 7 { at(body[0]) } else { 0 };
@@ -185,10 +205,11 @@ fn rule(
         }
     };
     let head_value = witness[usize::from(head)];
+    let away = kinds::away(head_kind);
     if form == 8 {
         // Any rest below the divisor is rounded away.
         let divisor = divisor(random);
-        let wanted = head_value - random.pick(&[0, 0, 0, 1, 2, shape.span / 2]);
+        let wanted = head_value - away * random.pick(&[0, 0, 0, 1, 2, shape.span / 2]);
         let rest = if random.percent(25) { 0 } else { random.between(0, divisor - 1) };
         let c = match value {
             Some(sum) if random.percent(97) => divisor * wanted - rest - sum,
@@ -198,7 +219,7 @@ fn rule(
     }
     let c = match value {
         _ if random.percent(3) => random.between(-5, 5),
-        Some(value) => head_value - value - random.pick(&[0, 0, 0, 1, 2, shape.span / 2]),
+        Some(value) => head_value - value - away * random.pick(&[0, 0, 0, 1, 2, shape.span / 2]),
         None => random.between(-shape.span, shape.span),
     };
     fields::rule(form, head, c.clamp(-30_000, 30_000), &terms)
@@ -223,7 +244,7 @@ fn constraint(
     let mut terms: Vec<Piece> = Vec::new();
     for (i, &v) in body.iter().enumerate() {
         let hold = if keep_true { i == holds } else { random.percent(20) };
-        terms.push(literal(random, v, target[v], hold, false));
+        terms.push(literal(random, Kind::Standard, v, target[v], hold, false));
     }
     debug_assert!(fields.len() >= target.len());
     fields::constraint(2, 0, &terms)

@@ -70,7 +70,7 @@ fn divides(field: &Field) -> bool {
 fn seven(random: &mut Random, field: &mut Field) {
     let tag = field.tag;
     if tag == 1 {
-        field.value[0] = random.pick(&[2, 3, 128, 255]);
+        field.value[0] = random.pick(&[3, 4, 128, 255]);
         return;
     }
     let form = field.value[0];
@@ -253,6 +253,16 @@ fn twelve(random: &mut Random, fields: &mut [Field], i: usize) -> bool {
     }
     replace(&mut fields[i], 4, &terms);
     true
+}
+
+/// Refusal 12 in some rule, where the file has what it needs.
+pub fn spoil_product(random: &mut Random, fields: &mut [Field]) -> Option<(usize, usize)> {
+    let rules: Vec<usize> = (0..fields.len()).filter(|&i| fields[i].tag == 2).collect();
+    if rules.is_empty() {
+        return None;
+    }
+    let i = random.pick(&rules);
+    twelve(random, fields, i).then(|| (12, fields::place(fields, i)))
 }
 
 /// One to four faults of the numbers 3 and 6 to 12, and the refusal due.

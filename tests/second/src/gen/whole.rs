@@ -1,8 +1,10 @@
 //! Faults of a whole file: order, cuts, and circles through a mixed variable.
 
 use super::fields::{self, Field};
+use super::kinds;
 use super::prng::Random;
 use super::programs::heads;
+use crate::program::Kind;
 
 /// Refusal 4: a lower tag after a higher one.
 pub fn disorder(random: &mut Random, fields: &mut Vec<Field>) -> Option<(usize, usize)> {
@@ -41,30 +43,39 @@ pub fn cut(random: &mut Random, fields: &[Field]) -> (Vec<u8>, Option<(usize, us
 pub fn knot(random: &mut Random, fields: &mut Vec<Field>) -> Option<(usize, usize)> {
     let all = fields::variables(fields);
     let (low, high) = (|v: u8| all[usize::from(v)].1, |v: u8| all[usize::from(v)].2);
+    let kind = |v: u8| Kind::numbered(all[usize::from(v)].0).unwrap_or(Kind::Standard);
+    // What a rule gives that moves its head so far from its starting end.
+    let moved = |v: u8, more: i64| match kind(v) {
+        Kind::Above => high(v) - more,
+        _ => low(v) + more,
+    };
     let heads = heads(fields);
     let able: Vec<u8> = heads.iter().copied().filter(|&v| low(v) < 0 && high(v) > 0).collect();
     if able.is_empty() {
         return None;
     }
     let mixed = random.pick(&able);
-    let size = high(mixed).max(-low(mixed));
+    // The size with which a rule for this head demands most.
+    let size = |head: u8| if kind(head) == Kind::Above { 0 } else { high(mixed).max(-low(mixed)) };
     let mut at = fields.iter().take_while(|f| f.tag < 3).count();
     if random.percent(20) {
-        let c = low(mixed) + random.between(1, 3) - size;
+        let c = moved(mixed, random.between(1, 3)) - size(mixed);
         fields.insert(at, fields::rule(5, mixed, c, &[(mixed, 0, 0)]));
         return Some((13, usize::MAX));
     }
-    // What such a rule gives at most, above its head's low.
+    // How far such a rule moves its head at most.
     let more = |random: &mut Random| if random.percent(10) { -20 } else { random.between(1, 3) };
     // mixed -> ... -> head -> |mixed|
     let chain: Vec<u8> = random.distinct(heads.len(), 4).iter().map(|&i| heads[i]).collect();
     let mut from = mixed;
     let turns = random.percent(40);
     for &to in &chain {
-        // A falling edge breaks the circle.
-        let number = if turns && random.percent(50) { -1 } else { 1 };
-        let most = if number < 0 { -low(to) } else { high(to) };
-        let wanted = low(from) + more(random);
+        // Where nothing is kept the circle is broken.
+        let turn = if turns && random.percent(50) { -1 } else { 1 };
+        let number = turn * kinds::sign(kind(from), kind(to));
+        let ends = [number * low(to), number * high(to)];
+        let most = if kind(from) == Kind::Above { ends[0].min(ends[1]) } else { ends[0].max(ends[1]) };
+        let wanted = moved(from, more(random));
         let link = match random.percent(20) {
             true => {
                 let divisor = 1 + random.below(4) as i64;
@@ -77,7 +88,7 @@ pub fn knot(random: &mut Random, fields: &mut Vec<Field>) -> Option<(usize, usiz
         at += 1;
     }
     for _ in 0..random.pick(&[1, 1, 1, 2]) {
-        let c = low(from) + more(random) - size;
+        let c = moved(from, more(random)) - size(from);
         fields.insert(at, fields::rule(5, from, c, &[(mixed, 0, 0)]));
     }
     None

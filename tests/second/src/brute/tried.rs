@@ -1,0 +1,72 @@
+//! How much the brute force has tried.
+
+macro_rules! counts {
+    ($($(#[$says:meta])* $name:ident,)*) => {
+        #[derive(Default, Debug)]
+        pub struct Tried {
+            pub programs: usize,
+            pub assignments: usize,
+            pub sets: usize,
+            $($(#[$says])* pub $name: usize,)*
+        }
+
+        impl Tried {
+            /// What has to be tried often enough, by name.
+            pub fn each(&self) -> Vec<(&'static str, usize)> {
+                vec![$((stringify!($name), self.$name),)*]
+            }
+        }
+    };
+}
+
+counts! {
+    invalid,
+    stable,
+    unfounded,
+    /// Pairs of a shown set and a stable assignment meeting its conditions.
+    kept_below,
+    no_model,
+    /// Assignments outside their ranges.
+    outside,
+    /// Assignments by which a divisor above 1 divides a sum evenly, leaves a
+    /// remainder, and leaves one of a negative sum.
+    even,
+    uneven,
+    uneven_below,
+    /// Stable and unfounded ones among those with a remainder.
+    uneven_stable,
+    uneven_unfounded,
+    /// Programs that are valid only because some rule is idle, and those in
+    /// which another rule offends because of that.
+    idle_valid,
+    idle_moved,
+    /// Stable and unfounded assignments of programs that are so valid.
+    idle_stable,
+    idle_unfounded,
+    /// Reports without room for another entry.
+    full,
+    /// Programs without a variable of kind 2, with kinds 1 and 2, and with both
+    /// in one component.
+    below_only,
+    both_kinds,
+    both_in_component,
+    /// Programs in which a rule for kind 2 offends, and those that are valid
+    /// only because such a rule is idle.
+    above_invalid,
+    above_idle_valid,
+    /// Assignments against a rule for kind 2.
+    above_rule,
+    /// Stable assignments with a variable of kind 2 below its high.
+    above_stable,
+    /// Reports with mark 3, with both marks, and with 3 before 0.
+    above_unfounded,
+    both_unfounded,
+    interleaved,
+    /// As `kept_below`, of sets with a variable of kind 2.
+    kept_above,
+    /// Reducts without a model, no variable being of kind 1.
+    above_no_model,
+    /// Assignments by which a divisor of a rule for kind 2 leaves a remainder
+    /// of a negative sum.
+    above_uneven_below,
+}
