@@ -52,19 +52,26 @@ fn solve(text: &str) -> std::io::Result<Result<String, String>> {
 }
 
 /// 000: "The value of x is then the largest value v such that [x >= v] is
-/// true". A standard variable has one atom only.
+/// true", and by the mirror the smallest such that [x <= v] is. A standard
+/// variable has one atom only.
 fn assignment(atoms: &str, variables: usize) -> Result<Vec<i64>, String> {
     let mut values: Vec<Option<i64>> = vec![None; variables];
     for atom in atoms.split_whitespace() {
-        let (x, value) = arguments(atom).ok_or(format!("atom {atom}"))?;
+        let (name, x, value) = arguments(atom).ok_or(format!("atom {atom}"))?;
         let known = values.get_mut(x).ok_or(format!("atom {atom}"))?;
-        *known = (*known).max(Some(value));
+        *known = match (*known, name) {
+            (Some(other), "le") => Some(other.min(value)),
+            (Some(other), _) => Some(other.max(value)),
+            (None, _) => Some(value),
+        };
     }
     values.into_iter().collect::<Option<Vec<i64>>>().ok_or(format!("a variable without value: {atoms}"))
 }
 
-fn arguments(atom: &str) -> Option<(usize, i64)> {
-    let inner = atom.strip_prefix("ge(").or(atom.strip_prefix("is("))?.strip_suffix(')')?;
-    let (x, value) = inner.split_once(',')?;
-    Some((x.parse().ok()?, value.parse().ok()?))
+/// Name, variable and value of an atom.
+fn arguments(atom: &str) -> Option<(&str, usize, i64)> {
+    let (name, rest) = atom.split_once('(')?;
+    let (x, value) = rest.strip_suffix(')')?.split_once(',')?;
+    let known = ["ge", "le", "is"].contains(&name);
+    known.then_some((name, x.parse().ok()?, value.parse().ok()?))
 }

@@ -29,7 +29,7 @@ use tally::Tally;
 const PRINTED: usize = 3;
 
 /// Mistakes of the second checker that change what is stable.
-const WRONG_CHECKERS: [Wrong; 20] = [
+const WRONG_CHECKERS: [Wrong; 38] = [
     Wrong::KeepsStandard,
     Wrong::StartsAtZero,
     Wrong::BelowOrEqual,
@@ -44,6 +44,20 @@ const WRONG_CHECKERS: [Wrong; 20] = [
     Wrong::RoundsAway,
     Wrong::ConstantLate,
     Wrong::QuotientRises,
+    Wrong::LiteralsSwap,
+    Wrong::PlainUnswapped,
+    Wrong::OwnHeadUnswapped,
+    Wrong::SwapsByVariable,
+    Wrong::AboveNotKept,
+    Wrong::AboveRisingKept,
+    Wrong::AboveKeptAmongAbove,
+    Wrong::BelowKeptAmongBelow,
+    Wrong::AboveFromLow,
+    Wrong::AboveLargerCounts,
+    Wrong::AboveRoundsDown,
+    Wrong::AboveUnmetByMore,
+    Wrong::AboveOpsTurned,
+    Wrong::AboveSetTurned,
     // These turn a file down.
     Wrong::IdleNever,
     Wrong::IdleBelowOnly,
@@ -51,6 +65,10 @@ const WRONG_CHECKERS: [Wrong; 20] = [
     Wrong::IdleOffends,
     Wrong::IdleSizesOnly,
     Wrong::IdleFailingGives,
+    Wrong::AboveIdleNever,
+    Wrong::AboveIdleOverOnly,
+    Wrong::AboveIdleAsBelow,
+    Wrong::AboveFailingGives,
 ];
 
 /// A program to compare, taken apart, with the check's words.
@@ -206,7 +224,7 @@ fn sharp(cases: &[Case]) -> Vec<String> {
             println!("{what}: differs on {}", names.join("; "));
         }
     };
-    for reading in Reading::WRONG {
+    for &reading in Reading::WRONG {
         let found = cases.iter().filter(|case| case.notices(reading)).take(PRINTED);
         note(format!("wrong reading {reading:?}"), found.collect());
     }
@@ -234,10 +252,10 @@ fn main() {
         given.drain(..2);
     }
     let amount = |i: usize, usual: u64| given.get(i).map_or(usual, |a| a.parse().expect("a number"));
-    let cases = cases(amount(0, 0), amount(1, 300) as usize);
+    let cases = cases(amount(0, 0), amount(1, 400) as usize);
     let mut failed = compare(&cases, reading) > 0;
     if reading == Reading::Right {
-        for other in Reading::OTHERS {
+        for &other in Reading::OTHERS {
             failed |= compare(&cases, other) > 0;
         }
         let mut failures = sharp(&cases);

@@ -5,11 +5,16 @@ use second::program::*;
 pub fn program(program: &Program) -> String {
     let mut out = String::new();
     for (x, v) in program.variables.iter().enumerate() {
-        let kind = if v.founded { "founded" } else { "standard" };
+        let kind = match v.kind {
+            Kind::Standard => "standard",
+            Kind::Below => "founded from below",
+            Kind::Above => "founded from above",
+        };
         out += &format!("  x{x} {kind} in {}..{}\n", v.low, v.high);
     }
     for rule in &program.rules {
-        out += &format!("  x{} >= {}\n", rule.head, body(rule));
+        let sign = if program.variables[rule.head].above() { "<=" } else { ">=" };
+        out += &format!("  x{} {sign} {}\n", rule.head, body(rule));
     }
     for constraint in &program.constraints {
         out += &match constraint.form {

@@ -55,7 +55,7 @@ pub fn input(seed: u64) -> Input {
     let shape = |shape| programs::Shape { above, ..shape };
     let mut made = match drawn {
         10..=19 if above > 0 => {
-            let made = slack::slack(random);
+            let made = slack::slack(random, 6);
             let mut input = dress(random, "slack", &made);
             if random.percent(60) {
                 input.assignment = fields::assignment(&made.1);

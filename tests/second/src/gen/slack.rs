@@ -1,7 +1,7 @@
 //! Files in which each rule leaves its head something to fall back by: every
 //! form, direction and kind of variable in a rule that heads into the set.
 
-use super::fields::{self, Field};
+use super::fields::{self, Field, Piece};
 use super::kinds;
 use super::line::rule_field;
 use super::prng::Random;
@@ -9,12 +9,16 @@ use super::programs::divisor;
 use crate::program::*;
 use crate::wrong::Wrong;
 
-/// A file and an assignment that moves all founded variables that can be.
-pub fn slack(random: &mut Random) -> (Vec<Field>, Vec<i64>) {
-    let count = 3 + random.below(4);
+/// A file with at most so many variables, and an assignment that moves all
+/// founded ones that can be.
+pub fn slack(random: &mut Random, most: usize) -> (Vec<Field>, Vec<i64>) {
+    let count = 3 + random.below(most - 2);
     let (mut variables, mut witness) = (Vec::new(), Vec::new());
+    // Products need lows of 0 or more.
+    let first = if random.percent(30) { 4 } else { 0 };
+    let ranges = [(-3, 0), (-2, 2), (-2, 3), (-4, -1), (0, 3), (1, 4), (2, 2)];
     for v in 0..count {
-        let (low, high) = random.pick(&[(0, 3), (-3, 0), (-2, 2), (-2, 3), (-4, -1), (1, 4), (2, 2)]);
+        let (low, high) = random.pick(&ranges[first..]);
         let founded = if v == 0 { 100 } else { 70 };
         let variable = Variable { kind: kinds::any(random, founded, 50), low, high };
         witness.push(match variable.kind {
@@ -25,8 +29,8 @@ pub fn slack(random: &mut Random) -> (Vec<Field>, Vec<i64>) {
         variables.push(variable);
     }
     let mut program = Program { variables, rules: vec![], constraints: vec![], wrong: Wrong::Nothing };
-    let layered = random.percent(70);
-    for _ in 0..1 + random.below(6) {
+    let layered = random.percent(50);
+    for _ in 0..2 + random.below(6) {
         let heads: Vec<usize> = (0..count).filter(|&v| program.variables[v].founded()).collect();
         let head = random.pick(&heads);
         let first = if layered { head + 1 } else { 0 };
@@ -37,6 +41,12 @@ pub fn slack(random: &mut Random) -> (Vec<Field>, Vec<i64>) {
     let mut out: Vec<Field> =
         program.variables.iter().map(|v| fields::variable(v.kind.number(), v.low, v.high)).collect();
     out.extend(program.rules.iter().map(rule_field));
+    if random.percent(40) {
+        let two = random.distinct(count, 2);
+        let terms: Vec<Piece> = two.iter().map(|&v| (v as u8, 0, random.pick(&[-2, -1, 1]))).collect();
+        let sum: i64 = terms.iter().map(|t| t.2 * witness[usize::from(t.0)]).sum();
+        out.push(fields::constraint(1, random.pick(&[0, 0, -1, -2, 1]) - sum, &terms));
+    }
     (out, witness)
 }
 
@@ -48,12 +58,16 @@ fn draft(
     head: usize,
     mut body: Vec<usize>,
 ) -> Rule {
-    let mut form = random.pick(&[SUM, MAX, MIN, PRODUCT, SIZE, SIZE, SIZE, IF, CARRY, QUOTIENT]);
     let factors = body.iter().filter(|&&v| program.variables[v].low >= 0).count();
-    if form == PRODUCT {
-        body.retain(|&v| program.variables[v].low >= 0 || factors < 2);
+    let mut forms = vec![SUM, MAX, MIN, SIZE, SIZE, SIZE, IF, CARRY, CARRY, QUOTIENT];
+    if factors > 1 {
+        forms.extend([PRODUCT; 4]);
     }
-    if body.is_empty() || form == PRODUCT && factors < 2 || form == CARRY && body.len() < 2 {
+    let mut form = random.pick(&forms);
+    if form == PRODUCT {
+        body.retain(|&v| program.variables[v].low >= 0);
+    }
+    if body.is_empty() || form == CARRY && body.len() < 2 {
         form = SUM;
     }
     let most = match form {
