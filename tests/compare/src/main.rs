@@ -5,6 +5,7 @@
 
 use second::brute::{self, Calls, Tried};
 use second::gen::{self, Input};
+use second::mirror::{self, Turned};
 use second::tally::{see, Seen, Tally};
 use second::{Reading, Solved, Verdict, Wrong};
 use std::io::Write;
@@ -86,12 +87,20 @@ fn differs(input: &Input, seen: &Seen) -> Option<String> {
 
 fn calls(first: u64, inputs: u64, failures: &mut Vec<String>) {
     let mut tally = Tally::default();
+    let mut mirrored = 0;
     for seed in first..first + inputs {
         let input = gen::input(seed);
         let seen = see(&input, FILL, Wrong::Nothing);
         tally.add(&input, &seen);
         if let Some(what) = differs(&input, &seen) {
             failures.push(format!("seed {seed}: {what}"));
+        }
+        // kinds 1 and 2 in one another's place; what is due follows from the answers on the input itself
+        if let Some(other) = mirror::mirror(&input, Turned::All) {
+            mirrored += 1;
+            if let Some(what) = differs(&other, &mirror::mirrored(&input, Turned::All, &seen)) {
+                failures.push(format!("seed {seed}, mirrored: {what}"));
+            }
         }
     }
     for (name, count) in &tally.counts {
@@ -102,7 +111,10 @@ fn calls(first: u64, inputs: u64, failures: &mut Vec<String>) {
     }
     let missing = tally.missing((inputs / 600).max(1) as usize);
     failures.extend(missing.into_iter().filter(|m| !m.contains("refusal 16")));
-    println!("{inputs} inputs through the library");
+    println!("{inputs} inputs through the library, and {mirrored} of them mirrored");
+    if mirrored < inputs / 20 {
+        failures.push("too few mirrored inputs".to_string());
+    }
 }
 
 /// Every assignment of small programs, each sentence of the third demand tried on what the proved check shows.
@@ -132,20 +144,21 @@ fn printed(program: &str, input: &[u8]) -> std::io::Result<Vec<u8>> {
 }
 
 fn program(path: &str, first: u64, inputs: u64, failures: &mut Vec<String>) {
-    let mut misframed = 0;
+    let (mut misframed, mut arrivals) = (0, 0);
     for seed in first..first + inputs {
         let input = gen::print_input(seed);
         let want = second::print(&input);
         misframed += u64::from(want == b"refused 16 0\n");
+        arrivals += u64::from(want.windows(7).any(|w| w == b"\nleast "));
         match printed(path, &input) {
             Ok(got) if got == want => {}
             Ok(got) => failures.push(format!("seed {seed}: printed {:?}, second {:?}", String::from_utf8_lossy(&got), String::from_utf8_lossy(&want))),
             Err(e) => failures.push(format!("{path}: {e}")),
         }
     }
-    println!("{inputs} inputs through the printing program, {misframed} of them misframed");
-    if misframed < inputs / 100 {
-        failures.push("too few misframed inputs".to_string());
+    println!("{inputs} inputs through the printing program, {misframed} of them misframed, {arrivals} with a bound of kind 2");
+    if misframed < inputs / 100 || arrivals < inputs / 100 {
+        failures.push("too few misframed inputs, or too few with a bound of kind 2".to_string());
     }
 }
 

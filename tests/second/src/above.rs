@@ -41,7 +41,6 @@ pub fn required() -> Vec<(String, usize)> {
         "mark 1, standard, in a rule for kind 2",
         "mark 2, standard, in a rule for kind 2",
         "marks 1 and 2, mixed in a rule for kind 2",
-        "circle of both kinds: sound, stable",
         "circle of both kinds: unsound, unfounded",
         "circle of kind 2: sound, stable",
         "circle of kind 2: unsound, unfounded",
@@ -50,6 +49,7 @@ pub fn required() -> Vec<(String, usize)> {
         names.push((format!("kinds: {name}"), 1));
     }
     for name in [
+        "circle of both kinds: sound, stable",
         "refusal 07 by kind 3",
         "refusal 07 by kind 4 or more",
         "refusal 12 of a variable of kind 2",

@@ -50,7 +50,7 @@ pub fn slack(random: &mut Random, most: usize) -> (Vec<Field>, Vec<i64>) {
     (out, witness)
 }
 
-/// A rule of any form that asks for less than its head has.
+/// A rule of any form that asks for no more than its head has.
 fn draft(
     random: &mut Random,
     program: &Program,
