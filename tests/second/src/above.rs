@@ -111,7 +111,7 @@ pub fn names(input: &Input, seen: &Seen) -> BTreeSet<String> {
         names.extend(refused(input, number, place));
     }
     let Ok(program) = parse(&input.file, Wrong::Nothing) else { return names };
-    names.extend(those("", &kinds(&program)));
+    names.extend(those(&kinds(&program)));
     if !program.variables.iter().any(Variable::above) {
         return names;
     }
@@ -124,7 +124,7 @@ pub fn names(input: &Input, seen: &Seen) -> BTreeSet<String> {
     if in_length && !matches!(seen.solved, Solved::Refused { .. } | Solved::Range(_)) {
         let values = (0..program.variables.len()).map(|v| signed(&input.assignment, 2 * v)).collect();
         let case = Case { program: &program, values, seen };
-        names.extend(those("", &case.answers()));
+        names.extend(those(&case.answers()));
         if let Verdict::Unfounded(bounds, conditions) = seen.verdict {
             names.extend(case.report(bounds, conditions));
         }
@@ -134,8 +134,8 @@ pub fn names(input: &Input, seen: &Seen) -> BTreeSet<String> {
 
 type Named = (&'static str, bool);
 
-fn those(prefix: &str, names: &[Named]) -> Vec<String> {
-    names.iter().filter(|n| n.1).map(|(name, _)| format!("kinds: {prefix}{name}")).collect()
+fn those(names: &[Named]) -> Vec<String> {
+    names.iter().filter(|n| n.1).map(|(name, _)| format!("kinds: {name}")).collect()
 }
 
 /// Refusals that have to do with kinds.
@@ -143,17 +143,14 @@ fn refused(input: &Input, number: usize, place: usize) -> Vec<String> {
     let field = &input.file[place..];
     if number == 7 && field[0] == 1 {
         let three = field[3] == 3;
-        return those("", &[("refusal 07 by kind 3", three), ("refusal 07 by kind 4 or more", !three)]);
+        return those(&[("refusal 07 by kind 3", three), ("refusal 07 by kind 4 or more", !three)]);
     }
     if number == 12 {
         // The variables stand before the rules and were taken already.
         let before = parse_fields(&input.file[..place], Wrong::Nothing);
         let variables = before.map_or(Vec::new(), |program| program.variables);
         let below = |v: u8| variables.get(usize::from(v)).is_some_and(|v| v.above() && v.low < 0);
-        return those(
-            "",
-            &[("refusal 12 of a variable of kind 2", below(field[7]) || below(field[11]))],
-        );
+        return those(&[("refusal 12 of a variable of kind 2", below(field[7]) || below(field[11]))]);
     }
     let program = match parse_fields(&input.file, Wrong::Nothing) {
         Ok(program) if number == 13 => program,
@@ -161,13 +158,10 @@ fn refused(input: &Input, number: usize, place: usize) -> Vec<String> {
     };
     let head = program.rules.iter().find(|r| r.place == place).map_or(0, |rule| rule.head);
     let both = Components::of(&program).of_both(head);
-    those(
-        "",
-        &[
-            ("refusal 13 by a rule for kind 2", program.variables[head].above()),
-            ("refusal 13, both kinds in the component", both),
-        ],
-    )
+    those(&[
+        ("refusal 13 by a rule for kind 2", program.variables[head].above()),
+        ("refusal 13, both kinds in the component", both),
+    ])
 }
 
 /// Which variables reach which, over one edge or more.
@@ -300,23 +294,17 @@ impl Case<'_> {
             let listed = |v: usize| set.contains(&v) == inside && self.above(v);
             asked.iter().any(|e| e[1] == mark && listed(usize::from(e[0])))
         };
-        let mut names = BTreeSet::from_iter(those(
-            "",
-            &[
-                ("mark 3", first_three.is_some()),
-                (
-                    "mark 3, bound below the high",
-                    shown.iter().any(|e| e[1] == 3 && signed(e, 2) < high(e)),
-                ),
-                ("marks 0 and 3", first_three.is_some() && last_zero.is_some()),
-                ("mark 3 before mark 0", first_three.is_some() && first_three < last_zero),
-                ("mark 1, kind 2 of the set", of_set(1, true)),
-                ("mark 1, kind 2, not of the set", of_set(1, false)),
-                ("mark 2, kind 2, not of the set", of_set(2, false)),
-                ("circle of both kinds: unsound, unfounded", set.iter().any(|&v| components.of_both(v))),
-                ("circle of kind 2: unsound, unfounded", set.iter().any(|&v| components.of_above(v))),
-            ],
-        ));
+        let mut names = BTreeSet::from_iter(those(&[
+            ("mark 3", first_three.is_some()),
+            ("mark 3, bound below the high", shown.iter().any(|e| e[1] == 3 && signed(e, 2) < high(e))),
+            ("marks 0 and 3", first_three.is_some() && last_zero.is_some()),
+            ("mark 3 before mark 0", first_three.is_some() && first_three < last_zero),
+            ("mark 1, kind 2 of the set", of_set(1, true)),
+            ("mark 1, kind 2, not of the set", of_set(1, false)),
+            ("mark 2, kind 2, not of the set", of_set(2, false)),
+            ("circle of both kinds: unsound, unfounded", set.iter().any(|&v| components.of_both(v))),
+            ("circle of kind 2: unsound, unfounded", set.iter().any(|&v| components.of_above(v))),
+        ]));
         for rule in self.program.rules.iter().filter(|rule| set.contains(&rule.head)) {
             for i in 0..rule.terms.len() {
                 names.extend(self.into_set(rule, i, &set));
@@ -332,19 +320,16 @@ impl Case<'_> {
         let way = self.program.direction(rule, i);
         let standard = !self.program.variables[v].founded() && self.above(rule.head);
         let own = v == rule.head && self.above(v);
-        let mut names = those(
-            "",
-            &[
-                ("mark 1, standard, in a rule for kind 2", standard && way == Direction::Rising),
-                ("mark 2, standard, in a rule for kind 2", standard && way == Direction::Falling),
-                (
-                    "marks 1 and 2, mixed in a rule for kind 2",
-                    way == Direction::Mixed && self.above(rule.head),
-                ),
-                ("head of kind 2 in its own body, kept", own && kept),
-                ("head of kind 2 in its own body, not kept", own && !kept),
-            ],
-        );
+        let mut names = those(&[
+            ("mark 1, standard, in a rule for kind 2", standard && way == Direction::Rising),
+            ("mark 2, standard, in a rule for kind 2", standard && way == Direction::Falling),
+            (
+                "marks 1 and 2, mixed in a rule for kind 2",
+                way == Direction::Mixed && self.above(rule.head),
+            ),
+            ("head of kind 2 in its own body, kept", own && kept),
+            ("head of kind 2 in its own body, not kept", own && !kept),
+        ]);
         names.push(format!("kinds, into the set, {}", occurrence_of(self.program, rule, i)));
         if kept && set.contains(&v) {
             let what = if rule.terms[i].op == PLAIN { "plain" } else { "literal" };

@@ -26,7 +26,7 @@ impl Program {
     /// a rising one makes the rule demand more of its head, a smaller value of
     /// a falling one. A head of kind 2 is asked to be at most what is given.
     pub fn direction(&self, rule: &Rule, position: usize) -> Direction {
-        let way = self.below(rule, position);
+        let way = self.for_kind_one(rule, position);
         if self.swaps(rule, position) {
             way.swapped()
         } else {
@@ -35,7 +35,7 @@ impl Program {
     }
 
     /// The direction in a rule for a head of kind 1.
-    fn below(&self, rule: &Rule, position: usize) -> Direction {
+    fn for_kind_one(&self, rule: &Rule, position: usize) -> Direction {
         let term = &rule.terms[position];
         let variable = &self.variables[term.variable];
         let mixed_low = if self.wrong == Wrong::MixedAtZero { 0 } else { -1 };
