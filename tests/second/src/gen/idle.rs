@@ -179,12 +179,16 @@ fn closing(random: &mut Random, scale: Scale) -> Made {
         circle.push(link(random, &program, between, a));
         circle.push(near(random, &program, b, between, scale));
     }
+    // Where a constant out of reach makes another rule idle, the last one may
+    // still close a circle of its own.
+    let sure = all_drawn(&program, &circle[..circle.len() - 1]);
     let closed = all_drawn(&program, &circle);
     program.rules = circle;
     add_more(random, &mut program, scale);
     shuffle(random, &mut program.rules);
     rename(random, &mut program);
-    finish(random, program, closed, "idle: closing")
+    let made = finish(random, program, closed, "idle: closing");
+    Made { due: made.due.filter(|_| sure), ..made }
 }
 
 /// A size rule in a circle that is open because one variable of it is not
