@@ -5,10 +5,13 @@ ghost use lib.ListN.{length};
 ghost use Rattle.words.specs.Bit.{has};
 ghost use Rattle.program.specs.Program.{ruleOf, variablesAt};
 ghost use Rattle.parts.specs.Values.{Standing};
+ghost use Rattle.positions.specs.Positions.{OpenedIs};
 ghost use Rattle.report.specs.Report.{asksMost, asksLeast, askedAt, askedBy};
 ghost use Rattle.conditions.specs.Asking.{AsksMore};
 use crate::members::with_if;
 use parts::rules;
+use positions::Opened;
+use positions::open_rule;
 use positions::position_at;
 use program::Direction;
 use sets::Set;
@@ -46,14 +49,16 @@ fn ask_position(
     file: &[u8],
     variables: usize,
     value: &[u8],
+    rule: Opened,
     set: Set,
     j: usize,
 ) -> Asked
     requires { ⌜ Standing (now file) variables (now value) ⌝ }
+    requires { ⌜ OpenedIs (variablesAt (now file) variables) (ruleOf (now value)) rule ⌝ }
     requires { ⌜ j < length (ruleOf (now value) .terms) ⌝ }
     ensures { λ r. ⌜ AsksMore before r (λ asks. askedAt (variablesAt (now (file .entry)) variables) (has (set .words)) asks (ruleOf (now (value .entry))) j) ⌝ }
 {
-    let p = position_at(file, variables, value, j);
+    let p = position_at(file, variables, value, rule, j);
     let kept = p.kept;
     let d = p.direction;
     let x = p.variable;
@@ -72,11 +77,12 @@ pub fn ask_rule(before: Asked, file: &[u8], variables: usize, value: &[u8], set:
     requires { ⌜ Standing (now file) variables (now value) ⌝ }
     ensures { λ r. ⌜ AsksMore before r (λ asks. askedBy (variablesAt (now (file .entry)) variables) (has (set .words)) asks (ruleOf (now (value .entry)))) ⌝ }
 {
+    let rule = open_rule(file, variables, value);
     let n = rules::positions(value);
     let mut all = before;
     let mut j = 0;
     while j < n {
-        let next = ask_position(all, file, variables, value, set, j);
+        let next = ask_position(all, file, variables, value, rule, set, j);
         all = next;
         j += 1;
     }

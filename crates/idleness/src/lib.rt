@@ -4,17 +4,20 @@ ghost use Prim.Native.Nat.{ℕ, _<_, _≤_};
 ghost use lib.IntN.{natAbs};
 ghost use lib.ListN.{length, set};
 ghost use Rattle.format.specs.Limits.{maxVariables, maxNumber};
-ghost use Rattle.program.specs.Program.{ruleOf, variableIn, variablesAt};
+ghost use Rattle.program.specs.Program.{ruleOf, variablesAt};
 ghost use Rattle.program.specs.Variables.{start, noMore};
 ghost use Rattle.program.specs.Readings.{valued, bodyVariable};
 ghost use Rattle.program.specs.Evaluable.{Small};
 ghost use Rattle.program.specs.Idle.{furthest, nearest, demanding, isIdle};
+ghost use Rattle.positions.specs.Positions.{OpenedIs};
 ghost use Rattle.idleness.specs.Most.{Ready, mostDeclared};
 use bodies::numbers;
 use evaluation::rules::gives;
 use format::Format;
 use parts::rules;
 use parts::variables;
+use positions::Opened;
+use positions::open_rule;
 use positions::position_at;
 use program::Direction;
 use program::Given;
@@ -57,26 +60,26 @@ fn demanding(h: Variable, d: Direction, low: i64, high: i64) -> i64
     }
 }
 
-// Sets the variable at position i of the rule in a field's value to the value of its range at which the rule,
-// whose head is h, demands most.
+// Sets the variable at position i of the rule in a field's value to the value of its range at which the rule
+// demands most.
 fn set_position(
     values: &mut [i64; Format::MAX_VARIABLES],
     file: &[u8],
     variables: usize,
     value: &[u8],
-    h: Variable,
+    rule: Opened,
     i: usize,
 )
     requires { ⌜ Ready (now file) variables (now value) ⌝ }
-    requires { ⌜ h ≡ variableIn (variablesAt (now file) variables) (ruleOf (now value) .head) ⌝ }
+    requires { ⌜ OpenedIs (variablesAt (now file) variables) (ruleOf (now value)) rule ⌝ }
     requires { ⌜ (i < length (ruleOf (now value) .terms)) × (length (now values) ≡ maxVariables) ⌝ }
     ensures { λ _. ⌜ now (values .exit) ≡ set (now (values .entry)) (bodyVariable (ruleOf (now (value .entry))) i)
         (mostDeclared (variablesAt (now (file .entry)) variables) (ruleOf (now (value .entry))) i) ⌝ }
 {
-    let p = position_at(file, variables, value, i);
+    let p = position_at(file, variables, value, rule, i);
     let x = variables::variable(file, p.variable);
     let d = p.direction;
-    let most = demanding(h, d, x.low, x.high);
+    let most = demanding(rule.variable, d, x.low, x.high);
     let v = format::wide(p.variable);
     values[v] = most;
 }
@@ -87,10 +90,10 @@ fn set_most(
     file: &[u8],
     variables: usize,
     value: &[u8],
-    h: Variable,
+    rule: Opened,
 )
     requires { ⌜ Ready (now file) variables (now value) ⌝ }
-    requires { ⌜ h ≡ variableIn (variablesAt (now file) variables) (ruleOf (now value) .head) ⌝ }
+    requires { ⌜ OpenedIs (variablesAt (now file) variables) (ruleOf (now value)) rule ⌝ }
     requires { ⌜ (length (now values) ≡ maxVariables) × Small (now values) ⌝ }
     ensures { λ _. ⌜ (length (now (values .exit)) ≡ maxVariables) × Small (now (values .exit)) ⌝ }
     ensures { λ _. ⌜ ((i : ℕ) → i < length (ruleOf (now (value .entry)) .terms)
@@ -100,7 +103,7 @@ fn set_most(
     let n = rules::positions(value);
     let mut i = 0;
     while i < n {
-        set_position(values, file, variables, value, h, i);
+        set_position(values, file, variables, value, rule, i);
         i += 1;
     }
 }
@@ -127,9 +130,8 @@ pub fn is_idle(
     ensures { λ _. ⌜ (length (now (values .exit)) ≡ maxVariables) × Small (now (values .exit)) ⌝ }
     ensures { λ r. ⌜ r ≡ isIdle (variablesAt (now (file .entry)) variables) (ruleOf (now (value .entry))) ⌝ }
 {
-    let rule = rules::header(value);
-    let head = variables::variable(file, rule.head);
-    set_most(values, file, variables, value, head);
+    let rule = open_rule(file, variables, value);
+    set_most(values, file, variables, value, rule);
     let most = gives(value, 0, values, values);
-    is_no_more(head, most)
+    is_no_more(rule.variable, most)
 }

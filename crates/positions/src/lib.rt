@@ -3,13 +3,21 @@ ghost use Prim.Native.Nat.{_<_};
 ghost use lib.ListN.{length};
 ghost use Rattle.program.specs.Program.{ruleOf, variablesAt};
 ghost use Rattle.parts.specs.Values.{Standing};
-ghost use Rattle.positions.specs.Positions.{PositionIs};
+ghost use Rattle.positions.specs.Positions.{OpenedIs, PositionIs};
 use parts::rules;
 use parts::terms;
 use parts::variables;
 use program::Direction;
+use program::Variable;
 
 pub mod directions;
+
+// What the positions of a rule have in common: its form, its head and the variable of its head.
+pub struct Opened {
+    pub form: u8,
+    pub head: u8,
+    pub variable: Variable,
+}
 
 // The variable at a position, which way it pushes there, and whether the reduct keeps it.
 pub struct Position {
@@ -18,17 +26,30 @@ pub struct Position {
     pub kept: bool,
 }
 
-// Position i of the rule in a field's value.
-pub fn position_at(file: &[u8], variables: usize, value: &[u8], i: usize) -> Position
+// The rule in a field's value, opened for its positions.
+pub fn open_rule(file: &[u8], variables: usize, value: &[u8]) -> Opened
     requires { ⌜ Standing (now file) variables (now value) ⌝ }
+    ensures { λ r. ⌜ OpenedIs (variablesAt (now (file .entry)) variables) (ruleOf (now (value .entry))) r ⌝ }
+{
+    let rule = rules::header(value);
+    let variable = variables::variable(file, rule.head);
+    Opened {
+        form: rule.form,
+        head: rule.head,
+        variable: variable,
+    }
+}
+
+// Position i of the rule.
+pub fn position_at(file: &[u8], variables: usize, value: &[u8], rule: Opened, i: usize) -> Position
+    requires { ⌜ Standing (now file) variables (now value) ⌝ }
+    requires { ⌜ OpenedIs (variablesAt (now file) variables) (ruleOf (now value)) rule ⌝ }
     requires { ⌜ i < length (ruleOf (now value) .terms) ⌝ }
     ensures { λ r. ⌜ PositionIs (variablesAt (now (file .entry)) variables) (ruleOf (now (value .entry))) i r ⌝ }
 {
-    let header = rules::header(value);
-    let head = variables::variable(file, header.head);
     let t = terms::term(rules::body(value), i);
     let x = variables::variable(file, t.variable);
-    let direction = directions::of_term(head, header.form, x, t);
+    let direction = directions::of_term(rule.variable, rule.form, x, t);
     Position {
         variable: t.variable,
         direction: direction,

@@ -9,6 +9,7 @@ ghost use Rattle.program.specs.Readings.{kept};
 ghost use Rattle.parts.specs.Values.{Standing};
 ghost use Rattle.reduct.specs.Masks.{Mask};
 use parts::rules;
+use positions::open_rule;
 use positions::position_at;
 
 // The bits of a word moved up by one, with a new lowest bit.
@@ -25,11 +26,12 @@ pub fn kept_positions(file: &[u8], variables: usize, value: &[u8]) -> u32
     requires { ⌜ length (ruleOf (now value) .terms) ≤ maxTerms ⌝ }
     ensures { λ r. ⌜ Mask (kept (variablesAt (now (file .entry)) variables) (ruleOf (now (value .entry)))) (length (ruleOf (now (value .entry)) .terms)) r ⌝ }
 {
+    let rule = open_rule(file, variables, value);
     let mut i = rules::positions(value);
     let mut bits: u32 = 0;
     while 0 < i {
         i -= 1;
-        let p = position_at(file, variables, value, i);
+        let p = position_at(file, variables, value, rule, i);
         bits = moved_up(bits, p.kept);
     }
     bits

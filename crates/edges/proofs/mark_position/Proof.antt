@@ -15,10 +15,7 @@ is-mixed-requires c κs = search needs
 returns : tie.Need-returns
 returns c =
     let b = c .before .before in
-    (b .before .before .before .pre .1 .1, draws-none _ _ _ _ (draws-as _ _ _ (b .position-at .ensures) (c .before .is-mixed .ensures) (not-true _ (c .if1 .taken))))
-
-header-requires : tie.Need-header-requires
-header-requires c κs = search needs
+    (b .before .before .before .pre .1 .1 .1, draws-none _ _ _ _ (draws-as _ _ _ (b .position-at .ensures) (c .before .is-mixed .ensures) (not-true _ (c .if1 .taken))))
 
 wide-requires : tie.Need-wide-requires
 wide-requires c κs = search needs
@@ -31,10 +28,10 @@ mark-requires c κs = search needs
 
 returns-2 : tie.Need-returns-2
 returns-2 c =
-    let k = c .before .before .before .before .before in
+    let k = c .before .before .before .before in
     let m = k .before in
     let p = m .before .position-at .ensures in
-    let h = c .before .before .before .wide .ensures .0 ∙ c .before .before .before .before .header .ensures .head-is in
+    let h = c .before .before .before .wide .ensures .0 ∙ m .before .before .before .before .pre .1 .0 .head-is in
     let x = c .before .before .wide2 .ensures .0 ∙ p .variable-is in
     (c .mark .ensures .0, draws-one _ _ _ _ _ (draws-as _ _ _ p (m .is-mixed .ensures) (not-false _ (k .if1 .left))) h x (c .mark .ensures .1))
 
@@ -45,7 +42,6 @@ mark-position-spec =
     position-at-requires
     is-mixed-requires
     returns
-    header-requires
     wide-requires
     wide-requires-2
     mark-requires

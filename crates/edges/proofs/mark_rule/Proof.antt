@@ -13,21 +13,26 @@ use Rattle.edges.proofs.mark_rule.Statement.{statement}
 use Rattle.edges.proofs.mark_rule.Tie as tie
 
 abbrev Inv-loop : tie.InvT-loop
-Inv-loop rows₀ file variables value n i₀ rows i =
+Inv-loop rows₀ file variables value rule n i₀ rows i =
     (i ≤ n) × (n ≡ length (ruleOf value .terms)) × (length rows ≡ rowsLength)
     × Grown (rowHas rows₀) (rowHas rows) (λ a b. anyBelow i (λ j. drawsAt (variablesAt file variables) (ruleOf value) j a b))
 
 abbrev μ-loop : tie.MeasureT-loop
-μ-loop rows₀ file variables value n i₀ rows i = n - i
+μ-loop rows₀ file variables value rule n i₀ rows i = n - i
+
+open-rule-requires : tie.Need-open-rule-requires Inv-loop μ-loop
+open-rule-requires c κs = search needs
 
 positions-requires : tie.Need-positions-requires Inv-loop μ-loop
 positions-requires c κs = search needs
 
 loop-holds : tie.Need-loop-holds Inv-loop μ-loop
-loop-holds c = (omega arith, omega arith, c .before .before .before .pre .1, grown-none _ _)
+loop-holds c = (omega arith, omega arith, c .before .before .before .before .pre .1, grown-none _ _)
 
 mark-position-requires : tie.Need-mark-position-requires Inv-loop μ-loop
-mark-position-requires c κs = search needs
+mark-position-requires c κs =
+    let o = c .before .before .before .before in
+    (o .before .before .before .pre .0, (o .open-rule .ensures, (omega arith, c .before .before .loop .inv .2)))
 
 add-i : tie.Need-add-i Inv-loop μ-loop
 add-i c = search needs
@@ -47,6 +52,7 @@ mark-rule-spec =
     (tie.spec
     Inv-loop
     μ-loop
+    open-rule-requires
     positions-requires
     loop-holds
     mark-position-requires

@@ -10,11 +10,11 @@ use Rattle.idleness.proofs.set_most.Statement.{statement}
 use Rattle.idleness.proofs.set_most.Tie as tie
 
 abbrev Inv-loop : tie.InvT-loop
-Inv-loop values₀ file variables value h n i₀ values i =
+Inv-loop values₀ file variables value rule n i₀ values i =
     (i ≤ n) × (n ≡ length (ruleOf value .terms)) × TakenTo file variables value i values
 
 abbrev μ-loop : tie.MeasureT-loop
-μ-loop values₀ file variables value h n i₀ values i = n - i
+μ-loop values₀ file variables value rule n i₀ values i = n - i
 
 positions-requires : tie.Need-positions-requires Inv-loop μ-loop
 positions-requires c κs = search needs

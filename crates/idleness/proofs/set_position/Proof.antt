@@ -49,7 +49,7 @@ returns c =
     let d = b .pre .0 .standing .declared (b .args .i) (b .pre .1 .1 .0) in
     let v = x .ensures (b .args .variables) (omega (arith, d, p .variable-is)) ∙ ap (variableIn (variablesAt (b .args .file .now) (b .args .variables))) (p .variable-is) in
     ap₂ (set (b .args .values .now)) (c .wide .ensures .0 ∙ p .variable-is)
-    (z ∙ most-read (variablesAt (b .args .file .now) (b .args .variables)) (ruleOf (b .args .value .now)) (b .args .i) (b .pre .1 .0) (p .direction-is) v
+    (z ∙ most-read (variablesAt (b .args .file .now) (b .args .variables)) (ruleOf (b .args .value .now)) (b .args .i) (b .pre .1 .0 .variable-is) (p .direction-is) v
     (simp (l, h) at (c .before .demanding .ensures)))
 
 pub set-position-spec : {M : Type 1} → statement M

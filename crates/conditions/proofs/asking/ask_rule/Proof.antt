@@ -14,12 +14,15 @@ use Rattle.conditions.proofs.asking.ask_rule.Statement.{statement}
 use Rattle.conditions.proofs.asking.ask_rule.Tie as tie
 
 abbrev Inv-loop : tie.InvT-loop
-Inv-loop file variables value set n all₀ j₀ all j =
+Inv-loop file variables value set rule n all₀ j₀ all j =
     (j ≤ n) × (n ≡ length (ruleOf value .terms))
     × AsksMore all₀ all (λ asks v. anyBelow j (λ i. askedAt (variablesAt file variables) (has (set .words)) asks (ruleOf value) i v))
 
 abbrev μ-loop : tie.MeasureT-loop
-μ-loop file variables value set n all₀ j₀ all j = n - j
+μ-loop file variables value set rule n all₀ j₀ all j = n - j
+
+open-rule-requires : tie.Need-open-rule-requires Inv-loop μ-loop
+open-rule-requires c κs = search needs
 
 positions-requires : tie.Need-positions-requires Inv-loop μ-loop
 positions-requires c κs = search needs
@@ -48,6 +51,7 @@ ask-rule-spec =
     (tie.spec
     Inv-loop
     μ-loop
+    open-rule-requires
     positions-requires
     loop-holds
     ask-position-requires

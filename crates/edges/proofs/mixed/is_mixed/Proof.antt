@@ -13,11 +13,14 @@ use Rattle.edges.proofs.mixed.is_mixed.Statement.{statement}
 use Rattle.edges.proofs.mixed.is_mixed.Tie as tie
 
 abbrev Inv-loop : tie.InvT-loop
-Inv-loop file variables value n i₀ found₀ i found =
+Inv-loop file variables value rule n i₀ found₀ i found =
     (i ≤ n) × (n ≡ length (ruleOf value .terms)) × (found ≡ anyBelow i (λ j. isMixed (direction (variablesAt file variables) (ruleOf value) j)))
 
 abbrev μ-loop : tie.MeasureT-loop
-μ-loop file variables value n i₀ found₀ i found = n - i
+μ-loop file variables value rule n i₀ found₀ i found = n - i
+
+open-rule-requires : tie.Need-open-rule-requires Inv-loop μ-loop
+open-rule-requires c κs = search needs
 
 positions-requires : tie.Need-positions-requires Inv-loop μ-loop
 positions-requires c κs = search needs
@@ -26,7 +29,7 @@ loop-holds : tie.Need-loop-holds Inv-loop μ-loop
 loop-holds c = (omega arith, omega arith, any-none _)
 
 is-mixed-position-requires : tie.Need-is-mixed-position-requires Inv-loop μ-loop
-is-mixed-position-requires c κs = search needs
+is-mixed-position-requires c κs = let o = c .before .before .before in (o .before .before .before .pre, (o .open-rule .ensures, omega arith))
 
 add-i : tie.Need-add-i Inv-loop μ-loop
 add-i c = search needs
@@ -46,6 +49,7 @@ is-mixed-spec =
     (tie.spec
     Inv-loop
     μ-loop
+    open-rule-requires
     positions-requires
     loop-holds
     is-mixed-position-requires

@@ -14,11 +14,14 @@ use Rattle.edges.proofs.mixed.offends.Statement.{statement}
 use Rattle.edges.proofs.mixed.offends.Tie as tie
 
 abbrev Inv-loop : tie.InvT-loop
-Inv-loop rows file variables value n i₀ found₀ i found =
+Inv-loop rows file variables value rule n i₀ found₀ i found =
     (i ≤ n) × (n ≡ length (ruleOf value .terms)) × (found ≡ anyBelow i (offendsAt (rowHas rows) (variablesAt file variables) (ruleOf value)))
 
 abbrev μ-loop : tie.MeasureT-loop
-μ-loop rows file variables value n i₀ found₀ i found = n - i
+μ-loop rows file variables value rule n i₀ found₀ i found = n - i
+
+open-rule-requires : tie.Need-open-rule-requires Inv-loop μ-loop
+open-rule-requires c κs = search needs
 
 positions-requires : tie.Need-positions-requires Inv-loop μ-loop
 positions-requires c κs = search needs
@@ -27,7 +30,7 @@ loop-holds : tie.Need-loop-holds Inv-loop μ-loop
 loop-holds c = (omega arith, omega arith, any-none _)
 
 offends-position-requires : tie.Need-offends-position-requires Inv-loop μ-loop
-offends-position-requires c κs = search needs
+offends-position-requires c κs = let o = c .before .before .before in (o .before .before .before .pre, (o .open-rule .ensures, omega arith))
 
 add-i : tie.Need-add-i Inv-loop μ-loop
 add-i c = search needs
@@ -47,6 +50,7 @@ offends-spec =
     (tie.spec
     Inv-loop
     μ-loop
+    open-rule-requires
     positions-requires
     loop-holds
     offends-position-requires

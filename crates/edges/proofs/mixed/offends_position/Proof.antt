@@ -18,9 +18,6 @@ returns c =
     let e = ap isMixed (c .before .before .position-at .ensures .direction-is) in
     offends-none _ _ _ _ (sym e ∙ sym (c .before .is-mixed .ensures) ∙ not-true _ (c .if1 .taken))
 
-header-requires : tie.Need-header-requires
-header-requires c κs = search needs
-
 wide-requires : tie.Need-wide-requires
 wide-requires c κs = search needs
 
@@ -32,12 +29,12 @@ share-requires c κs = search needs
 
 returns-2 : tie.Need-returns-2
 returns-2 c =
-    let p = c .before .before .before .before .before .before .position-at .ensures in
-    let h = c .before .before .wide .ensures .0 ∙ c .before .before .before .header .ensures .head-is in
+    let k = c .before .before .before in
+    let p = k .before .before .position-at .ensures in
+    let h = c .before .before .wide .ensures .0 ∙ k .before .before .before .before .before .pre .1 .0 .head-is in
     let x = c .before .wide2 .ensures .0 ∙ p .variable-is in
     offends-shared _ _ _ _ _ _
-    (sym (ap isMixed (p .direction-is)) ∙ sym (c .before .before .before .before .before .is-mixed .ensures)
-    ∙ not-false _ (c .before .before .before .before .if1 .left)) h x (c .share .ensures)
+    (sym (ap isMixed (p .direction-is)) ∙ sym (k .before .is-mixed .ensures) ∙ not-false _ (k .if1 .left)) h x (c .share .ensures)
 
 pub offends-position-spec : {M : Type 1} → statement M
 offends-position-spec =
@@ -46,7 +43,6 @@ offends-position-spec =
     position-at-requires
     is-mixed-requires
     returns
-    header-requires
     wide-requires
     wide-requires-2
     share-requires

@@ -12,23 +12,28 @@ use Rattle.reduct.proofs.kept.kept_positions.Statement.{statement}
 use Rattle.reduct.proofs.kept.kept_positions.Tie as tie
 
 abbrev Inv-loop : tie.InvT-loop
-Inv-loop file variables value i₀ bits₀ i bits =
+Inv-loop file variables value rule i₀ bits₀ i bits =
     (i ≤ length (ruleOf value .terms)) × Mask (from (kept (variablesAt file variables) (ruleOf value)) i) (length (ruleOf value .terms) - i) bits
 
 abbrev μ-loop : tie.MeasureT-loop
-μ-loop file variables value i₀ bits₀ i bits = i
+μ-loop file variables value rule i₀ bits₀ i bits = i
+
+open-rule-requires : tie.Need-open-rule-requires Inv-loop μ-loop
+open-rule-requires c κs = search needs
 
 positions-requires : tie.Need-positions-requires Inv-loop μ-loop
 positions-requires c κs = search needs
 
 loop-holds : tie.Need-loop-holds Inv-loop μ-loop
-loop-holds c = let a = c .before .before .before .args in (omega arith, mask-start (kept (variablesAt (a .file .now) (a .variables)) (ruleOf (a .value .now))) _ _ (omega arith))
+loop-holds c =
+    let a = c .before .before .before .before .args in
+    (omega arith, mask-start (kept (variablesAt (a .file .now) (a .variables)) (ruleOf (a .value .now))) _ _ (omega arith))
 
 sub-i : tie.Need-sub-i Inv-loop μ-loop
 sub-i c = search needs
 
 position-at-requires : tie.Need-position-at-requires Inv-loop μ-loop
-position-at-requires c κs = search needs
+position-at-requires c κs = let o = c .before .before .before in (o .before .before .before .pre .0, (o .open-rule .ensures, omega arith))
 
 moved-up-requires : tie.Need-moved-up-requires Inv-loop μ-loop
 moved-up-requires c κs = mask-small (c .before .before .loop .inv .1) (omega arith)
@@ -38,13 +43,13 @@ loop-less c = search needs
 
 loop-again : tie.Need-loop-again Inv-loop μ-loop
 loop-again c =
-    let a = c .before .before .before .before .before .before .before .args in
+    let a = c .before .before .before .before .before .before .before .before .args in
     let k = kept (variablesAt (a .file .now) (a .variables)) (ruleOf (a .value .now)) in
     (omega arith, mask-before k _ _ _ (omega arith) (omega arith) (c .before .before .before .loop .inv .1) (c .before .position-at .ensures .kept-is) (c .moved-up .ensures))
 
 returns : tie.Need-returns Inv-loop μ-loop
 returns c =
-    let a = c .before .before .before .before .before .args in
+    let a = c .before .before .before .before .before .before .args in
     mask-whole (kept (variablesAt (a .file .now) (a .variables)) (ruleOf (a .value .now))) _ _ (omega arith) refl (c .before .loop .inv .1)
 
 pub kept-positions-spec : {M : Type 1} → statement M
@@ -53,6 +58,7 @@ kept-positions-spec =
     (tie.spec
     Inv-loop
     μ-loop
+    open-rule-requires
     positions-requires
     loop-holds
     sub-i
