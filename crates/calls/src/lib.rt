@@ -49,7 +49,7 @@ fn fitted(assignment: &[u8], room: usize, bytes: usize, counts: Counts) -> Openi
 }
 
 // So many bytes for each variable are asked of a buffer that has `room`.
-pub fn open_rule(file: &[u8], assignment: &[u8], room: usize, bytes: usize) -> Opening
+pub fn open(file: &[u8], assignment: &[u8], room: usize, bytes: usize) -> Opening
     requires { ⌜ bytes ≤ mostAsked ⌝ }
     ensures { λ r. ⌜ ((b : List ℕ) → length b ≡ room → Opened bytes (now (file .entry)) (now (assignment .entry)) b r) ⌝ }
 {

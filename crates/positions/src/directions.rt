@@ -8,44 +8,44 @@ use program::Direction;
 use program::Term;
 use program::Variable;
 
-// By a coefficient, which is not 0.
-fn by_sign(number: i64) -> Direction
-    ensures { λ r. ⌜ r ≡ bySign number ⌝ }
+// By a coefficient, which is not 0; h is the head of the rule.
+fn by_sign(h: Variable, number: i64) -> Direction
+    ensures { λ r. ⌜ r ≡ away h (bySign number) ⌝ }
 {
     if number < 0 {
-        Direction::Falling
+        h.away(Direction::Falling)
     } else {
-        Direction::Rising
+        h.away(Direction::Rising)
     }
 }
 
 // By the range of a variable whose size is taken.
-fn by_range(x: Variable) -> Direction
-    ensures { λ r. ⌜ r ≡ byRange x ⌝ }
+fn by_range(h: Variable, x: Variable) -> Direction
+    ensures { λ r. ⌜ r ≡ away h (byRange x) ⌝ }
 {
     let low = x.low;
     let high = x.high;
     if 0 <= low {
-        return Direction::Rising;
+        return h.away(Direction::Rising);
     }
     if high <= 0 {
-        Direction::Falling
+        h.away(Direction::Falling)
     } else {
         Direction::Mixed
     }
 }
 
-// A plain term, by the form of its rule: which way what the rule gives goes with it.
-fn plain(form: u8, x: Variable, number: i64) -> Direction
-    ensures { λ r. ⌜ r ≡ plainDirection (termForm form) x number ⌝ }
+// A plain term, by the form of its rule.
+fn plain(h: Variable, form: u8, x: Variable, number: i64) -> Direction
+    ensures { λ r. ⌜ r ≡ away h (plainDirection (termForm form) x number) ⌝ }
 {
     match form {
-        1 => by_sign(number),
-        2..=4 => Direction::Rising,
-        5 => by_range(x),
+        1 => by_sign(h, number),
+        2..=4 => h.away(Direction::Rising),
+        5 => by_range(h, x),
         6 => Direction::Mixed,
-        7 => Direction::Rising,
-        8 => by_sign(number),
+        7 => h.away(Direction::Rising),
+        8 => by_sign(h, number),
         0 | 9..=255 => Direction::Mixed,
     }
 }
@@ -56,7 +56,7 @@ pub fn of_term(h: Variable, form: u8, x: Variable, t: Term) -> Direction
 {
     let op = t.op;
     match op {
-        0 => h.away(plain(form, x, t.number)),
+        0 => plain(h, form, x, t.number),
         1 => Direction::Rising,
         2 => Direction::Falling,
         3..=255 => Direction::Mixed,

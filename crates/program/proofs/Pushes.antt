@@ -108,6 +108,10 @@ module _ (vs : List Variable) (r : Rule) (i : ℕ) where
 
 module _ (x : Variable) where
   -- mixed stays mixed
+  pub away-of-mixed : Mixed ≡ away x Mixed
+  unfolding away swaps
+  away-of-mixed = cases (fromAbove x) (λ t. Mixed ≡ cond t Mixed Mixed) (λ t. refl) (λ t. refl)
+
   pub away-mixed : (d : Direction) → isMixed (away x d) ≡ isMixed d
   unfolding away swaps
   away-mixed d = cases (fromAbove x) (λ t. isMixed (cond t (opposite d) d) ≡ isMixed d) (λ t. opposite-mixed d) (λ t. refl)

@@ -35,7 +35,7 @@ fn announce(letter: u8, name: &[u8], number: usize) {
 }
 
 // Takes the line that starts at `at` apart, and prints its head.
-pub fn open_rule(bytes: &mut [u8], begun: usize, table: &[u8], at: usize, number: usize) -> Line
+pub fn opened(bytes: &mut [u8], begun: usize, table: &[u8], at: usize, number: usize) -> Line
     requires { ⌜ at ≤ length (now table) ⌝ }
     ensures { λ r. ⌜ r .file ≤ r .all ⌝ }
     ensures { λ r. ⌜ r .all ≤ length (now (bytes .exit)) ⌝ }

@@ -5,8 +5,8 @@ use Rattle.program.specs.declared.Reading.{Reading}
 use Rattle.meaning.specs.Calls.{bad-file}
 use Rattle.reader.proofs.Published.{limited}
 use borrow.Author.Needs.{needs}
-use Rattle.calls.proofs.open_rule.Statement.{statement}
-use Rattle.calls.proofs.open_rule.Tie as tie
+use Rattle.calls.proofs.open.Statement.{statement}
+use Rattle.calls.proofs.open.Tie as tie
 
 read-requires : tie.Need-read-requires
 read-requires c κs = search needs
@@ -33,7 +33,7 @@ returns-2 c = λ b e.
     let s = c .before .before .before .before .before .before .before .args .file .now in
     c .fitted .ensures s b e (subst (λ (q : Reading). Reads s (answerOf q)) (c .before .before .counts .given .1) (c .before .before .before .before .read .ensures))
 
-pub open-rule-spec : {M : Type 1} → statement M
-open-rule-spec =
+pub open-spec : {M : Type 1} → statement M
+open-spec =
     tie.close
     (tie.spec read-requires enum-known-why enum-known-counts fitted-requires returns returns-2)

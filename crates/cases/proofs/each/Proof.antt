@@ -18,8 +18,8 @@ loop-holds c = search needs
 add-number : tie.Need-add-number Inv-loop μ-loop
 add-number c = search needs
 
-open-rule-requires : tie.Need-open-rule-requires Inv-loop μ-loop
-open-rule-requires c κs = search needs
+opened-requires : tie.Need-opened-requires Inv-loop μ-loop
+opened-requires c κs = search needs
 
 case-requires : tie.Need-case-requires Inv-loop μ-loop
 case-requires c κs = search needs
@@ -47,7 +47,7 @@ each-spec =
     μ-loop
     loop-holds
     add-number
-    open-rule-requires
+    opened-requires
     case-requires
     next-requires
     loop-less

@@ -8,8 +8,8 @@ use borrow.Author.Needs.{needs}
 use Rattle.checker.proofs.call.check.Statement.{statement}
 use Rattle.checker.proofs.call.check.Tie as tie
 
-open-rule-requires : tie.Need-open-rule-requires
-open-rule-requires c κs = search needs
+open-requires : tie.Need-open-requires
+open-requires c κs = search needs
 
 enum-known-why : tie.Need-enum-known-why
 enum-known-why c = search needs
@@ -42,7 +42,7 @@ pub check-spec : {M : Type 1} → statement M
 check-spec =
     tie.close
     (tie.spec
-    open-rule-requires
+    open-requires
     enum-known-why
     enum-known-counts
     check-ranges-requires

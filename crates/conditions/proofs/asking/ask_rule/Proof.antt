@@ -31,7 +31,7 @@ loop-holds : tie.Need-loop-holds Inv-loop μ-loop
 loop-holds c = (omega arith, c .positions .ensures, grown-none _ _)
 
 ask-position-requires : tie.Need-ask-position-requires Inv-loop μ-loop
-ask-position-requires c κs = search needs
+ask-position-requires c κs = let o = c .before .before .before in (o .before .before .before .pre, (o .open-rule .ensures, omega arith))
 
 add-j : tie.Need-add-j Inv-loop μ-loop
 add-j c = search needs

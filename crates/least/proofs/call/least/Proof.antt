@@ -8,8 +8,8 @@ use borrow.Author.Needs.{needs}
 use Rattle.least.proofs.call.least.Statement.{statement}
 use Rattle.least.proofs.call.least.Tie as tie
 
-open-rule-requires : tie.Need-open-rule-requires
-open-rule-requires c κs = omega arith
+open-requires : tie.Need-open-requires
+open-requires c κs = omega arith
 
 enum-known-why : tie.Need-enum-known-why
 enum-known-why c = search needs
@@ -40,7 +40,7 @@ pub least-spec : {M : Type 1} → statement M
 least-spec =
     tie.close
     (tie.spec
-    open-rule-requires
+    open-requires
     enum-known-why
     enum-known-counts
     solve-in-ranges-requires
