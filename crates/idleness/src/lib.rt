@@ -15,10 +15,11 @@ use bodies::numbers;
 use evaluation::rules::gives;
 use format::Format;
 use parts::rules;
+use parts::terms;
 use parts::variables;
 use positions::Opened;
+use positions::directions;
 use positions::open_rule;
-use positions::position_at;
 use program::Direction;
 use program::Given;
 use program::Variable;
@@ -76,11 +77,11 @@ fn set_position(
     ensures { λ _. ⌜ now (values .exit) ≡ set (now (values .entry)) (bodyVariable (ruleOf (now (value .entry))) i)
         (mostDeclared (variablesAt (now (file .entry)) variables) (ruleOf (now (value .entry))) i) ⌝ }
 {
-    let p = position_at(file, variables, value, rule, i);
-    let x = variables::variable(file, p.variable);
-    let d = p.direction;
+    let t = terms::term(rules::body(value), i);
+    let x = variables::variable(file, t.variable);
+    let d = directions::of_term(rule.variable, rule.form, x, t);
     let most = demanding(rule.variable, d, x.low, x.high);
-    let v = format::wide(p.variable);
+    let v = format::wide(t.variable);
     values[v] = most;
 }
 
