@@ -1,7 +1,7 @@
 -- The least model compared with the assignment: what the code's sets and counts say.
 use Prim.Native.Nat.{ℕ, zero, suc, _+_, _*_, _<_, _≤_}
 use mathlib.Core.Path.{_≡_, refl, sym, ap, ap₂, subst, _∙_}
-use mathlib.Core.Bool.{Bool, true, false, not, _||_, _&&_}
+use mathlib.Core.Bool.{Bool, true, false, not, _&&_}
 use mathlib.Core.List.{List, [], _++_}
 use native.Mathlib.Omega.{arith}
 use borrow.Author.Tests.{eqb-true}
@@ -33,8 +33,8 @@ use Rattle.report.specs.Report.{asksMost, asksLeast, askedAt, askedBy, asked, s
 use Rattle.report.specs.Written.{marked, fromBelowIn, fromAboveIn}
 use Rattle.report.proofs.Entries.{ascending-past, bounds-count, marked-count}
 use Rattle.report.proofs.WritingLaws.{marked-bounds}
-use Rattle.conditions.specs.Shortfall.{shortIn, ShortIs}
-use Rattle.conditions.specs.declared.short.Short.{Short}
+use Rattle.conditions.specs.Shortfall.{shortIn, PartsAre}
+use Rattle.conditions.specs.declared.short.Parts.{Parts}
 use Rattle.verdict.specs.Checks.{Answer, unfounded, stable, answerOf, Judged, some-shown, is-stable, checkBytes}
 use Rattle.comparison.specs.Shows.{entryCount, ShowsSets}
 use Rattle.verdict.specs.declared.Verdict.{Verdict}
@@ -206,25 +206,15 @@ module _ (s : List ℕ) (k : Counts) (r : AcceptedAs s k) (θ : List ℤ)
     model-small : Small m
     model-small = let a = reads-accepts r in within-small (accepts-promises (a .accepts)) m (least (a .meant) (a .accepts) .model .within)
 
-    -- the two parts of what is short, and their union
-    module _ (parts : Short) (short : ShortIs (variablesAt s (k .variables)) (valued θ) (valued m) parts)
-        (set : ℕ → Bool) (union : (v : ℕ) → set v ≡ (has (parts .below .words) v || has (parts .above .words) v)) where
+    module _ (set : ℕ → Bool) (is : (v : ℕ) → set v ≡ shortIn (variablesAt s (k .variables)) (valued θ) (valued m) v) where
       set-is : (P : Program) → Accepts s P → (v : ℕ) → set v ≡ shown P (valued θ) (valued m) v
-      set-is P x v =
-          union v ∙ ap₂ _||_ (short .below v) (short .above v)
-          ∙ whole (shortIn (variablesAt s (k .variables)) (valued θ) (valued m) v) (variables.fromAbove (variableIn (variablesAt s (k .variables)) v))
-          ∙ ap (λ (vs : List Variable). shortIn vs (valued θ) (valued m) v) (sym (variables-are r x))
-        where
-          whole : (a d : Bool) → ((a && not d) || (a && d)) ≡ a
-          whole true true = refl
-          whole true false = refl
-          whole false d = refl
+      set-is P x v = is v ∙ ap (λ (vs : List Variable). shortIn vs (valued θ) (valued m) v) (sym (variables-are r x))
 
-      below-is : (P : Program) → Accepts s P → (v : ℕ) → has (parts .below .words) v ≡ fromBelowIn (P .variables) (shown P (valued θ) (valued m)) v
-      below-is P x v = short .below v ∙ ap (λ (vs : List Variable). fromBelowIn vs (shortIn vs (valued θ) (valued m)) v) (sym (variables-are r x))
-
-      above-is : (P : Program) → Accepts s P → (v : ℕ) → has (parts .above .words) v ≡ fromAboveIn (P .variables) (shown P (valued θ) (valued m)) v
-      above-is P x v = short .above v ∙ ap (λ (vs : List Variable). fromAboveIn vs (shortIn vs (valued θ) (valued m)) v) (sym (variables-are r x))
+      -- nothing past the last variable is in it
+      pub short-few : (v : ℕ) → k .variables ≤ v → set v ≡ false
+      short-few v h =
+          let x = reads-accepts r .accepts in let P = reads-accepts r .meant in
+          set-is P x v ∙ shown-past (accepts-promises x) (valued θ) (valued m) v (omega (arith, counts-of r x .variables-are))
 
       few-in : (P : Program) → Accepts s P → length (P .variables) ≤ maxVariables
       few-in P x = program-limited x .few-variables
@@ -232,8 +222,16 @@ module _ (s : List ℕ) (k : Counts) (r : AcceptedAs s k) (θ : List ℤ)
       pub none-short : countFrom set 0 maxVariables ≡ 0 → (P : Program) → Accepts s P → Judged P (valued θ) b stable b
       none-short q P x = all-founded (accepts-promises x) (few-in P x) (meets P x) (least P x) set (set-is P x) b q
 
-      module _ (most lower : ℕ → Bool) (most-is : (P : Program) → Accepts s P → (v : ℕ) → most v ≡ asked P set asksMost v)
+      module _ (parts : Parts) (parted : PartsAre (variablesAt s (k .variables)) set parts)
+          (most lower : ℕ → Bool) (most-is : (P : Program) → Accepts s P → (v : ℕ) → most v ≡ asked P set asksMost v)
           (least-is : (P : Program) → Accepts s P → (v : ℕ) → lower v ≡ asked P set asksLeast v) where
+        below-is : (P : Program) → Accepts s P → (v : ℕ) → has (parts .below .words) v ≡ fromBelowIn (P .variables) (shown P (valued θ) (valued m)) v
+        below-is P x v = parted .below v
+            ∙ ap₂ (λ (b : Bool) (vs : List Variable). b && not (variables.fromAbove (variableIn vs v))) (set-is P x v) (sym (variables-are r x))
+
+        above-is : (P : Program) → Accepts s P → (v : ℕ) → has (parts .above .words) v ≡ fromAboveIn (P .variables) (shown P (valued θ) (valued m)) v
+        above-is P x v = parted .above v ∙ ap₂ (λ (b : Bool) (vs : List Variable). b && variables.fromAbove (variableIn vs v)) (set-is P x v) (sym (variables-are r x))
+
         pub shown-room : checkBytes * k .variables ≤ length b → 4 * entryCount (has (parts .below .words)) (has (parts .above .words)) most lower ≤ length b
         shown-room h =
             let x = reads-accepts r .accepts in let P = reads-accepts r .meant in

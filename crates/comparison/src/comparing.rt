@@ -13,8 +13,9 @@ ghost use Rattle.program.specs.Evaluable.{Small};
 use crate::reporting::write_report;
 use conditions::asked::asked;
 use conditions::asking::Asked;
-use conditions::short::Short;
-use conditions::short::short_sets;
+use conditions::short::Parts;
+use conditions::short::in_parts;
+use conditions::short::short_set;
 use format::Format;
 use program::Counts;
 use run::solve::run;
@@ -24,19 +25,19 @@ use verdict::Verdict;
 // The set is shown, with its conditions.
 fn show(
     report: &mut [u8],
-    short: Short,
+    parts: Parts,
     asked: Asked,
     model: &[i64; Format::MAX_VARIABLES],
     assigned: &[i64; Format::MAX_VARIABLES],
 ) -> Verdict
-    requires { ⌜ 4 * entryCount (has (short .below .words)) (has (short .above .words)) (has (asked .most .words)) (has (asked .least .words)) ≤ length (now report) ⌝ }
+    requires { ⌜ 4 * entryCount (has (parts .below .words)) (has (parts .above .words)) (has (asked .most .words)) (has (asked .least .words)) ≤ length (now report) ⌝ }
     requires { ⌜ Small (now model) × Small (now assigned) ⌝ }
-    ensures { λ r. ⌜ ShowsSets (has (short .below .words)) (has (short .above .words)) (has (asked .most .words)) (has (asked .least .words))
+    ensures { λ r. ⌜ ShowsSets (has (parts .below .words)) (has (parts .above .words)) (has (asked .most .words)) (has (asked .least .words))
         (valued (now (model .entry))) (valued (now (assigned .entry))) (now (report .entry)) (now (report .exit)) r ⌝ }
 {
-    write_report(report, short, asked, model, assigned);
-    let below = short.below.count() as usize;
-    let above = short.above.count() as usize;
+    write_report(report, parts, asked, model, assigned);
+    let below = parts.below.count() as usize;
+    let above = parts.above.count() as usize;
     let most = asked.most.count() as usize;
     let least = asked.least.count() as usize;
     Verdict::Unfounded(below + above, most + least)
@@ -61,11 +62,11 @@ pub fn compare(
     let n = counts.variables;
     let mut model = [0i64; Format::MAX_VARIABLES];
     run(file, counts, offsets, masks, readers, assigned, &mut model);
-    let short = short_sets(file, n, assigned, &model);
-    let set = short.below.union(short.above);
+    let set = short_set(file, n, assigned, &model);
     if set.count() == 0 {
         return Verdict::Stable;
     }
     let conditions = asked(file, counts, offsets, set);
-    show(report, short, conditions, &model, assigned)
+    let parts = in_parts(file, n, set);
+    show(report, parts, conditions, &model, assigned)
 }

@@ -1,20 +1,24 @@
--- The founded variables whose value in the model comes before their assigned one; vs are the file's variables.
+-- The founded variables whose value in the model comes before their assigned one, and a set in two parts; vs are the file's variables.
 use Prim.Native.Nat.{ℕ}
 use mathlib.Core.Path.{_≡_}
 use mathlib.Core.List.{List}
-use mathlib.Core.Bool.{Bool}
+use mathlib.Core.Bool.{Bool, cond}
 use Rattle.words.specs.Bit.{has}
 use Rattle.program.specs.Program.{variableIn}
 use Rattle.program.specs.Variables.{short}
 use Rattle.program.specs.Readings.{Valuation}
 use Rattle.program.specs.declared.Variable.{Variable}
 use Rattle.report.specs.Written.{fromBelowIn, fromAboveIn}
-use Rattle.conditions.specs.declared.short.Short.{Short}
+use Rattle.conditions.specs.declared.short.Parts.{Parts}
 
+-- variable v of these
 abbrev pub shortIn : List Variable → Valuation → Valuation → ℕ → Bool
 shortIn vs θ m v = short (variableIn vs v) (θ v) (m v)
 
--- in two sets, by their kind
-pub record ShortIs (vs : List Variable) (θ m : Valuation) (s : Short) : Type 0 where
-  pub below : (v : ℕ) → has (s .below .words) v ≡ fromBelowIn vs (shortIn vs θ m) v
-  pub above : (v : ℕ) → has (s .above .words) v ≡ fromAboveIn vs (shortIn vs θ m) v
+-- the members of a set that are founded from above, where the first argument says so, or the others
+abbrev pub partIn : Bool → List Variable → (ℕ → Bool) → ℕ → Bool
+partIn above vs set v = cond above (fromAboveIn vs set v) (fromBelowIn vs set v)
+
+pub record PartsAre (vs : List Variable) (set : ℕ → Bool) (p : Parts) : Type 0 where
+  pub below : (v : ℕ) → has (p .below .words) v ≡ fromBelowIn vs set v
+  pub above : (v : ℕ) → has (p .above .words) v ≡ fromAboveIn vs set v

@@ -1,32 +1,32 @@
 // The set that a report shows.
-ghost use Prim.Native.Nat.{_*_, _≤_};
+ghost use mathlib.Core.Path.{_≡_};
+ghost use mathlib.Core.Bool.{false, _&&_};
+ghost use Prim.Native.Nat.{ℕ, _*_, _≤_};
+ghost use lib.Dec.{ltb};
 ghost use lib.ListN.{length};
 ghost use Rattle.format.specs.Limits.{maxVariables};
-ghost use Rattle.program.specs.Program.{variablesAt};
+ghost use Rattle.program.specs.Program.{variablesAt, variableIn};
+ghost use Rattle.words.specs.Bit.{has};
+ghost use Rattle.program.specs.Variables.{short};
 ghost use Rattle.program.specs.Readings.{valued};
-ghost use Rattle.conditions.specs.Shortfall.{ShortIs};
+ghost use Rattle.conditions.specs.Shortfall.{partIn, PartsAre};
 use crate::members::with_if;
 use format::Format;
 use parts::variables;
 use sets::Set;
 
-// The founded variables whose value in the model comes before their assigned one: those that are not founded from above, and those that are.
-pub struct Short {
-    pub below: Set,
-    pub above: Set,
-}
-
-pub fn short_sets(
+// The founded variables whose value in the model comes before their assigned one.
+pub fn short_set(
     file: &[u8],
     variables: usize,
     assigned: &[i64; Format::MAX_VARIABLES],
     model: &[i64; Format::MAX_VARIABLES],
-) -> Short
+) -> Set
     requires { ⌜ (8 * variables ≤ length (now file)) × (variables ≤ maxVariables) ⌝ }
-    ensures { λ r. ⌜ ShortIs (variablesAt (now (file .entry)) variables) (valued (now (assigned .entry))) (valued (now (model .entry))) r ⌝ }
+    ensures { λ r. ⌜ ((v : ℕ)
+        → has (r .words) v ≡ short (variableIn (variablesAt (now (file .entry)) variables) v) (valued (now (assigned .entry)) v) (valued (now (model .entry)) v)) ⌝ }
 {
-    let mut below = Set::empty();
-    let mut above = Set::empty();
+    let mut set = Set::empty();
     let mut v = 0;
     while v < variables {
         let given = assigned[v];
@@ -34,13 +34,45 @@ pub fn short_sets(
         let x = v as u8;
         let variable = variables::variable(file, x);
         let short = variable.is_short(given, least);
-        let down = variable.is_from_above();
-        below = with_if(below, x, short & !down);
-        above = with_if(above, x, short & down);
+        set = with_if(set, x, short);
         v += 1;
     }
-    Short {
-        below: below,
-        above: above,
+    set
+}
+
+// A set in two parts: the variables that are not founded from above, and those that are.
+pub struct Parts {
+    pub below: Set,
+    pub above: Set,
+}
+
+// The members of a set that are founded from above, where `above` says so, or the others.
+fn part(file: &[u8], variables: usize, set: Set, above: bool) -> Set
+    requires { ⌜ (8 * variables ≤ length (now file)) × (variables ≤ maxVariables) ⌝ }
+    ensures { λ r. ⌜ ((v : ℕ) → has (r .words) v ≡ (ltb v variables && partIn above (variablesAt (now (file .entry)) variables) (has (set .words)) v)) ⌝ }
+{
+    let mut part = Set::empty();
+    let mut v = 0;
+    while v < variables {
+        let x = v as u8;
+        let variable = variables::variable(file, x);
+        let down = variable.is_from_above();
+        let inside = set.contains(x);
+        let wanted = (down & above) | (!down & !above);
+        part = with_if(part, x, inside & wanted);
+        v += 1;
+    }
+    part
+}
+
+// Both parts of a set of the file's variables.
+pub fn in_parts(file: &[u8], variables: usize, set: Set) -> Parts
+    requires { ⌜ (8 * variables ≤ length (now file)) × (variables ≤ maxVariables) ⌝ }
+    requires { ⌜ ((v : ℕ) → variables ≤ v → has (set .words) v ≡ false) ⌝ }
+    ensures { λ r. ⌜ PartsAre (variablesAt (now (file .entry)) variables) (has (set .words)) r ⌝ }
+{
+    Parts {
+        below: part(file, variables, set, false),
+        above: part(file, variables, set, true),
     }
 }

@@ -4,7 +4,7 @@ use Rattle.format.specs.Limits.{maxVariables}
 use Rattle.words.specs.Bit.{has}
 use Rattle.reader.proofs.Published.{limited}
 use Rattle.reduct.proofs.Fills.{zeros}
-use Rattle.comparison.proofs.FoundedLaws.{starts-past, none-short, shown-room, shown-small, some-short}
+use Rattle.comparison.proofs.FoundedLaws.{starts-past, none-short, short-few, shown-room, shown-small, some-short}
 use borrow.Author.Needs.{needs}
 use Rattle.comparison.proofs.comparing.compare.Statement.{statement}
 use Rattle.comparison.proofs.comparing.compare.Tie as tie
@@ -21,41 +21,49 @@ run-requires c κs =
     let e = b .pre .1 .1 .0 in
     (r, (t, (λ P x. e P x .ranges, (starts-past s k r θ e _ (zeros maxVariables), refl))))
 
-short-sets-requires : tie.Need-short-sets-requires
-short-sets-requires c κs = let b = c .before .before .before .before .before in let f = limited (b .pre .0) in (f .inside, f .few-variables)
-
-union-requires : tie.Need-union-requires
-union-requires c κs = search needs
+short-set-requires : tie.Need-short-set-requires
+short-set-requires c κs = let b = c .before .before .before .before .before in let f = limited (b .pre .0) in (f .inside, f .few-variables)
 
 count-requires : tie.Need-count-requires
 count-requires c κs = search needs
 
 returns : tie.Need-returns
 returns c =
-    let z = c .before .before .before in
+    let z = c .before .before in
     let run = z .before .before .run in
     let b = z .before .before .before .before .before .before in
     none-short (b .args .file .now) (b .args .counts) (b .pre .0) (b .args .assigned .now) (b .pre .1 .1 .0) (run .last .1 .1 .1 .1 .1 .1 .0) (run .result) (run .ensures .1)
-    (b .args .report .now) (z .short-sets .result) (z .short-sets .ensures) (has (c .before .before .union .result .words)) (c .before .before .union .ensures)
-    (sym (c .before .count .ensures) ∙ c .if1 .taken)
+    (b .args .report .now) (has (z .short-set .result .words)) (z .short-set .ensures) (sym (c .before .count .ensures) ∙ c .if1 .taken)
 
 asked-requires : tie.Need-asked-requires
-asked-requires c κs = let b = c .before .before .before .before .before .before .before .before .before in (b .pre .0, λ P x. b .pre .1 .0 P x .place-is)
+asked-requires c κs = let b = c .before .before .before .before .before .before .before .before in (b .pre .0, λ P x. b .pre .1 .0 P x .place-is)
+
+in-parts-requires : tie.Need-in-parts-requires
+in-parts-requires c κs =
+    let z = c .before .before .before in
+    let run = z .before .before .run in
+    let b = z .before .before .before .before .before .before in
+    let f = limited (b .pre .0) in (
+      (f .inside, f .few-variables),
+      short-few (b .args .file .now) (b .args .counts) (b .pre .0) (b .args .assigned .now) (b .pre .1 .1 .0) (run .last .1 .1 .1 .1 .1 .1 .0) (run .result) (run .ensures .1)
+          (b .args .report .now) (has (z .short-set .result .words)) (z .short-set .ensures),
+    )
 
 show-requires : tie.Need-show-requires
 show-requires c κs =
-    let q = c .before .before .asked in
-    let u = c .before .before .before .before .before .union in
+    let t = c .before .before .in-parts in
+    let q = c .before .before .before .asked in
     let z = c .before .before .before .before .before .before in
     let run = z .before .before .run in
     let b = z .before .before .before .before .before .before in
     let m = run .last .1 .1 .1 .1 .1 .1 .0 in
+    let set = has (z .short-set .result .words) in
     let most = has (q .result .most .words) in
     let least = has (q .result .least .words) in (
       shown-room (b .args .file .now) (b .args .counts) (b .pre .0) (b .args .assigned .now) (b .pre .1 .1 .0) m (run .result) (run .ensures .1) (b .args .report .now)
-          (z .short-sets .result) (z .short-sets .ensures) (has (u .result .words)) (u .ensures) most least (q .ensures .0) (q .ensures .1) (b .pre .1 .1 .1),
+          set (z .short-set .ensures) (t .result) (t .ensures) most least (q .ensures .0) (q .ensures .1) (b .pre .1 .1 .1),
       shown-small (b .args .file .now) (b .args .counts) (b .pre .0) (b .args .assigned .now) (b .pre .1 .1 .0) m (run .result) (run .ensures .1) (b .args .report .now)
-          (z .short-sets .result) (z .short-sets .ensures) (has (u .result .words)) (u .ensures) most least (q .ensures .0) (q .ensures .1),
+          set (z .short-set .ensures) (t .result) (t .ensures) most least (q .ensures .0) (q .ensures .1),
     )
 
 same-length : tie.Need-same-length
@@ -63,26 +71,26 @@ same-length c = search needs
 
 returns-2 : tie.Need-returns-2
 returns-2 c =
-    let q = c .before .before .before .before .before in
+    let t = c .before .before .before .before .before in
+    let q = t .before in
     let i = q .before in
-    let u = i .before .before .union in
-    let z = i .before .before .before in
+    let z = i .before .before in
     let run = z .before .before .run in
     let b = z .before .before .before .before .before .before in
     some-short (b .args .file .now) (b .args .counts) (b .pre .0) (b .args .assigned .now) (b .pre .1 .1 .0) (run .last .1 .1 .1 .1 .1 .1 .0) (run .result) (run .ensures .1)
-    (b .args .report .now) (z .short-sets .result) (z .short-sets .ensures) (has (u .result .words)) (u .ensures) _ _ (q .asked .ensures .0) (q .asked .ensures .1)
-    (λ x. i .if1 .left (i .before .count .ensures ∙ x)) _ _ (c .before .before .show .ensures)
+    (b .args .report .now) (has (z .short-set .result .words)) (z .short-set .ensures) (t .in-parts .result) (t .in-parts .ensures) _ _
+    (q .asked .ensures .0) (q .asked .ensures .1) (λ x. i .if1 .left (i .before .count .ensures ∙ x)) _ _ (c .before .before .show .ensures)
 
 pub compare-spec : {M : Type 1} → statement M
 compare-spec =
     tie.close
     (tie.spec
     run-requires
-    short-sets-requires
-    union-requires
+    short-set-requires
     count-requires
     returns
     asked-requires
+    in-parts-requires
     show-requires
     same-length
     returns-2)

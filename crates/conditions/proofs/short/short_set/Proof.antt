@@ -1,33 +1,35 @@
 -- One variable after the other.
-use mathlib.Core.Path.{_≡_}
-use Prim.Native.Nat.{_-_, _≤_}
+use mathlib.Core.Path.{_≡_, _∙_}
+use mathlib.Core.Bool.{_&&_}
+use Prim.Native.Nat.{ℕ, _-_, _≤_}
 use native.Mathlib.Omega.{arith}
 use borrow.Author.Needs.{needs}
 use mir.Syntax.{w64}
 use mir.Val.{toZ, ofZ}
+use lib.Dec.{ltb}
 use lib.IntN.{pos}
 use lib.ListN.{getD}
+use Rattle.program.specs.Program.{variablesAt}
 use Rattle.words.specs.Bit.{has}
-use Rattle.conditions.proofs.ShortLaws.{ShortTo, short-none, short-more, short-all}
-use Rattle.conditions.proofs.short.short_sets.Statement.{statement}
+use Rattle.conditions.specs.Shortfall.{shortIn}
+use Rattle.conditions.proofs.MemberLaws.{below-none, below-one}
+use Rattle.conditions.proofs.ShortLaws.{short-variable, short-all}
+use Rattle.conditions.proofs.short.short_set.Statement.{statement}
 use Rattle.program.specs.Readings.{valued}
-use Rattle.conditions.proofs.short.short_sets.Tie as tie
+use Rattle.conditions.proofs.short.short_set.Tie as tie
 
 abbrev Inv-loop : tie.InvT-loop
-Inv-loop file variables assigned model below₀ above₀ v₀ below above v =
-    (v ≤ variables) × ShortTo file variables (valued assigned) (valued model) v (has (below .words)) (has (above .words))
+Inv-loop file variables assigned model set₀ v₀ set v =
+    (v ≤ variables) × ((u : ℕ) → has (set .words) u ≡ (ltb u v && shortIn (variablesAt file variables) (valued assigned) (valued model) u))
 
 abbrev μ-loop : tie.MeasureT-loop
-μ-loop file variables assigned model below₀ above₀ v₀ below above v = variables - v
+μ-loop file variables assigned model set₀ v₀ set v = variables - v
 
 empty-requires : tie.Need-empty-requires Inv-loop μ-loop
 empty-requires c κs = search needs
 
-empty-requires-2 : tie.Need-empty-requires-2 Inv-loop μ-loop
-empty-requires-2 c κs = search needs
-
 loop-holds : tie.Need-loop-holds Inv-loop μ-loop
-loop-holds c = (omega arith, short-none _ _ _ _ (c .before .empty .ensures) (c .empty2 .ensures))
+loop-holds c = (omega arith, below-none _ (c .empty .ensures))
 
 mul-given : tie.Need-mul-given Inv-loop μ-loop
 mul-given c = search needs
@@ -50,14 +52,8 @@ variable-requires c κs = search needs
 is-short-requires : tie.Need-is-short-requires Inv-loop μ-loop
 is-short-requires c κs = search needs
 
-is-from-above-requires : tie.Need-is-from-above-requires Inv-loop μ-loop
-is-from-above-requires c κs = search needs
-
 with-if-requires : tie.Need-with-if-requires Inv-loop μ-loop
 with-if-requires c κs = search needs
-
-with-if-requires-2 : tie.Need-with-if-requires-2 Inv-loop μ-loop
-with-if-requires-2 c κs = search needs
 
 add-v : tie.Need-add-v Inv-loop μ-loop
 add-v c = search needs
@@ -67,31 +63,26 @@ loop-less c = search needs
 
 loop-again : tie.Need-loop-again Inv-loop μ-loop
 loop-again c =
-    let k = c .before .before in
-    let b = k .before .before in
-    let l = b .before .before .before .before .loop in
-    let a = b .before .before .before .before .before .before .before .before .args in
+    let a = c .before .before .before .before .before .before .before .before .before .args in
+    let l = c .before .before .before .before .before .before .loop in
     let e : toZ w64 (ofZ w64 (getD (a .assigned .now) (l .v) (pos 0))) ≡ getD (a .assigned .now) (l .v) (pos 0) = search needs in
     let f : toZ w64 (ofZ w64 (getD (a .model .now) (l .v) (pos 0))) ≡ getD (a .model .now) (l .v) (pos 0) = search needs in
-    let x = b .variable .ensures (a .variables) (omega arith) in (
-      omega arith,
-      short-more (a .file .now) (a .variables) (valued (a .assigned .now)) (valued (a .model .now)) (l .v) x e f (k .before .is-short .ensures) (k .is-from-above .ensures)
-          (l .inv .1) (c .before .with-if .ensures) (c .with-if2 .ensures),
-    )
+    let x = c .before .before .variable .ensures (a .variables) (omega arith) in
+    let q = short-variable (a .file .now) (a .variables) (valued (a .assigned .now)) (valued (a .model .now)) (l .v) x e f in
+    (omega arith, below-one _ (l .v) (c .before .is-short .ensures ∙ q) (l .inv .1) (c .with-if .ensures))
 
 returns : tie.Need-returns Inv-loop μ-loop
 returns c =
-    let a = c .before .before .before .before .before .args in
+    let a = c .before .before .before .before .args in
     short-all (a .file .now) (a .variables) (valued (a .assigned .now)) (valued (a .model .now)) (omega arith) (c .before .loop .inv .1)
 
-pub short-sets-spec : {M : Type 1} → statement M
-short-sets-spec =
+pub short-set-spec : {M : Type 1} → statement M
+short-set-spec =
     tie.close
     (tie.spec
     Inv-loop
     μ-loop
     empty-requires
-    empty-requires-2
     loop-holds
     mul-given
     element-copy-out-given
@@ -100,9 +91,7 @@ short-sets-spec =
     cast-x
     variable-requires
     is-short-requires
-    is-from-above-requires
     with-if-requires
-    with-if-requires-2
     add-v
     loop-less
     loop-again
