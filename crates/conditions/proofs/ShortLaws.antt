@@ -7,8 +7,11 @@ use native.Mathlib.Omega.{arith}
 use lib.Dec.{ltb}
 use lib.IntN.{ℤ}
 use lib.ListN.{List·getD-eq-default}
-use borrow.Author.Tests.{ltb-false}
+use borrow.Author.Tests.{ltb-true, ltb-false}
+use Rattle.program.specs.Tables.{anyBelow}
 use Rattle.program.specs.Program.{noVariable, variableIn, variablesAt}
+use Rattle.program.proofs.Conditions.{none-below}
+use Rattle.report.specs.Written.{fromBelowIn, fromAboveIn}
 use Rattle.program.specs.Variables.{fromAbove, short}
 use Rattle.program.specs.Readings.{Valuation}
 use Rattle.program.specs.declared.Variable.{Variable}
@@ -60,3 +63,26 @@ module _ (above : Bool) (vs : List Variable) (set : ℕ → Bool) where
       go : (t : Bool) → ltb v n ≡ t → (t && partIn above vs set v) ≡ partIn above vs set v
       go true q = refl
       go false q = sym (none above (past v (ltb-false v n q)))
+
+-- where no variable is founded from above, a set is its own first part
+module _ (s : List ℕ) (n : ℕ) (set : ℕ → Bool) (none : anyBelow n (λ v. fromAbove (variableIn (variablesAt s n) v)) ≡ false) where
+  not-above : (v : ℕ) → fromAbove (variableIn (variablesAt s n) v) ≡ false
+  not-above v = go (ltb v n) refl
+    where
+      go : (t : Bool) → ltb v n ≡ t → fromAbove (variableIn (variablesAt s n) v) ≡ false
+      go true q = none-below n (λ u. fromAbove (variableIn (variablesAt s n) u)) none v (ltb-true v n q)
+      go false q = rw (List·getD-eq-default (variablesAt s n) noVariable {n = v} (omega (arith, variables-length s n, ltb-false v n q)))
+
+  pub whole-below : (v : ℕ) → set v ≡ fromBelowIn (variablesAt s n) set v
+  whole-below v = sym (ap (λ (b : Bool). set v && not b) (not-above v) ∙ and-true (set v))
+    where
+      and-true : (a : Bool) → (a && true) ≡ a
+      and-true true = refl
+      and-true false = refl
+
+  pub none-above : {r : ℕ → Bool} → ((v : ℕ) → r v ≡ false) → (v : ℕ) → r v ≡ fromAboveIn (variablesAt s n) set v
+  none-above h v = h v ∙ sym (ap (λ (b : Bool). set v && b) (not-above v) ∙ and-false (set v))
+    where
+      and-false : (a : Bool) → (a && false) ≡ false
+      and-false true = refl
+      and-false false = refl

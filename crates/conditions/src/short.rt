@@ -7,7 +7,8 @@ ghost use lib.ListN.{length};
 ghost use Rattle.format.specs.Limits.{maxVariables};
 ghost use Rattle.program.specs.Program.{variablesAt, variableIn};
 ghost use Rattle.words.specs.Bit.{has};
-ghost use Rattle.program.specs.Variables.{short};
+ghost use Rattle.program.specs.Tables.{anyBelow};
+ghost use Rattle.program.specs.Variables.{fromAbove, short};
 ghost use Rattle.program.specs.Readings.{valued};
 ghost use Rattle.conditions.specs.Shortfall.{partIn, PartsAre};
 use crate::members::with_if;
@@ -46,6 +47,22 @@ pub struct Parts {
     pub above: Set,
 }
 
+// Whether some variable of a file is founded from above.
+fn any_above(file: &[u8], variables: usize) -> bool
+    requires { ⌜ (8 * variables ≤ length (now file)) × (variables ≤ maxVariables) ⌝ }
+    ensures { λ r. ⌜ r ≡ anyBelow variables (λ v. fromAbove (variableIn (variablesAt (now (file .entry)) variables) v)) ⌝ }
+{
+    let mut found = false;
+    let mut v = 0;
+    while v < variables {
+        let variable = variables::variable(file, v as u8);
+        let above = variable.is_from_above();
+        found = found | above;
+        v += 1;
+    }
+    found
+}
+
 // The members of a set that are founded from above, where `above` says so, or the others.
 fn part(file: &[u8], variables: usize, set: Set, above: bool) -> Set
     requires { ⌜ (8 * variables ≤ length (now file)) × (variables ≤ maxVariables) ⌝ }
@@ -65,12 +82,18 @@ fn part(file: &[u8], variables: usize, set: Set, above: bool) -> Set
     part
 }
 
-// Both parts of a set of the file's variables.
+// Both parts of a set of the file's variables; a file without variables founded from above pays no search for them.
 pub fn in_parts(file: &[u8], variables: usize, set: Set) -> Parts
     requires { ⌜ (8 * variables ≤ length (now file)) × (variables ≤ maxVariables) ⌝ }
     requires { ⌜ ((v : ℕ) → variables ≤ v → has (set .words) v ≡ false) ⌝ }
     ensures { λ r. ⌜ PartsAre (variablesAt (now (file .entry)) variables) (has (set .words)) r ⌝ }
 {
+    if !any_above(file, variables) {
+        return Parts {
+            below: set,
+            above: Set::empty(),
+        };
+    }
     Parts {
         below: part(file, variables, set, false),
         above: part(file, variables, set, true),
