@@ -11,7 +11,7 @@ ghost use Rattle.program.specs.Tables.{anyBelow};
 ghost use Rattle.program.specs.Variables.{fromAbove, short};
 ghost use Rattle.program.specs.Readings.{valued};
 ghost use Rattle.conditions.specs.Shortfall.{partIn, PartsAre};
-use crate::members::with_if;
+use crate::members::add_if;
 use format::Format;
 use parts::variables;
 use sets::Set;
@@ -27,18 +27,17 @@ pub fn short_set(
     ensures { λ r. ⌜ ((v : ℕ)
         → has (r .words) v ≡ short (variableIn (variablesAt (now (file .entry)) variables) v) (valued (now (assigned .entry)) v) (valued (now (model .entry)) v)) ⌝ }
 {
-    let mut set = Set::empty();
+    let mut words = [0u64; Set::WORDS];
     let mut v = 0;
     while v < variables {
         let given = assigned[v];
         let least = model[v];
-        let x = v as u8;
-        let variable = variables::variable(file, x);
+        let variable = variables::variable(file, v as u8);
         let short = variable.is_short(given, least);
-        set = with_if(set, x, short);
+        add_if(&mut words, v, short);
         v += 1;
     }
-    set
+    Set { words: words }
 }
 
 // A set in two parts: the variables that are not founded from above, and those that are.
@@ -68,7 +67,7 @@ fn part(file: &[u8], variables: usize, set: Set, above: bool) -> Set
     requires { ⌜ (8 * variables ≤ length (now file)) × (variables ≤ maxVariables) ⌝ }
     ensures { λ r. ⌜ ((v : ℕ) → has (r .words) v ≡ (ltb v variables && partIn above (variablesAt (now (file .entry)) variables) (has (set .words)) v)) ⌝ }
 {
-    let mut part = Set::empty();
+    let mut words = [0u64; Set::WORDS];
     let mut v = 0;
     while v < variables {
         let x = v as u8;
@@ -76,10 +75,10 @@ fn part(file: &[u8], variables: usize, set: Set, above: bool) -> Set
         let down = variable.is_from_above();
         let inside = set.contains(x);
         let wanted = (down & above) | (!down & !above);
-        part = with_if(part, x, inside & wanted);
+        add_if(&mut words, v, inside & wanted);
         v += 1;
     }
-    part
+    Set { words: words }
 }
 
 // Both parts of a set of the file's variables; a file without variables founded from above pays no search for them.

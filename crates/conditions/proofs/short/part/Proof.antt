@@ -1,11 +1,13 @@
 -- One variable after the other.
 use Prim.Native.Nat.{ℕ, _-_, _≤_}
-use mathlib.Core.Path.{_≡_}
+use mathlib.Core.Path.{_≡_, refl}
 use mathlib.Core.Bool.{_&&_}
 use native.Mathlib.Omega.{arith}
 use borrow.Author.Needs.{needs}
 use lib.Dec.{ltb}
-use Rattle.words.specs.Bit.{has}
+use lib.ListN.{length}
+use Rattle.words.specs.Bit.{has, wordCount}
+use Rattle.words.proofs.Bits.{none-in}
 use Rattle.program.specs.Program.{variablesAt}
 use Rattle.conditions.specs.Shortfall.{partIn}
 use Rattle.conditions.proofs.MemberLaws.{below-none, below-one}
@@ -14,17 +16,14 @@ use Rattle.conditions.proofs.short.part.Statement.{statement}
 use Rattle.conditions.proofs.short.part.Tie as tie
 
 abbrev Inv-loop : tie.InvT-loop
-Inv-loop file variables set above part₀ v₀ part v =
-    (v ≤ variables) × ((u : ℕ) → has (part .words) u ≡ (ltb u v && partIn above (variablesAt file variables) (has (set .words)) u))
+Inv-loop file variables set above words₀ v₀ words v =
+    (v ≤ variables) × (length words ≡ wordCount) × ((u : ℕ) → has words u ≡ (ltb u v && partIn above (variablesAt file variables) (has (set .words)) u))
 
 abbrev μ-loop : tie.MeasureT-loop
-μ-loop file variables set above part₀ v₀ part v = variables - v
-
-empty-requires : tie.Need-empty-requires Inv-loop μ-loop
-empty-requires c κs = search needs
+μ-loop file variables set above words₀ v₀ words v = variables - v
 
 loop-holds : tie.Need-loop-holds Inv-loop μ-loop
-loop-holds c = (omega arith, below-none _ (c .empty .ensures))
+loop-holds c = (omega arith, refl, below-none _ (none-in wordCount))
 
 cast-x : tie.Need-cast-x Inv-loop μ-loop
 cast-x c = search needs
@@ -38,8 +37,8 @@ is-from-above-requires c κs = search needs
 contains-requires : tie.Need-contains-requires Inv-loop μ-loop
 contains-requires c κs = search needs
 
-with-if-requires : tie.Need-with-if-requires Inv-loop μ-loop
-with-if-requires c κs = search needs
+add-if-requires : tie.Need-add-if-requires Inv-loop μ-loop
+add-if-requires c κs = search needs
 
 add-v : tie.Need-add-v Inv-loop μ-loop
 add-v c = search needs
@@ -49,17 +48,19 @@ loop-less c = search needs
 
 loop-again : tie.Need-loop-again Inv-loop μ-loop
 loop-again c =
-    let k = c .before .before .before in
+    let i = c .before .before in
+    let k = i .before .before in
     let l = k .before .before .loop in
-    let a = k .before .before .before .before .before .args in
+    let a = k .before .before .before .before .args in
     let x = k .variable .ensures (a .variables) (omega arith) in
-    let q = part-variable (a .above) (variablesAt (a .file .now) (a .variables)) (has (a .set .words)) (l .v) x (c .before .before .is-from-above .ensures) (c .before .contains .ensures) in
-    (omega arith, below-one _ (l .v) q (l .inv .1) (c .with-if .ensures))
+    let q =
+    part-variable (a .above) (variablesAt (a .file .now) (a .variables)) (has (a .set .words)) (l .v) x (i .before .is-from-above .ensures) (i .contains .ensures) in
+    (omega arith, c .add-if .ensures .0, below-one _ (l .v) q (l .inv .2) (c .add-if .ensures .1))
 
 returns : tie.Need-returns Inv-loop μ-loop
 returns c =
-    let a = c .before .before .before .before .args in
-    part-done (a .above) (variablesAt (a .file .now) (a .variables)) (has (a .set .words)) (omega arith) (c .before .loop .inv .1)
+    let a = c .before .before .before .args in
+    part-done (a .above) (variablesAt (a .file .now) (a .variables)) (has (a .set .words)) (omega arith) (c .before .loop .inv .2)
 
 pub part-spec : {M : Type 1} → statement M
 part-spec =
@@ -67,13 +68,12 @@ part-spec =
     (tie.spec
     Inv-loop
     μ-loop
-    empty-requires
     loop-holds
     cast-x
     variable-requires
     is-from-above-requires
     contains-requires
-    with-if-requires
+    add-if-requires
     add-v
     loop-less
     loop-again
