@@ -98,15 +98,68 @@ pub fn desk(name: &str, variables: usize, rules: usize, constraints: usize, term
 
 /// A circle of +1 rules over the whole range.
 pub fn circle(name: &str, n: usize, reverse: bool) -> Plan {
+    circle_of(name, BELOW, n, reverse)
+}
+
+/// Kinds that founded variables have in turn: founded from below, founded from above, one after the other.
+pub const BELOW: &[u8] = &[1];
+pub const ABOVE: &[u8] = &[2];
+pub const BOTH: &[u8] = &[1, 2];
+
+/// A circle of rules by which each variable is one further from its starting end than the one before it.
+pub fn circle_of(name: &str, kinds: &[u8], n: usize, reverse: bool) -> Plan {
+    let kind = |v: usize| kinds[v % kinds.len()];
     let mut b = Builder::new();
-    for _ in 0..n {
-        b.variable(1, -30_000, 30_000, 0);
+    for v in 0..n {
+        b.variable(kind(v), -30_000, 30_000, 0);
     }
     for i in 0..n {
         let v = if reverse { n - 1 - i } else { i };
-        b.rule(1, v, 1, &[((v + n - 1) % n, 0, 1)]);
+        let before = (v + n - 1) % n;
+        let further = if kind(v) == 1 { 1 } else { -1 };
+        b.rule(1, v, further, &[(before, 0, if kind(before) == kind(v) { 1 } else { -1 })]);
     }
     b.plan(name)
+}
+
+/// A stable plan of earliest arrivals, all founded from above but for the gates: the first is there at 0, a road leads from each to the next and
+/// from the last back to the first, and all other roads lead anywhere. One in four is open only while a gate is, and one in four starts at
+/// the later of two.
+pub fn arrivals(name: &str, variables: usize, rules: usize) -> Plan {
+    let mut s = Seed(0x8EBC_6AF0_9C88_C6E3 ^ variables as u64);
+    let mut b = Builder::new();
+    let gates = variables / 32;
+    let posts = variables - gates;
+    for v in 0..variables {
+        if v < gates {
+            b.variable(0, 0, 1, (v % 4 > 0) as i64);
+        } else {
+            b.variable(2, 0, 30_000, 0);
+        }
+    }
+    // the posts stand in no order along the roads
+    let post = |i: usize| gates + (i % posts) * 37 % posts;
+    b.rule(1, post(0), 0, &[]);
+    for i in 0..rules - 1 {
+        let minutes = 1 + s.next(100) as i64;
+        if i < posts {
+            b.rule(1, post(i + 1), minutes, &[(post(i), 0, 1)]);
+            continue;
+        }
+        let from = post(s.next(posts));
+        let other = post(s.next(posts));
+        let head = post(s.next(posts));
+        match i % 4 {
+            0 if gates > 0 => b.rule(7, head, minutes, &[(from, 0, 0), (s.next(gates), 1, 1)]),
+            1 if other != from => b.rule(2, head, minutes, &[(from, 0, 0), (other, 0, 0)]),
+            _ => b.rule(1, head, minutes, &[(from, 0, 1)]),
+        }
+    }
+    let mut plan = b.plan(name);
+    let mut least = plan.assignment.clone();
+    crate::port::least_call(&plan.file, &plan.assignment, &mut least);
+    plan.assignment = least;
+    plan
 }
 
 /// The same, one variable gaining and all others following it: every lap lifts each by one.
@@ -191,6 +244,24 @@ pub fn ring(name: &str, n: usize) -> Plan {
     b.plan(name)
 }
 
+/// The same with variables of both kinds: each is at its far end as long as the one before it is. With `asks` a second literal, at a place that is
+/// not kept, makes a condition of each variable.
+pub fn ring_of_both(name: &str, n: usize, asks: bool) -> Plan {
+    let mut b = Builder::new();
+    let above = |v: usize| v % 2 == 1;
+    for v in 0..n {
+        b.variable(1 + above(v) as u8, -1, 1, if above(v) { -1 } else { 1 });
+    }
+    for v in 0..n {
+        let (before, after) = ((v + n - 1) % n, (v + 1) % n);
+        let far = |x: usize| if above(x) { (x, 2, 0) } else { (x, 1, 1) };
+        let other = |x: usize| if above(x) { (x, 1, -1) } else { (x, 2, 2) };
+        let body = [far(before), other(after)];
+        b.rule(6, v, if above(v) { -1 } else { 1 }, &body[..1 + asks as usize]);
+    }
+    b.plan(name)
+}
+
 /// The forms that have no divisor, those that have one, and both.
 pub const UNDIVIDED: &[u8] = &[1, 2, 3, 4, 5, 6, 7];
 pub const DIVIDED: &[u8] = &[8];
@@ -270,12 +341,18 @@ fn met(b: &mut Builder, s: &mut Seed, constraints: usize, value: &[i64]) {
 
 /// A stable plan with rules of these forms: each founded variable is held at its value by those before it, and other rules give as much or less.
 pub fn roster(name: &str, variables: usize, rules: usize, constraints: usize, terms: usize, forms: &[u8]) -> Plan {
+    roster_of(name, BELOW, variables, rules, constraints, terms, forms)
+}
+
+/// The same with founded variables of these kinds; less is more for one that is founded from above.
+pub fn roster_of(name: &str, kinds: &[u8], variables: usize, rules: usize, constraints: usize, terms: usize, forms: &[u8]) -> Plan {
+    let kind = |v: usize| kinds[v % kinds.len()];
     let mut s = Seed(0xD1B5_4A32_D192_ED03 ^ variables as u64);
     let mut b = Builder::new();
     let fixed = variables / 4;
     let value: Vec<i64> = (0..variables).map(|_| s.next(100) as i64).collect();
     for v in 0..variables {
-        b.variable((v >= fixed) as u8, 0, 2_000, value[v]);
+        b.variable(if v < fixed { 0 } else { kind(v) }, 0, 2_000, value[v]);
     }
     for i in 0..rules {
         let head = fixed + i % (variables - fixed);
@@ -284,7 +361,8 @@ pub fn roster(name: &str, variables: usize, rules: usize, constraints: usize, te
         let names = names(&mut s, terms_of(form, terms), if first { head } else { variables }, |_| true);
         let body = body(&mut s, form, &names, &value);
         let spare = if first { 0 } else { s.next(4) as i64 };
-        giving(&mut b, &mut s, (form, head), value[head] - spare, without_c(form, &body, |t| value[t.0]), &body);
+        let gives = if kind(head) == 1 { value[head] - spare } else { value[head] + spare };
+        giving(&mut b, &mut s, (form, head), gives, without_c(form, &body, |t| value[t.0]), &body);
     }
     met(&mut b, &mut s, constraints, &value);
     b.plan(name)
@@ -296,8 +374,9 @@ pub const LONG: &[u8] = &[1, 2, 3, 6, 7, 8];
 
 /// A stable plan with closed posts: over the standard variables stand two floors of founded ones. Rules in use read their own floor and those below
 /// it, so many of them in the upper floor the size of a variable below it, a mixed place. Idle rules of either floor read all variables, so that the
-/// file would not be valid if they drew edges. Odd variables may be below 0.
+/// file would not be valid if they drew edges. Odd variables may be below 0, and pairs of founded ones have these kinds in turn.
 pub struct Posts {
+    pub kinds: &'static [u8],
     pub variables: usize,
     pub rules: usize,
     pub constraints: usize,
@@ -325,6 +404,10 @@ impl Posts {
         } else {
             0
         }
+    }
+
+    fn kind(&self, v: usize) -> u8 {
+        self.kinds[v / 2 % self.kinds.len()]
     }
 
     fn fixed(&self) -> usize {
@@ -379,8 +462,13 @@ impl Posts {
         let mut body = body(s, form, &names, value);
         let spare = if why == Use::Hold { 0 } else { s.next(4) as i64 };
         let barred = why == Use::Idle && (form == 6 || form == 7) && s.next(2) == 0;
+        let above = self.kind(head) == 2;
         let (gives, without_c) = if why != Use::Idle || barred {
             (value[head], without_c(form, &body, |t| value[t.0]))
+        } else if above {
+            // the least that it gives; a size is 0 at the least, since its variable may be below 0
+            let least = |t: &Term| if t.2 < 0 { Self::HIGH } else { Self::low(t.0) };
+            (Self::HIGH, if form == 5 { 0 } else { without_c(form, &body, least) })
         } else {
             (Self::low(head), without_c(form, &body, |t| if t.2 < 0 { Self::low(t.0) } else { Self::HIGH }))
         };
@@ -390,7 +478,7 @@ impl Posts {
             let x = names[last];
             body[last] = if s.next(2) == 0 { (x, 1, Self::HIGH + 1) } else { (x, 2, Self::low(x)) };
         }
-        giving(b, s, (form, head), gives - spare, without_c, &body);
+        giving(b, s, (form, head), if above { gives + spare } else { gives - spare }, without_c, &body);
     }
 
     pub fn plan(&self, name: &str) -> Plan {
@@ -399,7 +487,7 @@ impl Posts {
         let fixed = self.fixed();
         let value: Vec<i64> = (0..self.variables).map(|_| 4 + s.next(60) as i64).collect();
         for (v, &z) in value.iter().enumerate() {
-            b.variable((v >= fixed) as u8, Self::low(v), Self::HIGH, z);
+            b.variable(if v < fixed { 0 } else { self.kind(v) }, Self::low(v), Self::HIGH, z);
         }
         for (i, &why) in self.uses().iter().enumerate() {
             self.rule(&mut b, &mut s, why, fixed + i % (self.variables - fixed), &value);

@@ -1,14 +1,16 @@
 //! How long the proved calls take, beside (1) Rust written for speed alone, (2) a port of the proved code, statement by statement, and (3) naive
 //! iteration, the second checker. Rows of one kind double in size, so that the table shows how the time grows. Before anything is timed, the first
-//! two are held to the proved calls: every answer, and every byte of the lent buffer and around it, on the rows and on seeded inputs.
+//! two are held to the proved calls: every answer, and every byte of the lent buffer and around it, on the rows, on seeded inputs and on the same
+//! inputs with variables founded from above.
 //!
 //! bench: the table. bench hold [seeded inputs] [first seed]: no table.
 mod fast;
 mod files;
 mod port;
+mod turned;
 
-use files::{capped, circle, desk, followers, halves, led, led_by_two, mixed, mixed_in_use, ring, roster, row_13};
-use files::{Plan, Posts, Seed, ALL, DIVIDED, LONG, UNDIVIDED, UNUSED, USED, WITHOUT_SIZE};
+use files::{arrivals, capped, circle, circle_of, desk, followers, halves, led, led_by_two, mixed, mixed_in_use, ring, ring_of_both, roster};
+use files::{roster_of, row_13, Plan, Posts, Seed, ABOVE, ALL, BELOW, BOTH, DIVIDED, LONG, UNDIVIDED, UNUSED, USED, WITHOUT_SIZE};
 use std::hint::black_box;
 use std::process::exit;
 use std::time::{Duration, Instant};
@@ -103,14 +105,22 @@ fn hold(plans: &[Plan], first: u64, inputs: u64) {
             }
         }
     }
+    // how many of the turned inputs are stable, and unfounded
+    let (mut stable, mut unfounded) = (0, 0);
     for seed in first..first + inputs {
         let input = second::gen::input(seed);
-        if !same(&input.file, &input.assignment, input.buffer) {
+        let turned = turned::turned(seed, &input.file, &input.assignment);
+        if !same(&input.file, &input.assignment, input.buffer) || !same(&turned.file, &turned.assignment, input.buffer) {
             println!("answers differ: seed {seed}");
             exit(1);
         }
+        let mut report = [0; 12 * port::VARIABLES];
+        let word = if turned.file == input.file { 0 } else { port::check_call(&turned.file, &turned.assignment, &mut report) & 0xFF };
+        stable += (word == 1) as u64;
+        unfounded += (word == 2) as u64;
     }
-    println!("The fast and the ported calls answer as the proved ones, byte for byte, on the rows and on {inputs} seeded inputs.");
+    println!("The fast and the ported calls answer as the proved ones, byte for byte, on the rows, on {inputs} seeded inputs and on the same with");
+    println!("variables founded from above, of which {stable} are stable and {unfounded} unfounded.");
 }
 
 const ROUNDS: usize = 25;
@@ -147,12 +157,13 @@ fn middle<T: Copy + PartialOrd>(mut all: Vec<T>) -> T {
     all[all.len() / 2]
 }
 
-/// One line of the table; naive iteration is left out where it would take minutes.
+/// One line of the table; naive iteration is left out where it would take minutes, and where it reads the file in another way.
 fn line(p: &Plan, row: &Row) {
-    let naive = row.name != "least" || !p.name.contains("reverse");
+    let accepts = matches!(second::read(&p.file), second::Reading::Accepted { .. });
+    let naive = accepts == port::read(&p.file).is_ok() && (row.name != "least" || !p.name.contains("reverse"));
     let times = medians(&row.calls[..if naive { 4 } else { 3 }], p);
     let ratio = |i: usize| times.get(i).map_or("-".to_string(), |t| format!("{:.2}", t.1));
-    print!("{:<36} {:<5} {:>10}", p.name, row.name, shown(times[0].0));
+    print!("{:<38} {:<5} {:>10}", p.name, row.name, shown(times[0].0));
     println!(" {:>10} {:>7} {:>10} {:>7} {:>7}", shown(times[1].0), ratio(1), shown(times[2].0), ratio(2), ratio(3));
 }
 
@@ -223,14 +234,37 @@ fn plans() -> Vec<Plan> {
         plans.push(capped(&format!("circle of {n}, halves up to a cap"), n));
     }
     plans.push(led_by_two("followers of two in one circle", 256));
+    plans.extend(plans_from_above());
     plans
+}
+
+/// Plans with variables that are founded from above.
+fn plans_from_above() -> Vec<Plan> {
+    let week = Posts { kinds: ABOVE, variables: 64, rules: 300, constraints: 20, terms: 4, forms: UNDIVIDED, mixed: 40, idle: 150 };
+    let limit = Posts { kinds: ABOVE, variables: 256, rules: 748, constraints: 512, terms: 16, forms: LONG, mixed: 16, idle: 180 };
+    let both = Posts { kinds: BOTH, ..limit };
+    vec![
+        arrivals("arrivals, 16 variables", 16, 40),
+        arrivals("arrivals, 64 variables", 64, 256),
+        arrivals("arrivals, 256 variables, 1,024 rules", 256, 1_024),
+        roster_of("week's desk from above, forms 1 to 8", ABOVE, 64, 300, 20, 4, ALL),
+        roster_of("week's desk, both kinds, forms 1 to 8", BOTH, 64, 300, 20, 4, ALL),
+        roster_of("at the limits, both kinds, forms 1-8", BOTH, 256, 1_350, 512, 9, ALL),
+        week.plan("week's desk from above, mixed places"),
+        limit.plan("at the limits, from above, mixed"),
+        both.plan("at the limits, both kinds, mixed"),
+        circle_of("circle of 256 from above, whole range", ABOVE, 256, false),
+        circle_of("circle of 256, both kinds, whole range", BOTH, 256, false),
+        ring_of_both("unfounded ring of 256, both kinds", 256, false),
+        ring_of_both("ring of 256, both kinds, conditions", 256, true),
+    ]
 }
 
 /// Plans that are accepted thanks to their idle rules.
 fn idle_plans() -> [Plan; 3] {
-    let small = Posts { variables: 16, rules: 40, constraints: 4, terms: 3, forms: WITHOUT_SIZE, mixed: 1, idle: 12 };
-    let week = Posts { variables: 64, rules: 300, constraints: 20, terms: 4, forms: UNDIVIDED, mixed: 40, idle: 150 };
-    let limit = Posts { variables: 256, rules: 748, constraints: 512, terms: 16, forms: LONG, mixed: 16, idle: 180 };
+    let small = Posts { kinds: BELOW, variables: 16, rules: 40, constraints: 4, terms: 3, forms: WITHOUT_SIZE, mixed: 1, idle: 12 };
+    let week = Posts { kinds: BELOW, variables: 64, rules: 300, constraints: 20, terms: 4, forms: UNDIVIDED, mixed: 40, idle: 150 };
+    let limit = Posts { kinds: BELOW, variables: 256, rules: 748, constraints: 512, terms: 16, forms: LONG, mixed: 16, idle: 180 };
     [
         small.plan("small roster, a mixed place, 12 idle"),
         week.plan("week's desk, mixed places, half idle"),
@@ -249,7 +283,7 @@ fn main() {
     println!("Times and ratios (the proved call's time by the other's) are medians of {ROUNDS} rounds of one run, {SLOW} for calls over 20 ms; in a");
     println!("round every program has its turn, about 1 ms.");
     println!("fast: Rust for speed alone, by its own algorithms; port: the proved code in Rust, statement by statement; naive: the second checker.\n");
-    print!("{:<36} {:<5} {:>10}", "input", "call", "proved");
+    print!("{:<38} {:<5} {:>10}", "input", "call", "proved");
     println!(" {:>10} {:>7} {:>10} {:>7} {:>7}", "fast", "/ fast", "port", "/ port", "/ naive");
     for p in &plans {
         for row in [READ, LEAST, CHECK] {

@@ -20,7 +20,7 @@ fn word(s: &[u8], i: usize) -> usize {
     (s[i] as usize) << 8 | s[i + 1] as usize
 }
 
-fn number(s: &[u8], i: usize) -> i64 {
+pub fn number(s: &[u8], i: usize) -> i64 {
     i64::from(i16::from_be_bytes([s[i], s[i + 1]]))
 }
 
@@ -66,6 +66,42 @@ fn high(file: &[u8], x: usize) -> i64 {
     number(file, 8 * x + 6)
 }
 
+fn is_founded(file: &[u8], x: usize) -> bool {
+    let (below, above) = (kind(file, x) == 1, kind(file, x) == 2);
+    below | above
+}
+
+fn is_from_above(file: &[u8], x: usize) -> bool {
+    kind(file, x) == 2
+}
+
+/// The end of its range from which rules lift a variable.
+fn start(file: &[u8], x: usize) -> i64 {
+    if is_from_above(file, x) {
+        high(file, x)
+    } else {
+        low(file, x)
+    }
+}
+
+/// The other end.
+fn far(file: &[u8], x: usize) -> i64 {
+    if is_from_above(file, x) {
+        low(file, x)
+    } else {
+        high(file, x)
+    }
+}
+
+/// Whether a comes before b in a variable's order.
+fn is_before(file: &[u8], x: usize, a: i64, b: i64) -> bool {
+    if is_from_above(file, x) {
+        b < a
+    } else {
+        a < b
+    }
+}
+
 fn literal_position(form: u8, i: usize) -> bool {
     form == 6 || form == 7 && i > 0
 }
@@ -85,7 +121,7 @@ fn divisor_part(v: &[u8]) -> &[u8] {
 }
 
 /// Of form 8; 1 where it is missing.
-fn divisor(v: &[u8]) -> i64 {
+pub fn divisor(v: &[u8]) -> i64 {
     let part = divisor_part(v);
     if part.len() < 4 {
         return 1;
@@ -170,7 +206,7 @@ fn terms_fit(len: usize, header: usize, most: usize) -> bool {
 fn check_variable(v: &[u8]) -> u8 {
     if v.len() != 5 {
         6
-    } else if v[0] > 1 {
+    } else if v[0] > 2 {
         7
     } else if beyond(number(v, 1), 30_000) || beyond(number(v, 3), 30_000) || number(v, 1) > number(v, 3) {
         8
@@ -180,7 +216,7 @@ fn check_variable(v: &[u8]) -> u8 {
 }
 
 fn wrong_head(file: &[u8], variables: usize, head: usize) -> bool {
-    head >= variables || kind(file, head) != 1
+    head >= variables || !is_founded(file, head)
 }
 
 /// A rule of a right length and of another form than 8.
@@ -290,9 +326,9 @@ enum Direction {
     Mixed,
 }
 
-fn direction(file: &[u8], v: &[u8], i: usize) -> Direction {
-    let t = &body(v)[4 * i..4 * i + 4];
-    match v[0] {
+/// A plain term, by the form of its rule: which way what the rule gives goes with it.
+fn plain_direction(file: &[u8], form: u8, t: &[u8]) -> Direction {
+    match form {
         1 | 8 if number(t, 2) < 0 => Direction::Falling,
         5 => {
             let x = t[0] as usize;
@@ -304,51 +340,101 @@ fn direction(file: &[u8], v: &[u8], i: usize) -> Direction {
                 Direction::Mixed
             }
         }
-        6 | 7 if t[1] == 2 => Direction::Falling,
         _ => Direction::Rising,
     }
+}
+
+/// A direction, turned where moving away from the variable's starting end is moving down.
+fn away(file: &[u8], x: usize, d: Direction) -> Direction {
+    if !is_from_above(file, x) {
+        return d;
+    }
+    match d {
+        Direction::Rising => Direction::Falling,
+        Direction::Falling => Direction::Rising,
+        Direction::Mixed => Direction::Mixed,
+    }
+}
+
+/// A position, by the op of its term.
+fn direction(file: &[u8], v: &[u8], i: usize) -> Direction {
+    let t = &body(v)[4 * i..4 * i + 4];
+    match t[1] {
+        0 => away(file, v[1] as usize, plain_direction(file, v[0], t)),
+        1 => Direction::Rising,
+        2 => Direction::Falling,
+        _ => Direction::Mixed,
+    }
+}
+
+/// Whether the reduct keeps the variable where it pushes this way.
+fn is_kept(file: &[u8], x: usize, d: Direction) -> bool {
+    let more = away(file, x, d) == Direction::Rising;
+    more & is_founded(file, x)
 }
 
 fn rule_value(file: &[u8], at: usize) -> &[u8] {
     &file[at + 3..at + 3 + word(file, at + 1)]
 }
 
-// ---- idle rules: they give nothing, or no more than their head's low, whatever values their variables have in their ranges
+// ---- idle rules: they give nothing, or no more than their head's starting end, whatever values their variables have in their ranges
 
-/// The value from low to high at which a position that pushes this way makes its rule give most.
-fn demanding(d: Direction, low: i64, high: i64) -> i64 {
+/// Of the values from low to high one that is furthest from 0.
+fn furthest(low: i64, high: i64) -> i64 {
+    if low.abs() < high.abs() {
+        high
+    } else {
+        low
+    }
+}
+
+/// Of the values from low to high the one that is nearest to 0.
+fn nearest(low: i64, high: i64) -> i64 {
+    if 0 < low {
+        return low;
+    }
+    if high < 0 {
+        high
+    } else {
+        0
+    }
+}
+
+/// The value from low to high at which a position that pushes this way makes a rule demand most; `above` where its head is founded from above.
+fn demanding(above: bool, d: Direction, low: i64, high: i64) -> i64 {
     match d {
         Direction::Rising => high,
         Direction::Falling => low,
-        Direction::Mixed if low.abs() < high.abs() => high,
-        Direction::Mixed => low,
+        Direction::Mixed if above => nearest(low, high),
+        Direction::Mixed => furthest(low, high),
     }
 }
 
-fn set_position(values: &mut Values, file: &[u8], v: &[u8], i: usize) {
+fn set_position(values: &mut Values, file: &[u8], v: &[u8], above: bool, i: usize) {
     let x = body(v)[4 * i] as usize;
     let d = direction(file, v, i);
-    values[x] = demanding(d, low(file, x), high(file, x));
+    values[x] = demanding(above, d, low(file, x), high(file, x));
 }
 
 /// Gives every variable of the body that value.
-fn set_most(values: &mut Values, file: &[u8], v: &[u8]) {
+fn set_most(values: &mut Values, file: &[u8], v: &[u8], above: bool) {
     for i in 0..positions(v) {
-        set_position(values, file, v, i);
+        set_position(values, file, v, above, i);
     }
 }
 
-/// Whether what is given is nothing or no more than the low of a head.
-fn is_no_more(low: i64, given: Option<i64>) -> bool {
+/// Whether what is given is nothing or no more than the starting end of a head.
+fn is_no_more(file: &[u8], head: usize, given: Option<i64>) -> bool {
     let Some(a) = given else { return true };
-    a <= low
+    !is_before(file, head, start(file, head), a)
 }
 
 /// Whether the rule in a field's value is idle. The values are lent for it.
 fn is_idle(values: &mut Values, file: &[u8], v: &[u8]) -> bool {
-    set_most(values, file, v);
+    let head = v[1] as usize;
+    set_most(values, file, v, is_from_above(file, head));
     let most = gives(v, 0, values, values);
-    is_no_more(low(file, v[1] as usize), most)
+    is_no_more(file, head, most)
 }
 
 // ---- validity: for each variable a row of those that it reaches
@@ -361,8 +447,9 @@ fn mark_rule(rows: &mut Rows, values: &mut Values, file: &[u8], v: &[u8]) {
         return;
     }
     for i in 0..positions(v) {
-        if direction(file, v, i) != Direction::Falling {
-            let x = body(v)[4 * i] as usize;
+        let x = body(v)[4 * i] as usize;
+        let d = direction(file, v, i);
+        if is_kept(file, x, d) | (d == Direction::Mixed) {
             rows[v[1] as usize][x / 64] |= 1 << (x % 64);
         }
     }
@@ -396,7 +483,7 @@ fn offends(rows: &Rows, values: &mut Values, file: &[u8], v: &[u8]) -> bool {
 }
 
 /// The rules' values, each with the place of its field.
-fn rules(file: &[u8], k: Counts) -> impl Iterator<Item = (usize, &[u8])> {
+pub fn rules(file: &[u8], k: Counts) -> impl Iterator<Item = (usize, &[u8])> {
     let mut next = 8 * k.variables;
     (0..k.rules).map(move |_| {
         let at = next;
@@ -458,7 +545,7 @@ fn holds(t: &[u8], value: i64) -> bool {
     }
 }
 
-type Values = [i64; VARIABLES];
+pub type Values = [i64; VARIABLES];
 
 /// a over d, rounded up.
 fn over_up(a: i64, d: i64) -> i64 {
@@ -484,7 +571,7 @@ fn extreme(most: bool, a: i64, b: i64) -> i64 {
 }
 
 /// What the rule in a field's value gives, kept positions read in the model.
-fn gives(v: &[u8], mask: u32, model: &Values, assigned: &Values) -> Option<i64> {
+pub fn gives(v: &[u8], mask: u32, model: &Values, assigned: &Values) -> Option<i64> {
     let (form, c) = (v[0], number(v, 2));
     let body = body(v);
     let terms = body.len() / 4;
@@ -539,7 +626,7 @@ fn tables(file: &[u8], k: Counts) -> Tables {
         t.offsets[i] = t.end;
         for j in 0..positions(v) {
             let x = body(v)[4 * j] as usize;
-            if direction(file, v, j) == Direction::Rising && kind(file, x) == 1 {
+            if is_kept(file, x, direction(file, v, j)) {
                 t.masks[i] |= 1 << j;
                 t.readers[x * ROW + i / 64] |= 1 << (i % 64);
             }
@@ -552,7 +639,7 @@ fn tables(file: &[u8], k: Counts) -> Tables {
 /// The values reach the least model, or a rule asks for more than its head's range has.
 fn run(file: &[u8], k: Counts, t: &Tables, assigned: &Values, model: &mut Values) -> bool {
     for v in 0..k.variables {
-        model[v] = if kind(file, v) == 1 { low(file, v) } else { assigned[v] };
+        model[v] = if is_founded(file, v) { start(file, v) } else { assigned[v] };
     }
     let mut waiting = [0u64; ROW];
     for i in 0..k.rules {
@@ -563,8 +650,8 @@ fn run(file: &[u8], k: Counts, t: &Tables, assigned: &Values, model: &mut Values
         let v = rule_value(file, t.offsets[i]);
         let head = v[1] as usize;
         if let Some(a) = gives(v, t.masks[i], model, assigned) {
-            if a > model[head] {
-                if a > high(file, head) {
+            if is_before(file, head, model[head], a) {
+                if is_before(file, head, far(file, head), a) {
                     return false;
                 }
                 model[head] = a;
@@ -588,7 +675,7 @@ fn open(file: &[u8], assignment: &[u8], room: usize, bytes: usize) -> Result<Cou
     Ok(k)
 }
 
-fn load(assignment: &[u8]) -> Values {
+pub fn load(assignment: &[u8]) -> Values {
     let mut values = [0; VARIABLES];
     for v in 0..assignment.len() / 2 {
         values[v] = number(assignment, 2 * v);
@@ -660,7 +747,8 @@ pub fn check_call(file: &[u8], assignment: &[u8], report: &mut [u8]) -> u64 {
     let t = tables(file, k);
     for i in 0..k.rules {
         let v = rule_value(file, t.offsets[i]);
-        if gives(v, 0, &assigned, &assigned).is_some_and(|a| a > assigned[v[1] as usize]) {
+        let head = v[1] as usize;
+        if gives(v, 0, &assigned, &assigned).is_some_and(|a| is_before(file, head, assigned[head], a)) {
             return pack(4, i, 0, 0);
         }
     }
@@ -678,12 +766,18 @@ pub fn check_call(file: &[u8], assignment: &[u8], report: &mut [u8]) -> u64 {
 }
 
 fn shown(file: &[u8], k: Counts, t: &Tables, assigned: &Values, model: &Values, report: &mut [u8]) -> u64 {
-    let mut set = [0u64; 4];
+    let (mut below, mut above) = ([0u64; 4], [0u64; 4]);
     for v in 0..k.variables {
-        if kind(file, v) == 1 && model[v] < assigned[v] {
-            set[v / 64] |= 1 << (v % 64);
+        let short = is_founded(file, v) & is_before(file, v, model[v], assigned[v]);
+        let down = is_from_above(file, v);
+        if short & !down {
+            below[v / 64] |= 1 << (v % 64);
+        }
+        if short & down {
+            above[v / 64] |= 1 << (v % 64);
         }
     }
+    let set: [u64; 4] = std::array::from_fn(|w| below[w] | above[w]);
     if count(&set) == 0 {
         return pack(1, 0, 0, 0);
     }
@@ -700,13 +794,13 @@ fn shown(file: &[u8], k: Counts, t: &Tables, assigned: &Values, model: &Values, 
             if d == Direction::Mixed || d == Direction::Rising && !except {
                 most[x / 64] |= 1 << (x % 64);
             }
-            if d != Direction::Rising {
+            if d == Direction::Mixed || d == Direction::Falling && !except {
                 least[x / 64] |= 1 << (x % 64);
             }
         }
     }
-    let (bounds, none) = (count(&set), [0; 4]);
-    put_marked(report, (&set, 0), (&none, 0), model);
+    let bounds = count(&below) + count(&above);
+    put_marked(report, (&below, 0), (&above, 3), model);
     put_marked(&mut report[4 * bounds..], (&most, 1), (&least, 2), assigned);
     pack(2, bounds, count(&most) + count(&least), 0)
 }

@@ -59,7 +59,7 @@ pub fn check_call(file: &[u8], assignment: &[u8], report: &mut [u8]) -> u64 {
         Ok(opened) => opened,
         Err(answer) => return answer,
     };
-    let unmet = |r: &read::Rule| run::above(program.variables, r, &assigned, &assigned, assigned[r.head as usize]).is_some();
+    let unmet = |r: &read::Rule| run::more(program.variables, r, &assigned, &assigned, assigned[r.head as usize]).is_some();
     if let Some(i) = program.rules.iter().position(unmet) {
         return pack(4, i, 0, 0);
     }
@@ -79,8 +79,13 @@ fn shown(program: &Program, assigned: &Values, model: &Values, set: &Set, report
         for (i, t) in rule.terms.iter().enumerate() {
             let x = t[0];
             let (rising, falling) = read::directions(program.variables, rule, i);
-            let kept = rising && !falling && read::founded(&program.variables[x as usize]);
-            if rising && !(kept && set.has(x)) {
+            let v = &program.variables[x as usize];
+            // a mixed place is not kept, nor is one of a variable that moves the other way
+            let kept = read::founded(v) && (rising != falling) && falling == read::from_above(v);
+            if kept && set.has(x) {
+                continue;
+            }
+            if rising {
                 most.put(x);
             }
             if falling {
@@ -97,7 +102,8 @@ fn shown(program: &Program, assigned: &Values, model: &Values, set: &Set, report
     };
     let (mut bounds, mut conditions) = (0, 0);
     for v in set.members() {
-        put(v, 0, model[v as usize]);
+        let mark = if read::from_above(&program.variables[v as usize]) { 3 } else { 0 };
+        put(v, mark, model[v as usize]);
         bounds += 1;
     }
     for v in most.or(&least).members() {

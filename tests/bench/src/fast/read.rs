@@ -1,6 +1,6 @@
 //! Reading. A field that is in order takes the short way; one that is not ends the reading, and `why` finds its number.
 use super::graph::Graph;
-use super::run::{above, Values};
+use super::run::{more, Values};
 
 const BYTES: usize = 60_000;
 const VARIABLES: usize = 256;
@@ -12,11 +12,12 @@ const TERMS: usize = 16;
 pub type Variable = [u8; 8];
 pub type Term = [u8; 4];
 
-/// Only form 8 has a divisor, which stands beside the terms, and is only asked for there.
+/// Only form 8 has a divisor, which stands beside the terms, and is only asked for there. `down` where the head is founded from above.
 #[derive(Clone, Copy)]
 pub struct Rule<'a> {
     pub form: u8,
     pub head: u8,
+    pub down: bool,
     pub c: i16,
     pub divisor: i16,
     pub terms: &'a [Term],
@@ -83,7 +84,11 @@ impl<'a> Program<'a> {
 }
 
 pub fn founded(v: &Variable) -> bool {
-    v[3] == 1
+    v[3] != 0
+}
+
+pub fn from_above(v: &Variable) -> bool {
+    v[3] == 2
 }
 
 pub fn low(v: &Variable) -> i16 {
@@ -107,7 +112,7 @@ fn coefficient(z: i16) -> bool {
 }
 
 fn variable_in_order(v: &Variable) -> bool {
-    v[..3] == [1, 0, 5] && v[3] <= 1 && low(v) >= -30_000 && high(v) <= 30_000 && low(v) <= high(v)
+    v[..3] == [1, 0, 5] && v[3] <= 2 && low(v) >= -30_000 && high(v) <= 30_000 && low(v) <= high(v)
 }
 
 /// The number of a divisor that is in order.
@@ -205,8 +210,9 @@ impl Bodies<'_> {
 }
 
 /// A rule with its divisor, where it has one, still among its terms.
-fn rule<'a>(start: &[u8], terms: &'a [Term]) -> Rule<'a> {
-    Rule { form: start[0], head: start[1], c: i16::from_be_bytes([start[2], start[3]]), divisor: 1, terms }
+fn rule<'a>(variables: &[Variable], start: &[u8], terms: &'a [Term]) -> Rule<'a> {
+    let down = variables.get(start[1] as usize).is_some_and(from_above);
+    Rule { form: start[0], head: start[1], down, c: i16::from_be_bytes([start[2], start[3]]), divisor: 1, terms }
 }
 
 pub fn read<'a>(file: &'a [u8], to: &mut impl Sink<'a>) -> Result<Counted<'a>, Refusal> {
@@ -221,7 +227,7 @@ pub fn read<'a>(file: &'a [u8], to: &mut impl Sink<'a>) -> Result<Counted<'a>, R
     let mut rest = &file[8 * count..];
     to.room(rest.len(), 0);
     while let Some((start, terms, after)) = value(rest, 2, 4, TERMS + 1) {
-        let mut rule = rule(start, terms);
+        let mut rule = rule(variables, start, terms);
         if n.rules == RULES || !bodies.rule(&mut rule, rest.len()) {
             break;
         }
@@ -248,17 +254,18 @@ pub fn read<'a>(file: &'a [u8], to: &mut impl Sink<'a>) -> Result<Counted<'a>, R
     }
 }
 
-/// Whether a place pushes up, and whether it pushes down.
+/// Whether a place makes its rule demand more where it is larger, and whether it does where it is smaller. A literal does so whatever the head is.
 pub fn directions(variables: &[Variable], rule: &Rule, i: usize) -> (bool, bool) {
     let t = &rule.terms[i];
     let falls = match rule.form {
-        1 | 8 => number(t) < 0,
+        1 | 8 => rule.down ^ (number(t) < 0),
         5 => {
             let v = &variables[t[0] as usize];
-            return (low(v) >= 0 || high(v) > 0, low(v) < 0);
+            let (up, down) = (low(v) >= 0 || high(v) > 0, low(v) < 0);
+            return if rule.down { (down, up) } else { (up, down) };
         }
-        6 | 7 => t[1] == 2,
-        _ => false,
+        _ if t[1] != 0 => t[1] == 2,
+        _ => rule.down,
     };
     (!falls, falls)
 }
@@ -266,8 +273,13 @@ pub fn directions(variables: &[Variable], rule: &Rule, i: usize) -> (bool, bool)
 /// Whether a rule of form 5 is idle.
 fn idle_size(variables: &[Variable], rule: &Rule) -> bool {
     let x = &variables[rule.terms[0][0] as usize];
-    let most = (high(x) as i32).max(-(low(x) as i32));
-    rule.c as i32 + most <= low(&variables[rule.head as usize]) as i32
+    let head = &variables[rule.head as usize];
+    let (low_x, high_x, c) = (low(x) as i32, high(x) as i32, rule.c as i32);
+    if rule.down {
+        c + low_x.max(-high_x).max(0) >= high(head) as i32
+    } else {
+        c + high_x.max(-low_x) <= low(head) as i32
+    }
 }
 
 /// Whether a rule of form 5 has a founded variable at a mixed place and is not idle.
@@ -295,14 +307,15 @@ fn first_offending(file: &[u8], n: &Counted, mixed: &[(usize, u8, u8)]) -> Optio
     let mut rest = &file[8 * n.variables.len()..];
     while let Some((start, terms, after)) = value(rest, 2, 4, TERMS + 1) {
         rest = after;
-        let mut rule = rule(start, terms);
+        let mut rule = rule(n.variables, start, terms);
         if rule.form == 8 {
             (rule.divisor, rule.terms) = (number(&terms[0]), &terms[1..]);
         }
-        // a rule gives most where its rising places have their highs and its falling ones their lows
+        // a rule demands most where its rising places have their highs and its falling ones their lows
+        let start = if rule.down { &highs } else { &lows };
         let idle = match rule.form {
             5 => idle_size(n.variables, &rule),
-            _ => above(n.variables, &rule, &highs, &lows, lows[rule.head as usize]).is_none(),
+            _ => more(n.variables, &rule, &highs, &lows, start[rule.head as usize]).is_none(),
         };
         if !idle {
             draw(&mut graph, n.variables, &rule);
@@ -313,14 +326,22 @@ fn first_offending(file: &[u8], n: &Counted, mixed: &[(usize, u8, u8)]) -> Optio
     mixed.iter().find(|(_, head, x)| component(*head) == component(*x)).map(|(left, ..)| *left)
 }
 
-/// The edges of a rule that is not idle.
+/// The edges of a rule that is not idle: to its kept and mixed places. Those to standard variables, which head no rule, do no harm.
 fn draw(graph: &mut Graph, variables: &[Variable], rule: &Rule) {
+    let turned = |t: &Term| from_above(&variables[t[0] as usize]);
+    let plain = |t: &Term| !(rule.down ^ turned(t));
+    let literal = |t: &Term| (t[1] == 1) ^ turned(t);
     let terms = rule.terms.iter();
     match rule.form {
-        1 | 8 => graph.edges_where(rule.head, terms.map(|t| (t[0], number(t) > 0))),
-        5 if !directions(variables, rule, 0).0 => {}
-        6 | 7 => graph.edges_where(rule.head, terms.map(|t| (t[0], t[1] != 2))),
-        _ => graph.edges(rule.head, terms.map(|t| t[0])),
+        1 | 8 => graph.edges_where(rule.head, terms.map(|t| (t[0], (number(t) < 0) ^ plain(t)))),
+        5 => {
+            let t = &rule.terms[0];
+            let (up, down) = directions(variables, rule, 0);
+            graph.edges_where(rule.head, [(t[0], if turned(t) { down } else { up })].into_iter());
+        }
+        6 => graph.edges_where(rule.head, terms.map(|t| (t[0], literal(t)))),
+        7 => graph.edges_where(rule.head, terms.map(|t| (t[0], if t[1] == 0 { plain(t) } else { literal(t) }))),
+        _ => graph.edges_where(rule.head, terms.map(|t| (t[0], plain(t)))),
     }
 }
 
@@ -362,7 +383,7 @@ fn why(rest: &[u8], n: &Counted) -> usize {
         return 6;
     }
     if *tag == 1 {
-        return if value[0] > 1 { 7 } else { 8 };
+        return if value[0] > 2 { 7 } else { 8 };
     }
     let terms: &[Term] = value[start..].as_chunks().0;
     let c = i16::from_be_bytes([value[start - 2], value[start - 1]]);

@@ -1,17 +1,17 @@
 //! The least model. A few sweeps over the rules as they stand are enough for most plans; then the reduct is written out, its constant parts
 //! folded, and run component by component, each round by round over the rules that wait.
 use super::graph::Graph;
-use super::read::{founded, high, low, number, Constraint, Program, Rule, Term, Variable};
+use super::read::{founded, from_above, high, low, number, Constraint, Program, Rule, Term, Variable};
 use super::set::Set;
 
 pub type Values = [i16; 256];
 
-fn holds(t: &Term, model: &Values, assigned: &Values) -> bool {
+fn holds(t: &Term, ups: &Values, downs: &Values) -> bool {
     let x = t[0] as usize;
     if t[1] == 1 {
-        model[x] >= number(t)
+        ups[x] >= number(t)
     } else {
-        assigned[x] < number(t)
+        downs[x] < number(t)
     }
 }
 
@@ -24,40 +24,71 @@ fn over_up(a: i32, d: i32) -> i32 {
     }
 }
 
+/// a over d, rounded down.
+fn over_down(a: i32, d: i32) -> i32 {
+    -over_up(-a, d)
+}
+
 /// The sum over d, rounded up, where that is more than `than`, which is where the sum is more than d times that; no other sum is divided.
 fn divided(sum: i32, d: i16, than: i16) -> Option<i32> {
     (sum > d as i32 * than as i32).then(|| over_up(sum, d as i32))
 }
 
-/// What the rule gives where that is more than `than`. Standard variables have their assigned values in the model, so rising places read it.
-pub fn above(variables: &[Variable], rule: &Rule, model: &Values, assigned: &Values, than: i16) -> Option<i32> {
-    let at = |t: &Term| model[t[0] as usize] as i32;
+/// The same where that is less than `than`.
+fn divided_below(sum: i32, d: i16, than: i16) -> Option<i32> {
+    (sum <= d as i32 * (than as i32 - 1)).then(|| over_up(sum, d as i32))
+}
+
+/// What the rule gives where that is more than `than` in its head's order.
+pub fn more(variables: &[Variable], rule: &Rule, ups: &Values, downs: &Values, than: i16) -> Option<i32> {
+    if rule.down {
+        past::<true>(variables, rule, ups, downs, than)
+    } else {
+        past::<false>(variables, rule, ups, downs, than)
+    }
+}
+
+/// The same, `DOWN` where the head is founded from above. Rising places read `ups`, falling ones `downs`: of a model, `ups` has the variables that
+/// are founded from above as assigned, `downs` all others, so that each place is read in the model just where it is kept.
+fn past<const DOWN: bool>(variables: &[Variable], rule: &Rule, ups: &Values, downs: &Values, than: i16) -> Option<i32> {
+    let (more, less) = if DOWN { (downs, ups) } else { (ups, downs) };
+    let at = |t: &Term| more[t[0] as usize] as i32;
+    let exceeds = |given: i32| if DOWN { given < than as i32 } else { given > than as i32 };
     let c = rule.c as i32;
     let sum = |terms: &[Term]| {
         terms.iter().fold(c, |sum, t| {
             let k = number(t) as i32;
             let x = t[0] as usize;
-            sum + k * if k > 0 { model[x] } else { assigned[x] } as i32
+            sum + k * if k > 0 { more[x] } else { less[x] } as i32
         })
     };
     let given = match (rule.form, rule.terms) {
         (1, terms) => sum(terms),
+        (8, terms) if DOWN => return divided_below(sum(terms), rule.divisor, than),
         (8, terms) => return divided(sum(terms), rule.divisor, than),
         (2, terms) => c + terms.iter().map(at).max()?,
         (3, terms) => c + terms.iter().map(at).min()?,
         (4, [a, b]) => c + at(a) * at(b),
         (5, [t]) => {
-            let rising = low(&variables[t[0] as usize]) >= 0;
-            c + if rising { at(t) } else { (assigned[t[0] as usize] as i32).abs() }
+            let (x, v) = (t[0] as usize, &variables[t[0] as usize]);
+            let mixed = if from_above(v) { ups } else { downs };
+            let read = if low(v) >= 0 {
+                more
+            } else if high(v) <= 0 {
+                less
+            } else {
+                mixed
+            };
+            c + (read[x] as i32).abs()
         }
-        (6, literals) => return (rule.c > than && literals.iter().all(|t| holds(t, model, assigned))).then_some(c),
+        (6, literals) => return (exceeds(c) && literals.iter().all(|t| holds(t, ups, downs))).then_some(c),
         (_, [first, literals @ ..]) => {
             let given = c + at(first);
-            return (given > than as i32 && literals.iter().all(|t| holds(t, model, assigned))).then_some(given);
+            return (exceeds(given) && literals.iter().all(|t| holds(t, ups, downs))).then_some(given);
         }
         _ => return None,
     };
-    (given > than as i32).then_some(given)
+    exceeds(given).then_some(given)
 }
 
 pub fn satisfied(constraint: &Constraint, values: &Values) -> bool {
@@ -68,11 +99,30 @@ pub fn satisfied(constraint: &Constraint, values: &Values) -> bool {
     }
 }
 
-/// The model of a run. In `least` no value passes its high; in `check` none passes the assigned one, since the assignment is a model, and the run
-/// ends when none is short of it.
+/// A value, or its negative where the variable is founded from above, so that every founded variable is raised.
+fn turned(v: &Variable, z: i16) -> i16 {
+    if from_above(v) {
+        -z
+    } else {
+        z
+    }
+}
+
+/// Values, turned.
+fn all_turned(variables: &[Variable], values: &Values) -> Values {
+    let mut turns = *values;
+    for (z, v) in turns.iter_mut().zip(variables) {
+        *z = turned(v, *z);
+    }
+    turns
+}
+
+/// The model of a run, turned, with the turned assignment. In `least` no value passes its far end; in `check` none passes the assigned one, since the
+/// assignment is a model, and the run ends when none is short of it.
 struct Run<'a, const CHECK: bool> {
     program: &'a Program<'a>,
     assigned: &'a Values,
+    goal: Values,
     model: Values,
     short: usize,
 }
@@ -84,13 +134,15 @@ enum End {
 }
 
 impl<const CHECK: bool> Run<'_, CHECK> {
+    /// To a turned value.
     fn raise(&mut self, head: u8, to: i32) -> Result<(), End> {
         let h = head as usize;
-        if !CHECK && to > high(&self.program.variables[h]) as i32 {
+        let v = &self.program.variables[h];
+        if !CHECK && to > if from_above(v) { -(low(v) as i32) } else { high(v) as i32 } {
             return Err(End::NoModel);
         }
         self.model[h] = to as i16;
-        if CHECK && self.model[h] == self.assigned[h] {
+        if CHECK && self.model[h] == self.goal[h] {
             self.short -= 1;
             if self.short == 0 {
                 return Err(End::NoneShort);
@@ -101,18 +153,31 @@ impl<const CHECK: bool> Run<'_, CHECK> {
 
     /// A head of the check that has its assigned value rises no more.
     fn full(&self, head: u8) -> bool {
-        CHECK && self.model[head as usize] == self.assigned[head as usize]
+        CHECK && self.model[head as usize] == self.goal[head as usize]
     }
 
     fn run(&mut self) -> Result<(), End> {
+        let (mut ups, mut downs) = (*self.assigned, *self.assigned);
+        for (x, v) in self.program.variables.iter().enumerate() {
+            let read = if from_above(v) { &mut downs } else { &mut ups };
+            read[x] = turned(v, self.model[x]);
+        }
         for _ in 0..3 {
             let mut raised = false;
             for rule in &self.program.rules {
                 if self.full(rule.head) {
                     continue;
                 }
-                if let Some(to) = above(self.program.variables, rule, &self.model, self.assigned, self.model[rule.head as usize]) {
-                    self.raise(rule.head, to)?;
+                let h = rule.head as usize;
+                let than = if rule.down { downs[h] } else { ups[h] };
+                if let Some(to) = more(self.program.variables, rule, &ups, &downs, than) {
+                    if rule.down {
+                        self.raise(rule.head, -to)?;
+                        downs[h] = to as i16;
+                    } else {
+                        self.raise(rule.head, to)?;
+                        ups[h] = to as i16;
+                    }
                     raised = true;
                 }
             }
@@ -193,16 +258,20 @@ enum Kind {
     /// A kept place times a number.
     One(u8, i16),
     Sum,
-    /// A sum over a number.
+    /// A sum over a number, rounded up, and one rounded down.
     Over(i16),
+    OverDown(i16),
     Max,
     Min,
     Product,
+    /// The negative of a product.
+    Taken,
     If,
     Carry,
 }
 
-/// A rule of the reduct: the kept places alone, with their numbers; `most` is the least of the other places of a min.
+/// A rule of the reduct, all values turned: the kept places alone, with their numbers; `most` is the least of the other places of a min. What it
+/// gives rises with every place, which has no negative number.
 #[derive(Clone, Copy)]
 struct Lift {
     kind: Kind,
@@ -234,9 +303,11 @@ impl Lift {
         match self.kind {
             Kind::Sum => sum(),
             Kind::Over(d) => divided(sum(), d, model[self.head as usize]).unwrap_or(i32::MIN),
+            Kind::OverDown(d) => divided_below(-sum(), d, -model[self.head as usize]).map_or(i32::MIN, |z| -z),
             Kind::Max => self.c + terms.iter().map(at).max().unwrap_or(0),
             Kind::Min => self.c + terms.iter().map(at).fold(self.most, i32::min),
             Kind::Product => self.c + at(&terms[0]) * at(&terms[1]),
+            Kind::Taken => self.c - at(&terms[0]) * at(&terms[1]),
             Kind::If if all(terms) => self.c,
             Kind::Carry if all(&terms[1..]) => self.c + at(&terms[0]),
             _ => i32::MIN,
@@ -307,16 +378,21 @@ impl Reduct {
     }
 }
 
-/// A rule with all but its kept places replaced; nothing where a replaced literal does not hold.
+/// A rule with all but its kept places replaced, and turned; nothing where a replaced literal does not hold.
 fn reduced(program: &Program, rule: &Rule, assigned: &Values, terms: &mut Vec<Kept>) -> Option<Lift> {
     let variable = |t: &Term| &program.variables[t[0] as usize];
-    let is_founded = |t: &Term| founded(variable(t));
+    let down = rule.down;
+    // a plain place that what is given rises with
+    let kept = |t: &Term| founded(variable(t)) && from_above(variable(t)) == down;
     let value = |t: &Term| assigned[t[0] as usize];
-    let mut lift = Lift { kind: Kind::Sum, head: rule.head, component: 0, number: 0, start: 0, end: 0, c: rule.c as i32, most: i32::MAX };
+    let turn = |z: i32| if down { -z } else { z };
+    let c = turn(rule.c as i32);
+    let mut lift = Lift { kind: Kind::Sum, head: rule.head, component: 0, number: 0, start: 0, end: 0, c, most: i32::MAX };
     let literals = |literals: &[Term], terms: &mut Vec<Kept>| {
         for t in literals {
-            if t[1] == 1 && is_founded(t) {
-                terms.push((t[0], number(t)));
+            let x = variable(t);
+            if founded(x) && from_above(x) == (t[1] == 2) {
+                terms.push((t[0], if from_above(x) { 1 - number(t) } else { number(t) }));
             } else if !holds(t, assigned, assigned) {
                 return None;
             }
@@ -327,10 +403,11 @@ fn reduced(program: &Program, rule: &Rule, assigned: &Values, terms: &mut Vec<Ke
         (1 | 8, body) => {
             let start = terms.len();
             for t in body {
-                if number(t) > 0 && is_founded(t) {
-                    terms.push((t[0], number(t)));
+                let (k, x) = (number(t), variable(t));
+                if founded(x) && from_above(x) == (down ^ (k < 0)) {
+                    terms.push((t[0], k.abs()));
                 } else {
-                    lift.c += number(t) as i32 * value(t) as i32;
+                    lift.c += turn(k as i32 * value(t) as i32);
                 }
             }
             if rule.form == 8 {
@@ -338,29 +415,26 @@ fn reduced(program: &Program, rule: &Rule, assigned: &Values, terms: &mut Vec<Ke
                 if kept.iter().all(|t| t.1 % d == 0) {
                     // what is rounded does not depend on the kept places
                     kept.iter_mut().for_each(|t| t.1 /= d);
-                    lift.c = over_up(lift.c, d as i32);
+                    lift.c = if down { over_down(lift.c, d as i32) } else { over_up(lift.c, d as i32) };
                 } else {
-                    lift.kind = Kind::Over(d);
+                    lift.kind = if down { Kind::OverDown(d) } else { Kind::Over(d) };
                 }
             }
         }
-        (2, body) => {
-            lift.kind = Kind::Max;
-            terms.extend(body.iter().filter(|t| is_founded(t)).map(|t| (t[0], 0)));
-        }
-        (3, body) => {
-            lift.kind = Kind::Min;
+        (2 | 3, body) => {
+            // the largest, turned, is the smallest of those turned
+            lift.kind = if (rule.form == 2) ^ down { Kind::Max } else { Kind::Min };
             for t in body {
-                if is_founded(t) {
+                if kept(t) {
                     terms.push((t[0], 0));
                 } else {
-                    lift.most = lift.most.min(value(t) as i32);
+                    lift.most = lift.most.min(turn(value(t) as i32));
                 }
             }
         }
-        (4, [a, b]) => match (is_founded(a), is_founded(b)) {
+        (4, [a, b]) => match (kept(a), kept(b)) {
             (true, true) => {
-                lift.kind = Kind::Product;
+                lift.kind = if down { Kind::Taken } else { Kind::Product };
                 terms.extend([(a[0], 0), (b[0], 0)]);
             }
             (true, false) => terms.push((a[0], value(b))),
@@ -368,7 +442,9 @@ fn reduced(program: &Program, rule: &Rule, assigned: &Values, terms: &mut Vec<Ke
             (false, false) => {}
         },
         (5, [t]) => {
-            if low(variable(t)) >= 0 && is_founded(t) {
+            let x = variable(t);
+            let up = low(x) >= 0;
+            if (up || high(x) <= 0) && founded(x) && from_above(x) == (down == up) {
                 terms.push((t[0], 1));
             }
         }
@@ -377,12 +453,12 @@ fn reduced(program: &Program, rule: &Rule, assigned: &Values, terms: &mut Vec<Ke
             literals(body, terms)?;
         }
         (_, [first, body @ ..]) => {
-            if is_founded(first) {
+            if kept(first) {
                 lift.kind = Kind::Carry;
                 terms.push((first[0], 0));
             } else {
                 lift.kind = Kind::If;
-                lift.c += value(first) as i32;
+                lift.c += turn(value(first) as i32);
             }
             literals(body, terms)?;
         }
@@ -391,11 +467,13 @@ fn reduced(program: &Program, rule: &Rule, assigned: &Values, terms: &mut Vec<Ke
     Some(lift)
 }
 
-/// The founded variables at their lows, the others as assigned.
+/// The founded variables at their starting ends, the others as assigned; turned.
 fn start(program: &Program, assigned: &Values) -> Values {
     let mut model = *assigned;
     for (z, v) in model.iter_mut().zip(program.variables) {
-        if founded(v) {
+        if from_above(v) {
+            *z = -high(v);
+        } else if founded(v) {
             *z = low(v);
         }
     }
@@ -403,23 +481,24 @@ fn start(program: &Program, assigned: &Values) -> Values {
 }
 
 pub fn least(program: &Program, assigned: &Values) -> Option<Values> {
-    let mut run = Run::<false> { program, assigned, model: start(program, assigned), short: 0 };
-    run.run().is_ok().then_some(run.model)
+    let (goal, model) = (all_turned(program.variables, assigned), start(program, assigned));
+    let mut run = Run::<false> { program, assigned, goal, model, short: 0 };
+    run.run().is_ok().then(|| all_turned(program.variables, &run.model))
 }
 
 /// The least model and the variables that are short of their assigned values in it, where there are any; the assignment meets every rule.
 pub fn short(program: &Program, assigned: &Values) -> Option<(Values, Set)> {
-    let model = start(program, assigned);
-    let short = model.iter().zip(assigned).filter(|(a, b)| a != b).count();
-    let mut run = Run::<true> { program, assigned, model, short };
+    let (goal, model) = (all_turned(program.variables, assigned), start(program, assigned));
+    let short = model.iter().zip(&goal).filter(|(a, b)| a != b).count();
+    let mut run = Run::<true> { program, assigned, goal, model, short };
     if short == 0 || run.run().is_err() {
         return None;
     }
     let mut set = Set::EMPTY;
     for v in 0..program.variables.len() {
-        if run.model[v] != assigned[v] {
+        if run.model[v] != goal[v] {
             set.put(v as u8);
         }
     }
-    Some((run.model, set))
+    Some((all_turned(program.variables, &run.model), set))
 }
