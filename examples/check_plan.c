@@ -5,7 +5,7 @@
 
 enum { VARIABLES = 3 };
 
-static const uint8_t COVER[] = {
+static const uint8_t EXAMPLE[] = {
     1, 0, 5, 0, 0, 0, 0, 1,          /* variable 0: standard, 0..1 */
     1, 0, 5, 1, 0, 0, 0, 1,          /* variable 1: founded, 0..1 */
     1, 0, 5, 1, 0, 0, 0, 1,          /* variable 2: founded, 0..1 */
@@ -57,10 +57,10 @@ static void check(const uint8_t *file, size_t file_len, int a, int b, int c)
 
 int main(void)
 {
-    check(COVER, sizeof COVER, 1, 1, 1);
-    check(COVER, sizeof COVER, 0, 1, 1);
-    check(COVER, sizeof COVER, 1, 0, 0);
-    check(COVER, sizeof COVER, 0, 2, 0);
+    check(EXAMPLE, sizeof EXAMPLE, 1, 1, 1);
+    check(EXAMPLE, sizeof EXAMPLE, 0, 1, 1);
+    check(EXAMPLE, sizeof EXAMPLE, 1, 0, 0);
+    check(EXAMPLE, sizeof EXAMPLE, 0, 2, 0);
     check(ARRIVAL, sizeof ARRIVAL, 5, 15, 25);
     check(ARRIVAL, sizeof ARRIVAL, 5, 14, 24);
     check(ARRIVAL, sizeof ARRIVAL, 5, 16, 25);
