@@ -17,7 +17,7 @@ abbrev pub fromAbove : Variable → Bool
 fromAbove x = eqb (x .kind) 2
 
 -- Document 02, wish 3: "For such variables low and high, above and below, more and less swap": the first of two, or the second where x is founded
--- from above. Whatever goes by the kind goes by this
+-- from above. Ends, order, directions, sizes and marks swap by this and by nothing else
 unfoldable pub swaps : {A : Type 0} → Variable → A → A → A
 swaps x a b = cond (fromAbove x) b a
 
