@@ -1,7 +1,7 @@
 -- Sets that take in a variable where a test holds.
 use Prim.Native.Nat.{ℕ, _+_, _<_}
-use mathlib.Core.Path.{_≡_, refl, sym, ap, ap₂, _∙_}
-use mathlib.Core.Bool.{Bool, true, false, _||_, _&&_, or-false, or-comm}
+use mathlib.Core.Path.{_≡_, sym, ap, ap₂, _∙_}
+use mathlib.Core.Bool.{Bool, true, false, _||_, _&&_, or-false, or-comm, and-true, and-false}
 use native.Mathlib.Decide.{ℕ-discrete, decLt}
 use native.Mathlib.Omega.{arith}
 use lib.Dec.{eqb, ltb}
@@ -27,14 +27,6 @@ module _ (p : ℕ → Bool) where
       less : Dec (v < n) → (n ≡ v → ⊥) → ltb v n ≡ ltb v (n + 1)
       less (yes l) f = lt-ltb v n l ∙ sym (lt-ltb v (n + 1) (omega arith))
       less (no l) f = le-ltb v n (omega arith) ∙ sym (le-ltb v (n + 1) (omega arith))
-
-      and-true : (a : Bool) → (a && true) ≡ a
-      and-true true = refl
-      and-true false = refl
-
-      and-false : (a : Bool) → (a && false) ≡ false
-      and-false true = refl
-      and-false false = refl
 
       go : Dec (n ≡ v) → ((ltb v n && p v) || (p n && eqb n v)) ≡ (ltb v (n + 1) && p v)
       go (yes q) =

@@ -1,7 +1,7 @@
 -- The founded variables whose value in the model comes before their assigned one, one variable after the other.
 use Prim.Native.Nat.{ℕ, _≤_}
 use mathlib.Core.Path.{_≡_, refl, sym, ap, ap₂, _∙_}
-use mathlib.Core.Bool.{Bool, true, false, not, cond, _||_, _&&_}
+use mathlib.Core.Bool.{Bool, true, false, not, cond, _||_, _&&_, and-true, and-false}
 use mathlib.Core.List.{List}
 use native.Mathlib.Omega.{arith}
 use lib.Dec.{ltb}
@@ -75,14 +75,6 @@ module _ (s : List ℕ) (n : ℕ) (set : ℕ → Bool) (none : anyBelow n (λ v.
 
   pub whole-below : (v : ℕ) → set v ≡ fromBelowIn (variablesAt s n) set v
   whole-below v = sym (ap (λ (b : Bool). set v && not b) (not-above v) ∙ and-true (set v))
-    where
-      and-true : (a : Bool) → (a && true) ≡ a
-      and-true true = refl
-      and-true false = refl
 
   pub none-above : {r : ℕ → Bool} → ((v : ℕ) → r v ≡ false) → (v : ℕ) → r v ≡ fromAboveIn (variablesAt s n) set v
   none-above h v = h v ∙ sym (ap (λ (b : Bool). set v && b) (not-above v) ∙ and-false (set v))
-    where
-      and-false : (a : Bool) → (a && false) ≡ false
-      and-false true = refl
-      and-false false = refl

@@ -42,35 +42,31 @@ Onward le Rising a b = T (le a b)
 Onward le Falling a b = T (le b a)
 Onward le Mixed a b = a ≡ b
 
--- moved in the order of x, by a direction as seen from its starting end, it is moved in plain numbers
+-- in the order of x, by a direction as seen from its starting end, it is moved as it is in plain numbers
+onward-away : (x : Variable) (d : Direction) (a b : ℤ) → Onward (notPast x) (away x d) a b ≡ Onward leZ d a b
+unfolding away notPast swaps
+onward-away x d a b = cases (fromAbove x) (λ t. Onward (λ y z. cond t (leZ z y) (leZ y z)) (cond t (opposite d) d) a b ≡ Onward leZ d a b) (λ t. back d) (λ t. refl)
+  where
+    back : (d : Direction) → Onward (λ y z. leZ z y) (opposite d) a b ≡ Onward leZ d a b
+    back Rising = refl
+    back Falling = refl
+    back Mixed = refl
+
 pub moves-away : (x : Variable) (d : Direction) (a b : ℤ) → Onward (notPast x) (away x d) a b → Moves d a b
-unfolding away notPast swaps
-moves-away x d a b = cases (fromAbove x) (λ t. Onward (λ y z. cond t (leZ z y) (leZ y z)) (cond t (opposite d) d) a b → Moves d a b) (λ t. back d) (λ t. forth d)
+moves-away x d a b h = plain d (subst (λ A. A) (onward-away x d a b) h)
   where
-    back : (d : Direction) → Onward (λ y z. leZ z y) (opposite d) a b → Moves d a b
-    back Rising h = leZ-yes h
-    back Falling h = leZ-yes h
-    back Mixed h = h
+    plain : (d : Direction) → Onward leZ d a b → Moves d a b
+    plain Rising t = leZ-yes t
+    plain Falling t = leZ-yes t
+    plain Mixed e = e
 
-    forth : (d : Direction) → Onward leZ d a b → Moves d a b
-    forth Rising h = leZ-yes h
-    forth Falling h = leZ-yes h
-    forth Mixed h = h
-
--- and the other way round
 pub away-moves : (x : Variable) (d : Direction) (a b : ℤ) → Moves d a b → Onward (notPast x) (away x d) a b
-unfolding away notPast swaps
-away-moves x d a b = cases (fromAbove x) (λ t. Moves d a b → Onward (λ y z. cond t (leZ z y) (leZ y z)) (cond t (opposite d) d) a b) (λ t. back d) (λ t. forth d)
+away-moves x d a b h = subst (λ A. A) (sym (onward-away x d a b)) (tested d h)
   where
-    back : (d : Direction) → Moves d a b → Onward (λ y z. leZ z y) (opposite d) a b
-    back Rising h = h .le
-    back Falling h = h .le
-    back Mixed h = h
-
-    forth : (d : Direction) → Moves d a b → Onward leZ d a b
-    forth Rising h = h .le
-    forth Falling h = h .le
-    forth Mixed h = h
+    tested : (d : Direction) → Moves d a b → Onward leZ d a b
+    tested Rising k = k .le
+    tested Falling k = k .le
+    tested Mixed e = e
 
 -- of a head x the first demands no more than the second
 abbrev pub Under : Variable → Given → Given → Type 0

@@ -8,7 +8,7 @@ use borrow.Author.Tests.{eqb-true}
 use lib.IntN.{ℤ, pos, negsuc, negℤ, natAbs, _-ℤ_}
 use lib.Signed.{leZ, ltZ, leZ-yes, _≤ℤ_, ≤ℤ-refl}
 use Rattle.format.proofs.Int.{int, up, sum-is, neg-is, abs-is, not-negative}
-use Rattle.program.specs.Variables.{isFounded, fromAbove, swaps, start, far, notPast, inRange, noMore, started, short}
+use Rattle.program.specs.Variables.{isFounded, fromAbove, swaps, ahead, start, far, notPast, inRange, noMore, started, short}
 use Rattle.program.specs.declared.Given.{Given}
 use Rattle.program.specs.declared.Given.the-variants.{Nothing, Value}
 use Rattle.program.proofs.Tests.{cases, is-true, and-left, and-right, and-both}
@@ -47,28 +47,25 @@ module _ (x : Variable) where
 
   -- ---- a total order: that of the whole numbers, by how far a value is ahead
 
-  unfoldable pub ahead : ℤ → ℤ
-  ahead a = swaps x a (negℤ a)
-
   module _ (a b : ℤ) where
-    past-up : T (notPast x a b) → ahead a ≤ℤ ahead b
+    past-up : T (notPast x a b) → ahead x a ≤ℤ ahead x b
     unfolding notPast ahead swaps
     past-up = cases (fromAbove x) (λ t. T (cond t (leZ b a) (leZ a b)) → cond t (negℤ a) a ≤ℤ cond t (negℤ b) b) (λ t h. omega (int, neg-is a, neg-is b)) (λ t h. leZ-yes h)
 
-    up-past : ahead a ≤ℤ ahead b → T (notPast x a b)
+    up-past : ahead x a ≤ℤ ahead x b → T (notPast x a b)
     unfolding notPast ahead swaps
     up-past = cases (fromAbove x) (λ t. cond t (negℤ a) a ≤ℤ cond t (negℤ b) b → T (cond t (leZ b a) (leZ a b))) (λ t h. omega (int, neg-is a, neg-is b)) (λ t h. h .le)
 
-    ahead-same : ahead a ≡ ahead b → a ≡ b
+    ahead-same : ahead x a ≡ ahead x b → a ≡ b
     unfolding ahead swaps
     ahead-same = cases (fromAbove x) (λ t. cond t (negℤ a) a ≡ cond t (negℤ b) b → a ≡ b) (λ t h. omega (int, neg-is a, neg-is b)) (λ t h. h)
 
   -- what comes before is less far ahead
-  before-up : (a b : ℤ) → T (not (notPast x b a)) → T (ltZ (ahead a) (ahead b))
-  before-up a b n = cases (ltZ (ahead a) (ahead b)) (λ c. T (ltZ (ahead a) (ahead b))) (λ t. t) (λ t. absurd (T-not (notPast x b a) n (up-past b a (omega int))))
+  before-up : (a b : ℤ) → T (not (notPast x b a)) → T (ltZ (ahead x a) (ahead x b))
+  before-up a b n = cases (ltZ (ahead x a) (ahead x b)) (λ c. T (ltZ (ahead x a) (ahead x b))) (λ t. t) (λ t. absurd (T-not (notPast x b a) n (up-past b a (omega int))))
 
   pub past-refl : (a : ℤ) → T (notPast x a a)
-  past-refl a = up-past a a (≤ℤ-refl (ahead a))
+  past-refl a = up-past a a (≤ℤ-refl (ahead x a))
 
   pub past-trans : (a b c : ℤ) → T (notPast x a b) → T (notPast x b c) → T (notPast x a c)
   past-trans a b c h k = up-past a c (omega (int, past-up a b h, past-up b c k))
@@ -129,7 +126,7 @@ module _ (x : Variable) where
 
   -- how far a value is from the far end, and that what comes later is nearer
   unfoldable pub toFar : ℤ → ℕ
-  toFar a = up (ahead (far x) -ℤ ahead a)
+  toFar a = up (ahead x (far x) -ℤ ahead x a)
 
   pub nearer : (a b : ℤ) → T (not (notPast x b a)) → T (notPast x b (far x)) → toFar b < toFar a
   unfolding toFar
@@ -137,13 +134,13 @@ module _ (x : Variable) where
       omega (int, sum-is h (negℤ p), sum-is h (negℤ q), neg-is p, neg-is q, not-negative {z = h -ℤ p} left, not-negative {z = h -ℤ q} more, before-up a b n)
     where
       h : ℤ
-      h = ahead (far x)
+      h = ahead x (far x)
 
       q : ℤ
-      q = ahead a
+      q = ahead x a
 
       p : ℤ
-      p = ahead b
+      p = ahead x b
 
       left : pos 0 ≤ℤ (h -ℤ p)
       left = omega (int, sum-is h (negℤ p), neg-is p, past-up b (far x) t)

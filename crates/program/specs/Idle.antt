@@ -1,5 +1,5 @@
 -- Document 02, wish 2: "A rule is now idle when the most it can give, over all values in the ranges, is at most its head's low, or it can never
--- give anything." Wish 3: "directions, idleness, conditions and bounds follow" a head that is founded from above: the least it can give is at least its high.
+-- give anything." Wish 3: "directions, idleness, conditions and bounds follow": where the head is founded from above, the least it can give is at least its high.
 use Prim.Native.Nat.{ℕ, _<_}
 use mathlib.Core.Bool.{Bool, cond}
 use mathlib.Core.List.{List}

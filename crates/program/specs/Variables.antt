@@ -3,7 +3,7 @@
 -- wish 3: "The variable's record carries its starting end everywhere."
 use mathlib.Core.Bool.{Bool, true, not, cond, _&&_, _||_}
 use lib.Dec.{eqb}
-use lib.IntN.{ℤ}
+use lib.IntN.{ℤ, negℤ}
 use lib.Signed.{leZ}
 use Rattle.program.specs.declared.Given.{Given}
 use Rattle.program.specs.declared.Variable.{Variable}
@@ -31,6 +31,10 @@ far x = swaps x (x .high) (x .low)
 -- a is at or before b in the variable's order
 unfoldable pub notPast : Variable → ℤ → ℤ → Bool
 notPast x a b = swaps x (leZ a b) (leZ b a)
+
+-- a value as a number that grows along the variable's order: document 000's x' for x, "θ(x) = -θ(x')". It serves laws alone
+unfoldable pub ahead : Variable → ℤ → ℤ
+ahead x a = swaps x a (negℤ a)
 
 -- a value lies in the variable's range
 abbrev pub inRange : Variable → ℤ → Bool

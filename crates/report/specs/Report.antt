@@ -98,7 +98,7 @@ module _ (P : Program) (θ m : Valuation) where
   abbrev pub shown : ℕ → Bool
   shown = short (system P) θ m
 
-  -- "First, by ascending variable, mark 0: .. with that least value."
+  -- "First, by ascending variable, mark 0: .. with that least value.", or mark 3
   abbrev pub bounds : List Entry
   bounds = ascending (boundsOf (P .variables) shown m) (length (P .variables))
 
