@@ -1,4 +1,4 @@
--- The lesser of two valuations, by each variable's order: it is one of the two there, so it is the highest that is at or before both.
+-- The lesser of two valuations, by each variable's order: it is one of the two there, so it is the last that is at or before both.
 use mathlib.Core.Bool.{cond}
 use Prim.Native.Nat.{ℕ}
 use lib.IntN.{ℤ}

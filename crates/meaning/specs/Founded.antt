@@ -58,7 +58,7 @@ module _ (𝒮 : System) where
     pub model : Model θ m
     pub floor : Floor θ m
 
-  -- 003: a solution such that there is no other solution, and a variable at which that other is below it
+  -- 003: a solution such that there is no other solution, and a variable at which that other comes before it
   pub record Minimal (θ m : Valuation) : Type 0 where
     pub model : Model θ m
     pub none-before : (m′ : Valuation) → Model θ m′ → (v : ℕ) → Before v (m′ v) (m v) → ⊥
