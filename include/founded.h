@@ -1,7 +1,7 @@
 /*
- * Founded cover for C: reads a rule file, finds the least model for an assignment, checks an assignment. Link with libfounded.a (x86-64
- * Linux); it needs memset of the C library and nothing else. The calls are proved: each returns, for every input that is passed as said
- * here, and answers and writes what document 01 and document 02's first three wishes define (crates/founded).
+ * Founded cover for C: reads a rule file, finds the least model for an assignment, checks an assignment, writes a file in its normal form.
+ * Link with libfounded.a (x86-64 Linux); it needs memset and memcpy of the C library and nothing else. The calls are proved: each returns,
+ * for every input that is passed as said here, and answers and writes what document 01 and document 02's first four wishes define (crates/founded).
  *
  * What a caller passes:
  * - Each buffer is a pointer and its length in bytes. So many bytes can be read there, and written where the pointer is not const.
@@ -41,13 +41,14 @@ extern "C" {
 #define FOUNDED_CHECK_BYTES 12u     /* at least, of the report that founded_check writes: they are enough, and can all be used */
 
 /*
- * ---- stack of a thread that makes the call and little else. In the tests the calls touched at most 10,800, 105,100 and 105,400 bytes; the
- * rest is for the thread's own start and a margin.
+ * ---- stack of a thread that makes the call and little else. In the tests the calls touched at most 10,800, 105,100, 105,400 and 81,300 bytes;
+ * the rest is for the thread's own start and a margin.
  */
 
 #define FOUNDED_READ_STACK 32768u
 #define FOUNDED_LEAST_STACK 131072u
 #define FOUNDED_CHECK_STACK 131072u
+#define FOUNDED_NORMALIZE_STACK 131072u
 
 /* ---- the calls */
 
@@ -69,7 +70,19 @@ uint64_t founded_least(const uint8_t *file, size_t file_len, const uint8_t *assi
 uint64_t founded_check(const uint8_t *file, size_t file_len, const uint8_t *assignment, size_t assignment_len, uint8_t *report,
                        size_t report_len);
 
-/* ---- answers: a word and up to three numbers, 0 where there is none. No answer is 0. */
+/*
+ * REFUSED, with number 17 and place 0 where the buffer is shorter than the file; or WRITTEN with the length of the file's normal form, which is
+ * no longer than the file. Only WRITTEN writes: the normal form, a file with the same variables, in which the terms of each body stand by
+ * ascending variable, after a carried variable or a divisor, and the rules, then the constraints, by ascending bytes, each once; so they get
+ * other numbers. Two files have the same normal form exactly where their variables and, with the terms so ordered, their sets of rules and
+ * constraints agree. Written again, it stays as it is, and its stable assignments are those of the file.
+ */
+uint64_t founded_normalize(const uint8_t *file, size_t file_len, uint8_t *buffer, size_t buffer_len);
+
+/*
+ * ---- answers: a word and up to three numbers, 0 where there is none, or a word and a length, which takes the place of the first two. No
+ * answer is 0.
+ */
 
 enum {
     FOUNDED_STABLE = 1,
@@ -77,10 +90,11 @@ enum {
     FOUNDED_CONSTRAINT = 3, /* constraint */
     FOUNDED_RULE = 4,       /* rule */
     FOUNDED_RANGE = 5,      /* variable */
-    FOUNDED_REFUSED = 6,    /* refusal's number 1 to 15, place in the file */
+    FOUNDED_REFUSED = 6,    /* refusal's number 1 to 15 or 17, place in the file */
     FOUNDED_ACCEPTED = 7,   /* variables, rules, constraints */
     FOUNDED_FOUND = 8,
-    FOUNDED_NONE = 9
+    FOUNDED_NONE = 9,
+    FOUNDED_WRITTEN = 10 /* length */
 };
 
 static inline unsigned founded_word(uint64_t answer) { return (unsigned)(answer & 0xff); }
@@ -90,6 +104,8 @@ static inline unsigned founded_first(uint64_t answer) { return (unsigned)(answer
 static inline unsigned founded_second(uint64_t answer) { return (unsigned)(answer >> 24 & 0xffff); }
 
 static inline unsigned founded_third(uint64_t answer) { return (unsigned)(answer >> 40 & 0xffff); }
+
+static inline uint32_t founded_length(uint64_t answer) { return (uint32_t)(answer >> 8 & 0xffffffff); }
 
 /* ---- numbers of two bytes, big-endian, two's complement: the value of variable v in an assignment or a least model */
 

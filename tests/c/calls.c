@@ -1,5 +1,5 @@
 /*
- * The three calls from C, one line an answer. Every buffer lies between two pages that may not be touched, in a first call directly behind
+ * The four calls from C, one line an answer. Every buffer lies between two pages that may not be touched, in a first call directly behind
  * one and in a second directly before the other; the file and the assignment may not be written either. Each call runs on a thread with just
  * the stack that founded.h names, below it a page that may not be touched.
  */
@@ -17,10 +17,10 @@
 
 enum { PAINT = 0xA5, MARK = 0xEE };
 
-enum which { READ, LEAST, CHECK };
+enum which { READ, LEAST, CHECK, NORMALIZE, COUNT };
 
-static const char *const CALLS[] = {"read", "least", "check"};
-static const size_t STACKS[] = {FOUNDED_READ_STACK, FOUNDED_LEAST_STACK, FOUNDED_CHECK_STACK};
+static const char *const CALLS[] = {"read", "least", "check", "normalize"};
+static const size_t STACKS[] = {FOUNDED_READ_STACK, FOUNDED_LEAST_STACK, FOUNDED_CHECK_STACK, FOUNDED_NORMALIZE_STACK};
 
 struct call {
     enum which which;
@@ -66,8 +66,8 @@ static uint8_t *placed(uint8_t *room, const uint8_t *bytes, size_t n, int at_end
 
 enum { MARGIN = 16384 };
 
-static uint8_t *stacks[3];
-static size_t deepest[3];
+static uint8_t *stacks[COUNT];
+static size_t deepest[COUNT];
 
 static void answer(struct call *c)
 {
@@ -75,6 +75,8 @@ static void answer(struct call *c)
     case READ: c->answer = founded_read(c->file, c->file_len); break;
     case LEAST: c->answer = founded_least(c->file, c->file_len, c->assignment, c->assignment_len, c->lent, c->lent_len); break;
     case CHECK: c->answer = founded_check(c->file, c->file_len, c->assignment, c->assignment_len, c->lent, c->lent_len); break;
+    case NORMALIZE: c->answer = founded_normalize(c->file, c->file_len, c->lent, c->lent_len); break;
+    case COUNT: break;
     }
 }
 
@@ -111,12 +113,17 @@ static uint8_t *file_room, *assignment_room, *lent_room;
 
 static void say(uint64_t a)
 {
-    static const char *const WORDS[] = {"nothing", "stable", "unfounded", "constraint", "rule", "range", "refused", "accepted", "found", "none"};
-    static const int NUMBERS[] = {0, 0, 2, 1, 1, 1, 2, 3, 0, 0};
+    static const char *const WORDS[] = {"nothing", "stable",   "unfounded", "constraint", "rule",   "range",
+                                        "refused", "accepted", "found",     "none",       "written"};
+    static const int NUMBERS[] = {0, 0, 2, 1, 1, 1, 2, 3, 0, 0, 0};
     unsigned word = founded_word(a), numbers[] = {founded_first(a), founded_second(a), founded_third(a)};
-    if (word < 1 || word > 9 || a >> 56 != 0)
+    if (word < 1 || word > 10 || a >> 56 != 0)
         fail("answer", "no word");
     printf("%s", WORDS[word]);
+    if (word == FOUNDED_WRITTEN) {
+        printf(" %u", (unsigned)founded_length(a));
+        numbers[0] = numbers[1] = 0;
+    }
     for (int i = 0; i < 3; i++) {
         if (i < NUMBERS[word])
             printf(" %u", numbers[i]);
@@ -133,6 +140,21 @@ static void say_entry(const uint8_t *report, size_t i)
     printf("; %u %s %d", founded_entry_variable(report, i), mark < 4 ? MARKS[mark] : "?", founded_entry_number(report, i));
 }
 
+/* the counts of a file that was written, and the rules and constraints of a short one. Written again, the file is the same */
+static void say_file(const uint8_t *bytes, size_t n)
+{
+    static uint8_t again[ROOM];
+    uint64_t read = founded_read(bytes, n), answer = founded_normalize(bytes, n, again, n);
+    if (founded_word(answer) != FOUNDED_WRITTEN || founded_length(answer) != n || memcmp(bytes, again, n) != 0)
+        fail("normalize", "another file when written again");
+    printf("; %u %u %u", founded_first(read), founded_second(read), founded_third(read));
+    for (size_t i = 8 * founded_first(read), end; i < n && n <= 100; i = end) {
+        end = i + 3 + (size_t)founded_number(bytes + i + 1);
+        for (size_t j = i; j < end; j++)
+            printf("%s%02x", j == i ? "; " : " ", bytes[j]);
+    }
+}
+
 /* a few values or entries, or the first and the last of many */
 static size_t say_written(uint64_t a, const uint8_t *bytes, size_t values)
 {
@@ -142,6 +164,10 @@ static size_t say_written(uint64_t a, const uint8_t *bytes, size_t values)
             if (v < 4 || v + 1 == values)
                 printf(" %d", founded_value(bytes, v));
         return 2 * values;
+    }
+    if (founded_word(a) == FOUNDED_WRITTEN) {
+        say_file(bytes, founded_length(a));
+        return founded_length(a);
     }
     if (founded_word(a) != FOUNDED_UNFOUNDED)
         return 0;
@@ -251,6 +277,8 @@ static void variables(size_t n, unsigned kind, int low, int high)
 static void fresh(void) { built.len = 0; }
 
 static void try_read(const char *name) { try(name, READ, built.bytes, built.len, NULL, 0, 0); }
+
+static void try_normalize(const char *name, size_t lent) { try(name, NORMALIZE, built.bytes, built.len, NULL, 0, lent); }
 
 /* values of the built file, and so many lent bytes */
 static void try_on(const char *name, enum which which, const int *values, size_t n, size_t lent)
@@ -633,6 +661,76 @@ static void from_above(void)
     both("256 sizes of both kinds, more lent", turns, FOUNDED_MAX_VARIABLES, 513, 3073);
 }
 
+/* ---- files written in their normal form */
+
+/* variables 0 to 2 in 0..9, 2 >= 1 + 0, 1 >= 5 if 0 >= 3, 2 >= 0 + 1: the last rule repeats the first */
+static void one_plan(void)
+{
+    fresh();
+    variable(STANDARD, 0, 9);
+    variables(2, FOUNDED, 0, 9);
+    rule(SUM, 2, 0);
+    term(1, PLAIN, 1);
+    term(0, PLAIN, 1);
+    rule(IF, 1, 5);
+    term(0, OVER, 3);
+    rule(SUM, 2, 0);
+    term(0, PLAIN, 1);
+    term(1, PLAIN, 1);
+}
+
+/* all rules, each with another c, from the largest down, and all constraints likewise: 2 >= c, c <= 0 */
+static void falling(void)
+{
+    fresh();
+    variables(3, FOUNDED, 0, 9);
+    for (int i = (int)FOUNDED_MAX_RULES; i-- > 0;)
+        rule(SUM, 2, i);
+    for (int i = (int)FOUNDED_MAX_CONSTRAINTS; i-- > 0;)
+        constraint(1, i);
+}
+
+static void normal_forms(void)
+{
+    fresh();
+    try_normalize("empty", 0);
+    try_normalize("empty, more lent", 5);
+    printing_example();
+    try_normalize("printing example", 57);
+    one_plan();
+    try_normalize("one plan", 65);
+    try_normalize("one plan, more lent", 70);
+    try_normalize("one plan, row 17", 64);
+    try_normalize("one plan, as much lent as is written", 50);
+    try_normalize("one plan, nothing lent", 0);
+    fresh();
+    variables(4, FOUNDED, 0, 9);
+    rule(CARRY, 0, -1);
+    term(3, PLAIN, 0);
+    term(2, OVER, 1);
+    term(1, UNDER, 5);
+    rule(DIVIDED, 0, 1);
+    term(0, DIVISOR, 2);
+    term(2, PLAIN, 1);
+    term(0, PLAIN, -1);
+    constraint(2, 0);
+    term(3, UNDER, 2);
+    term(1, OVER, 2);
+    constraint(1, -5);
+    term(3, PLAIN, 1);
+    try_normalize("carry, a sum over 2 and constraints", built.len);
+    size_circle(-10, -6);
+    try_normalize("row 13, nothing lent", 0);
+    falling();
+    try_normalize("falling numbers", built.len);
+    try_normalize("falling numbers, row 17", built.len - 1);
+    longest();
+    try_normalize("longest file", FOUNDED_MAX_FILE);
+    try_normalize("longest file, row 17", FOUNDED_MAX_FILE - 1);
+    put(0);
+    try_normalize("a byte more than the longest file", FOUNDED_MAX_FILE);
+}
+
 /* ---- threads at the same time, over one file and one assignment */
 
 struct worker {
@@ -644,7 +742,7 @@ struct worker {
 static void *works(void *p)
 {
     struct worker *w = p;
-    uint8_t report[36], model[6];
+    uint8_t report[36], model[6], normal[57];
     w->right = 1;
     for (int i = 0; i < 2000; i++) {
         uint64_t read = founded_read(built.bytes, built.len);
@@ -653,6 +751,8 @@ static void *works(void *p)
         w->right &= founded_word(read) == FOUNDED_ACCEPTED && founded_first(read) == 3 && founded_second(read) == 3;
         w->right &= founded_word(least) == FOUNDED_FOUND && founded_value(model, 1) == 0;
         w->right &= founded_word(check) == FOUNDED_UNFOUNDED && founded_first(check) == 2 && founded_second(check) == 1;
+        uint64_t normalize = founded_normalize(built.bytes, built.len, normal, sizeof normal);
+        w->right &= founded_word(normalize) == FOUNDED_WRITTEN && founded_length(normalize) == 57 && normal[56] == 1;
         w->right &= founded_entry_variable(report, 1) == 2 && founded_entry_mark(report, 2) == FOUNDED_AT_MOST;
     }
     return NULL;
@@ -681,20 +781,21 @@ int main(int argc, char **argv)
     file_room = fenced(ROOM);
     assignment_room = fenced(ROOM);
     lent_room = fenced(ROOM);
-    for (int i = 0; i < 3; i++)
+    for (int i = 0; i < COUNT; i++)
         stacks[i] = fenced(STACKS[i]);
     rows();
     limits();
     plans();
     idle_rules();
     from_above();
+    normal_forms();
     at_once();
-    for (int i = 0; i < 3; i++)
+    for (int i = 0; i < COUNT; i++)
         if (deepest[i] + MARGIN > STACKS[i])
             fail(CALLS[i], "too much of its stack is touched");
     printf("stack: %d bytes and more are left\n", MARGIN);
     if (argc > 1)
-        for (int i = 0; i < 3; i++)
+        for (int i = 0; i < COUNT; i++)
             printf("%s: %zu bytes of stack touched, of %zu\n", CALLS[i], deepest[i], STACKS[i]);
     return 0;
 }

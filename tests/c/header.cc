@@ -6,14 +6,17 @@
 int main()
 {
     const uint8_t file[] = {1, 0, 5, 1, 0xff, 0xff, 0, 1};
-    uint8_t values[2], model[2], report[12];
+    uint8_t values[2], model[2], report[12], normal[8];
     founded_assign(values, 0, 1);
     uint64_t read = founded_read(file, sizeof file);
     uint64_t least = founded_least(file, sizeof file, values, sizeof values, model, sizeof model);
     uint64_t check = founded_check(file, sizeof file, values, sizeof values, report, sizeof report);
+    uint64_t normalize = founded_normalize(file, sizeof file, normal, sizeof normal);
     std::printf("%u %u %u %u\n", founded_word(read), founded_first(read), founded_second(read), founded_third(read));
     std::printf("%u %d\n", founded_word(least), founded_value(model, 0));
     std::printf("%u %u %u\n", founded_word(check), founded_first(check), founded_second(check));
     std::printf("%u %u %d\n", founded_entry_variable(report, 0), founded_entry_mark(report, 0), founded_entry_number(report, 0));
+    std::printf("%u %u %u\n", founded_word(normalize), (unsigned)founded_length(normalize), normal[7]);
+    std::printf("%x\n", (unsigned)founded_length((uint64_t)0x89abcdef << 8 | FOUNDED_WRITTEN));
     return 0;
 }

@@ -20,6 +20,7 @@ pub fn denial_number(why: Denied) -> usize
         Denied::File(why, _) => program::number_of(why),
         Denied::Assignment => 14,
         Denied::Buffer => 15,
+        Denied::Room => 17,
     }
 }
 
@@ -30,6 +31,7 @@ pub fn denial_place(why: Denied) -> usize
         Denied::File(_, at) => at,
         Denied::Assignment => 0,
         Denied::Buffer => 0,
+        Denied::Room => 0,
     }
 }
 

@@ -1,7 +1,8 @@
 -- From a call's answer x, its parts p and the number r that they are packed in, to what the exported call says.
 use Prim.Native.Nat.{ℕ}
-use mathlib.Core.Path.{_≡_, ap, _∙_}
+use mathlib.Core.Path.{_≡_, ap, subst, _∙_}
 use mathlib.Core.List.{List}
+use Rattle.program.specs.Encode.{Bytes}
 use Rattle.program.specs.Reading.{Reads}
 use Rattle.program.specs.Reading as read
 use Rattle.meaning.specs.LeastCall.{LeastCall}
@@ -9,10 +10,14 @@ use Rattle.meaning.specs.LeastCall as least
 use Rattle.verdict.specs.Checks.{Checks}
 use Rattle.verdict.specs.Checks as check
 use Rattle.verdict.specs.Demands.{Demands}
+use Rattle.normal.specs.Normalizes.{Normalizes}
+use Rattle.normal.specs.Normalizes as normalize
+use Rattle.normal.proofs.Calls.{normalize-demands}
 use Rattle.packing.specs.declared.Parts.{Parts}
-use Rattle.packing.specs.Packing.{packed, unpacked, readParts, leastParts, checkParts}
-use Rattle.founded.specs.Exports.{ExportedRead, ExportedLeast, ExportedCheck}
-use Rattle.packing.proofs.Unpacked.{read-unpacks, least-unpacks, check-unpacks}
+use Rattle.packing.specs.Packing.{packed, unpacked, lengthIn, readParts, leastParts, checkParts, normalizeParts}
+use Rattle.founded.specs.Exports.{ExportedRead, ExportedLeast, ExportedCheck, ExportedNormalize}
+use Rattle.packing.proofs.Bounds.{length-short}
+use Rattle.packing.proofs.Unpacked.{read-unpacks, least-unpacks, check-unpacks, normalize-unpacks, length-back}
 
 module _ {p : Parts} {r : ℕ} (e : r ≡ packed p) where
   pub exported-read : {s : List ℕ} {x : read.Answer} → Reads s x → p ≡ readParts x → ExportedRead s r
@@ -29,3 +34,16 @@ module _ {p : Parts} {r : ℕ} (e : r ≡ packed p) where
   exported-check {x = x} h t q =
       let d : r ≡ packed (checkParts x) = e ∙ ap packed q in
       record { answer = x; checks = h; demands = t; is-packed = d; unpacks = ap unpacked d ∙ check-unpacks h }
+
+  pub exported-normalize : {s b b′ : List ℕ} {x : normalize.Answer} → Bytes s → Normalizes s b x b′ → p ≡ normalizeParts x → ExportedNormalize s b r b′
+  exported-normalize {s} {b} {b′} {x} y h q =
+      let d : r ≡ packed (normalizeParts x) = e ∙ ap packed q in
+      record {
+        answer = x;
+        normalizes = h;
+        demands = normalize-demands y h;
+        is-packed = d;
+        unpacks = ap unpacked d ∙ normalize-unpacks y h;
+        length-told = λ n f. ap lengthIn (d ∙ ap (λ (z : normalize.Answer). packed (normalizeParts z)) f)
+            ∙ length-back n (length-short y (subst (λ z. Normalizes s b z b′) f h));
+      }

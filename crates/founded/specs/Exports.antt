@@ -9,7 +9,10 @@ use Rattle.meaning.specs.LeastCall as least
 use Rattle.verdict.specs.Checks.{Checks}
 use Rattle.verdict.specs.Checks as check
 use Rattle.verdict.specs.Demands.{Demands}
-use Rattle.packing.specs.Packing.{packed, unpacked, readParts, leastParts, checkParts}
+use Rattle.normal.specs.Normalizes.{Normalizes, written}
+use Rattle.normal.specs.Normalizes as normalize
+use Rattle.normal.specs.NormalizeDemands.{NormalizeDemands}
+use Rattle.packing.specs.Packing.{packed, unpacked, lengthIn, readParts, leastParts, checkParts, normalizeParts}
 
 pub record ExportedRead (s : List ℕ) (r : ℕ) : Type 0 where
   pub answer : read.Answer
@@ -29,3 +32,11 @@ pub record ExportedCheck (s a b : List ℕ) (r : ℕ) (b′ : List ℕ) : Type 0
   pub demands : Demands s a b answer b′
   pub is-packed : r ≡ packed (checkParts answer)
   pub unpacks : unpacked r ≡ checkParts answer
+
+pub record ExportedNormalize (s b : List ℕ) (r : ℕ) (b′ : List ℕ) : Type 0 where
+  pub answer : normalize.Answer
+  pub normalizes : Normalizes s b answer b′
+  pub demands : NormalizeDemands s b answer b′
+  pub is-packed : r ≡ packed (normalizeParts answer)
+  pub unpacks : unpacked r ≡ normalizeParts answer
+  pub length-told : (n : ℕ) → answer ≡ written n → lengthIn r ≡ n

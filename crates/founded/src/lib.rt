@@ -1,6 +1,7 @@
-// The C interface: the three calls, each with its answer packed in a number. include/founded.h declares them and takes the answers apart.
-ghost use Rattle.founded.specs.Exports.{ExportedRead, ExportedLeast, ExportedCheck};
+// The C interface: the four calls, each with its answer packed in a number. include/founded.h declares them and takes the answers apart.
+ghost use Rattle.founded.specs.Exports.{ExportedRead, ExportedLeast, ExportedCheck, ExportedNormalize};
 use packing::of_reading;
+use packing::of_rewriting;
 use packing::of_solved;
 use packing::of_verdict;
 use packing::pack;
@@ -27,4 +28,12 @@ pub extern "C" fn founded_check(file: &[u8], assignment: &[u8], report: &mut [u8
     ensures { λ r. ⌜ ExportedCheck (now (file .entry)) (now (assignment .entry)) (now (report .entry)) r (now (report .exit)) ⌝ }
 {
     pack(of_verdict(checker::call::check(file, assignment, report)))
+}
+
+// The file's normal form, written from the buffer's first byte on.
+#[no_mangle]
+pub extern "C" fn founded_normalize(file: &[u8], buffer: &mut [u8]) -> u64
+    ensures { λ r. ⌜ ExportedNormalize (now (file .entry)) (now (buffer .entry)) r (now (buffer .exit)) ⌝ }
+{
+    pack(of_rewriting(rewriting::call::normalize(file, buffer)))
 }

@@ -2,27 +2,19 @@
 use libc::STDOUT_FILENO;
 use telling::say;
 use telling::text;
-ghost use mathlib.Core.Path.{_≡_};
 ghost use Prim.Native.Nat.{_≤_};
 ghost use lib.ListN.{length};
-
-// Room for what a call is lent and a guard around it, and for the longest text of the printing program.
-pub const ROOM: usize = 14644;
 
 // The byte of the pattern at a place.
 fn pattern(i: usize) -> u8 {
     (i % 199 + 50) as u8
 }
 
-// A room that has the pattern.
-pub fn patterned() -> [u8; ROOM]
-    ensures { λ r. ⌜ 14644 ≡ length r ⌝ }
-{
-    let mut room = [0u8; ROOM];
-    for i in 0..ROOM {
+// Gives the room the pattern.
+pub fn patterned(room: &mut [u8]) {
+    for i in 0..room.len() {
         room[i] = pattern(i);
     }
-    room
 }
 
 // Whether each byte but those from `start` on and below `end` is the pattern's.
@@ -80,6 +72,15 @@ fn written(is_report: bool, bytes: &[u8]) {
     }
 }
 
+// Prints whether each byte but those from `start` on and below `end` is as it was.
+fn kept(room: &[u8], start: usize, end: usize) {
+    if is_kept(room, start, end) {
+        text(b", guard kept\n");
+    } else {
+        text(b", guard lost\n");
+    }
+}
+
 // Prints what was written, n bytes from the lent part's start on, and whether the other bytes are as they were.
 pub fn guarded(room: &[u8], is_check: bool, from: usize, to: usize, n: usize)
     requires { ⌜ from ≤ to ⌝ }
@@ -91,9 +92,38 @@ pub fn guarded(room: &[u8], is_check: bool, from: usize, to: usize, n: usize)
     }
     let stop = from + n;
     written(is_check, &room[from..stop]);
-    if is_kept(room, from, stop) {
-        text(b", guard kept\n");
-    } else {
-        text(b", guard lost\n");
+    kept(room, from, stop);
+}
+
+// Each byte as a space and two hexadecimal digits.
+fn bytes_shown(bytes: &[u8]) {
+    for i in 0..bytes.len() {
+        let x = bytes[i];
+        text(b" ");
+        io::print_hex(STDOUT_FILENO, format::wide(x) as u64, 2);
     }
+}
+
+// Prints whether the bytes are those that are said, and else which they are.
+fn compared(bytes: &[u8], said: &[u8]) {
+    if check::same(bytes, said) {
+        text(b", as said");
+    } else {
+        text(b", not as said:");
+        bytes_shown(bytes);
+    }
+}
+
+// The same as `guarded`, for a file that was written and is said to have these bytes.
+pub fn guarded_file(room: &[u8], said: &[u8], from: usize, to: usize, n: usize)
+    requires { ⌜ from ≤ to ⌝ }
+    requires { ⌜ to ≤ length (now room) ⌝ }
+{
+    if to - from < n {
+        text(b", more than was lent\n");
+        return;
+    }
+    let stop = from + n;
+    compared(&room[from..stop], said);
+    kept(room, from, stop);
 }

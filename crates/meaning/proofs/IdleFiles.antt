@@ -53,6 +53,11 @@ module _ (vs : List Variable) where
 
 -- ---- fewer rules of a valid program are valid
 
+-- components over more edges
+pub share-over : (P Q : Program) → ((x y : ℕ) → edge Q x y ≡ true → edge P x y ≡ true) → {x y : ℕ} → Share Q x y → Share P x y
+share-over P Q h (inl e) = inl e
+share-over P Q h (inr w) = inr ((w .0 .0, over h (w .0 .1)), (w .1 .0, over h (w .1 .1)))
+
 module _ (P : Program) (rs : List Rule) (only : (j : ℕ) → j < length rs → Among (ruleIn rs j) (P .rules)) where
   abbrev Q : Program
   Q = withRules P rs
@@ -65,10 +70,6 @@ module _ (P : Program) (rs : List Rule) (only : (j : ℕ) → j < length rs → 
       below-some (length (P .rules)) (λ i. draws P (ruleIn (P .rules) i) x y) (o .number) (o .inside)
       (subst (λ r. draws P r x y ≡ true) (sym (o .is)) (j .2))
 
-  share-over : {x y : ℕ} → Share Q x y → Share P x y
-  share-over (inl e) = inl e
-  share-over (inr w) = inr ((w .0 .0, over edge-over (w .0 .1)), (w .1 .0, over edge-over (w .1 .1)))
-
   pub valid-left : Valid P → Valid Q
   valid-left v j o =
       let a = only j (o .among) in
@@ -78,7 +79,7 @@ module _ (P : Program) (rs : List Rule) (only : (j : ℕ) → j < length rs → 
         at = o .at;
         inside = subst (λ r. o .at < length (r .terms)) (sym (a .is)) (o .inside);
         pushes = subst (λ r. isMixed (direction (P .variables) r (o .at)) ≡ true) (sym (a .is)) (o .pushes);
-        shares = subst (λ r. Share P (r .head) (termIn (r .terms) (o .at) .variable)) (sym (a .is)) (share-over (o .shares));
+        shares = subst (λ r. Share P (r .head) (termIn (r .terms) (o .at) .variable)) (sym (a .is)) (share-over P Q edge-over (o .shares));
       })
 
 -- ---- the file

@@ -2,7 +2,7 @@
 -- the least one, that there is none, and whether the assignment is stable. The conditions of a report may differ.
 use Prim.Native.Nat.{ℕ, zero, suc, _<_}
 use mathlib.Core.Path.{_≡_, refl, subst}
-use mathlib.Core.Logic.{_⊎_, inl, inr}
+use mathlib.Core.Logic.{_⊎_, inl, inr, _↔_}
 use mathlib.Core.Bool.{Bool, true, false, cond}
 use mathlib.Core.List.{List, [], _∷_}
 use native.Mathlib.Omega.{arith}
@@ -23,6 +23,7 @@ use Rattle.meaning.specs.Reduct.{system}
 use Rattle.meaning.specs.Stable.{Stable}
 use Rattle.meaning.specs.LeftOut.{withRules, Among, LeftOut, acting}
 use Rattle.meaning.proofs.Monotone.{read-between}
+use Rattle.meaning.proofs.SameModels.{least-over}
 
 module _ {P : Program} (promises : Promises P) where
   -- for every assignment θ in its ranges an idle rule is met, in its reduct, by every valuation m in the ranges
@@ -52,26 +53,23 @@ module _ {P : Program} (promises : Promises P) where
         go (inr o) = subst (Asked θ m) (o .is) (h (o .number) (o .inside))
 
     module _ {θ : Valuation} (w : Within (system P) θ) where
-      pub model-left : {m : Valuation} → Model (system P) θ m → Model (system (withRules P rs)) θ m
+      model-left : {m : Valuation} → Model (system P) θ m → Model (system (withRules P rs)) θ m
       model-left {m} d = record { standard = d .standard; within = record { inside = d .within .inside }; rules = all-left θ m (d .rules) }
 
-      pub model-back : {m : Valuation} → Model (system (withRules P rs)) θ m → Model (system P) θ m
+      model-back : {m : Valuation} → Model (system (withRules P rs)) θ m → Model (system P) θ m
       model-back {m} d =
           let wm : Within (system P) m = record { inside = d .within .inside } in
           record { standard = d .standard; within = wm; rules = all-back wm w (d .rules) }
 
-      -- the least model, and that there is none
+      -- so they have the same models, and the same least one
+      pub models-left : (m : Valuation) → Model (system P) θ m ↔ Model (system (withRules P rs)) θ m
+      models-left m = (model-left, model-back)
+
       pub least-left : {m : Valuation} → Least (system P) θ m → Least (system (withRules P rs)) θ m
-      least-left d = record { model = model-left (d .model); floor = record { under = λ m′ n v. record { le = d .floor .under m′ (model-back n) v .le } } }
+      least-left = least-over P (withRules P rs) refl models-left
 
       pub least-back : {m : Valuation} → Least (system (withRules P rs)) θ m → Least (system P) θ m
-      least-back d = record { model = model-back (d .model); floor = record { under = λ m′ n v. record { le = d .floor .under m′ (model-left n) v .le } } }
-
-      pub none-left : ((m : Valuation) → Model (system P) θ m → ⊥) → (m : Valuation) → Model (system (withRules P rs)) θ m → ⊥
-      none-left f m d = f m (model-back d)
-
-      pub none-back : ((m : Valuation) → Model (system (withRules P rs)) θ m → ⊥) → (m : Valuation) → Model (system P) θ m → ⊥
-      none-back f m d = f m (model-left d)
+      least-back = least-over (withRules P rs) P refl (λ m. (model-back, model-left))
 
     -- and the stable assignments
     pub stable-left : {θ : Valuation} → Stable P θ → Stable (withRules P rs) θ

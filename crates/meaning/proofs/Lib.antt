@@ -8,6 +8,7 @@ pub mod Denials
 pub mod Determined
 pub mod LeastDemanded
 pub mod InRanges
+pub mod SameModels
 pub mod IdleRules
 pub mod IdleCalls
 pub mod IdleFiles

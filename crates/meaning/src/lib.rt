@@ -3,11 +3,12 @@
 use program::Counts;
 use program::Refusal;
 
-// Why a call is turned down: the file, the assignment's length (14) or the lent buffer's (15).
+// Why a call is turned down: the file, the assignment's length (14), the lent buffer's, by the variables (15) or by what is written (17).
 pub enum Denied {
     File(Refusal, usize),
     Assignment,
     Buffer,
+    Room,
 }
 
 // How a call begins: it is turned down, or its file has these counts.

@@ -1,11 +1,13 @@
--- Every answer's word and numbers fit their bits, since a refusal's number is at most 15 and its place within the longest file, a variable, rule or
+-- Every answer's word and numbers fit their bits, since a refusal's number is at most 17 and its place within the longest file, a variable, rule or
 -- constraint is below the format's limit for its kind, and the counts are at most these limits, the conditions' twice that of the variables.
 use Prim.Native.Nat.{ℕ, _<_}
+use mathlib.Core.Path.{refl}
 use mathlib.Core.List.{List, _∷_, []}
 use native.Mathlib.Omega.{arith}
 use lib.ListN.{length}
 use Rattle.sets.proofs.Counts.{count-most}
 use Rattle.program.specs.Program.{Program}
+use Rattle.program.specs.Encode.{Bytes}
 use Rattle.program.proofs.ReadDemanded.{field-most}
 use Rattle.program.specs.Reading.{Reads, too-long, bad-field, not-valid, whole, Accepts}
 use Rattle.program.specs.Reading as read
@@ -17,7 +19,10 @@ use Rattle.report.specs.Report.{shown, asked, asksMost, asksLeast, bounds, cond
 use Rattle.report.proofs.Entries.{bounds-count, conditions-count}
 use Rattle.verdict.specs.Checks.{Judged, Checks}
 use Rattle.verdict.specs.Checks as check
-use Rattle.packing.specs.Packing.{parts, Fits, readParts, leastParts, checkParts}
+use Rattle.normal.specs.Normalizes.{Normalizes, shorter}
+use Rattle.normal.specs.Normalizes as normalize
+use Rattle.normal.proofs.Calls.{normalize-demands}
+use Rattle.packing.specs.Packing.{parts, Fits, readParts, leastParts, checkParts, lengthParts, normalizeParts}
 use Rattle.program.specs.Readings.{Valuation}
 use mathlib.Core.Logic.{inl, inr}
 use Rattle.meaning.proofs.Denials.{Every}
@@ -91,3 +96,20 @@ module _ {s : List ℕ} {P : Program} (a : Accepts s P) where
 pub check-fits : {s a b b′ : List ℕ} {x : check.Answer} → Checks s a b x b′ → Fits (checkParts x)
 check-fits {a = a} {b} (check.turned-down r) = refuses-fits (lengths-small check.checkBytes a b) r
 check-fits (check.judged c j) = judged-fits (c .accepts) j
+
+-- a length of 32 bits, in its two halves
+length-fits : (n : ℕ) → n < 4294967296 → Fits (lengthParts n)
+length-fits n h = two 10 _ _ (omega arith) (omega arith) (omega arith)
+
+shorter-small : (s b : List ℕ) (P : Program) → Every Small (shorter s b P)
+shorter-small s b P = ((omega arith, λ at x. omega (arith, x .1)), tt)
+
+module _ {s b : List ℕ} (y : Bytes s) where
+  -- what is written is no longer than the file
+  pub length-short : {n : ℕ} {b′ : List ℕ} → Normalizes s b (normalize.written n) b′ → n < 4294967296
+  length-short (normalize.rewritten c n) =
+      omega (arith, normalize-demands {b = b} y (normalize.rewritten c n) .no-longer _ refl, c .accepts .whole .passed .short)
+
+  pub normalize-fits : {x : normalize.Answer} {b′ : List ℕ} → Normalizes s b x b′ → Fits (normalizeParts x)
+  normalize-fits (normalize.turned-down r) = refuses-fits (shorter-small s b) r
+  normalize-fits (normalize.rewritten c n) = length-fits _ (length-short (normalize.rewritten c n))

@@ -1,18 +1,21 @@
 -- Unpacking a packed answer gives its word and numbers back, so two answers of a call that are packed in the same number are the same.
-use Prim.Native.Nat.{ℕ, _/_, _%_, _<_}
+use Prim.Native.Nat.{ℕ, _+_, _*_, _/_, _%_, _<_}
 use mathlib.Core.Path.{_≡_, refl, sym, ap, _∙_}
 use mathlib.Core.List.{List, [], _∷_}
 use native.Mathlib.Omega.{arith}
 use Rattle.program.specs.Tables.{_⇒_, select}
+use Rattle.program.specs.Encode.{Bytes}
 use Rattle.program.specs.Reading.{Reads}
 use Rattle.program.specs.Reading as read
 use Rattle.meaning.specs.LeastCall.{LeastCall}
 use Rattle.meaning.specs.LeastCall as least
 use Rattle.verdict.specs.Checks.{Checks}
 use Rattle.verdict.specs.Checks as check
+use Rattle.normal.specs.Normalizes.{Normalizes}
+use Rattle.normal.specs.Normalizes as normalize
 use Rattle.packing.specs.declared.Parts.{Parts}
-use Rattle.packing.specs.Packing.{Fits, packed, unpacked, readParts, leastParts, checkParts}
-use Rattle.packing.proofs.Bounds.{read-fits, least-fits, check-fits}
+use Rattle.packing.specs.Packing.{Fits, packed, unpacked, lengthIn, readParts, leastParts, checkParts, lengthParts, normalizeParts}
+use Rattle.packing.proofs.Bounds.{read-fits, least-fits, check-fits, normalize-fits}
 
 module _ (p : Parts) (f : Fits p) where
   same-word : packed p % 256 ≡ p .word
@@ -44,6 +47,14 @@ least-unpacks r = unpack _ (least-fits r)
 pub check-unpacks : {s a b b′ : List ℕ} {x : check.Answer} → Checks s a b x b′ → unpacked (packed (checkParts x)) ≡ checkParts x
 check-unpacks r = unpack _ (check-fits r)
 
+pub normalize-unpacks : {s b b′ : List ℕ} {x : normalize.Answer} → Bytes s → Normalizes s b x b′ → unpacked (packed (normalizeParts x)) ≡ normalizeParts x
+normalize-unpacks y r = unpack _ (normalize-fits y r)
+
+-- the length of 32 bits that an answer tells
+pub length-back : (n : ℕ) → n < 4294967296 → lengthIn (packed (lengthParts n)) ≡ n
+unfolding packed lengthIn
+length-back n h = omega arith
+
 -- ---- the answer of a word and numbers; the last of each definition stands for every other word
 
 abbrev readOf : Parts → read.Answer
@@ -64,6 +75,9 @@ checkOf p =
     ∷ [])
     check.stable
 
+abbrev normalizeOf : Parts → normalize.Answer
+normalizeOf p = select (p .word) ((10 ⇒ normalize.written (p .first + 65536 * p .second)) ∷ []) (normalize.refusal (p .first) (p .second))
+
 read-back : (x : read.Answer) → readOf (readParts x) ≡ x
 read-back (read.accepted v r c) = refl
 read-back (read.refused n at) = refl
@@ -82,6 +96,10 @@ check-back (check.constraint i) = refl
 check-back (check.unfounded n k) = refl
 check-back check.stable = refl
 
+normalize-back : (x : normalize.Answer) → normalizeOf (normalizeParts x) ≡ x
+normalize-back (normalize.refusal n at) = refl
+normalize-back (normalize.written n) = let e : n % 65536 + 65536 * (n / 65536) ≡ n = omega arith in ap normalize.written e
+
 -- ---- no two answers of a call are packed in the same number, whatever the inputs
 
 pub read-injective : {s t : List ℕ} {x y : read.Answer} → Reads s x → Reads t y → packed (readParts x) ≡ packed (readParts y) → x ≡ y
@@ -97,6 +115,11 @@ pub check-injective : {s a b b′ t c d d′ : List ℕ} {x y : check.Answer} �
     → packed (checkParts x) ≡ packed (checkParts y) → x ≡ y
 check-injective {x = x} {y} r q e =
     sym (check-back x) ∙ ap checkOf (sym (check-unpacks r) ∙ ap unpacked e ∙ check-unpacks q) ∙ check-back y
+
+pub normalize-injective : {s b b′ t d d′ : List ℕ} {x y : normalize.Answer} → Bytes s → Normalizes s b x b′ → Bytes t → Normalizes t d y d′
+    → packed (normalizeParts x) ≡ packed (normalizeParts y) → x ≡ y
+normalize-injective {x = x} {y} h r k q e =
+    sym (normalize-back x) ∙ ap normalizeOf (sym (normalize-unpacks h r) ∙ ap unpacked e ∙ normalize-unpacks k q) ∙ normalize-back y
 
 -- ---- no answer is 0
 
@@ -120,3 +143,8 @@ check-some (check.rule i) = omega arith
 check-some (check.constraint i) = omega arith
 check-some (check.unfounded n k) = omega arith
 check-some check.stable = omega arith
+
+pub normalize-some : (x : normalize.Answer) → 0 < packed (normalizeParts x)
+unfolding packed
+normalize-some (normalize.refusal n at) = omega arith
+normalize-some (normalize.written n) = omega arith

@@ -1,11 +1,13 @@
 -- How an answer is packed in a number for C: the word in bits 0 to 7, then three numbers of 16 bits at bits 8, 24 and 40. The numbers are
--- those that the printing program prints after the word, or an accepted file's three counts, and 0 where there is none. No answer is 0.
+-- those that the printing program prints after the word, or an accepted file's three counts, and 0 where there is none. The word `written` has
+-- a length of 32 bits, in bits 8 to 39: its low half is the first number, its high half the second. No answer is 0.
 --
---   1 stable   2 unfounded   3 constraint   4 rule   5 range   6 refused   7 accepted   8 found   9 none
+--   1 stable   2 unfounded   3 constraint   4 rule   5 range   6 refused   7 accepted   8 found   9 none   10 written
 use Prim.Native.Nat.{ℕ, _+_, _*_, _/_, _%_, _<_}
 use Rattle.program.specs.Reading as read
 use Rattle.meaning.specs.LeastCall as least
 use Rattle.verdict.specs.Checks as check
+use Rattle.normal.specs.Normalizes as normalize
 use Rattle.packing.specs.declared.Parts.{Parts}
 
 abbrev pub parts : ℕ → ℕ → ℕ → ℕ → Parts
@@ -23,6 +25,10 @@ packed p = p .word + 256 * (p .first + 65536 * (p .second + 65536 * p .third))
 
 unfoldable pub unpacked : ℕ → Parts
 unpacked r = parts (r % 256) (r / 256 % 65536) (r / 16777216 % 65536) (r / 1099511627776 % 65536)
+
+-- the length in a packed answer with the word `written`
+unfoldable pub lengthIn : ℕ → ℕ
+lengthIn r = r / 256 % 4294967296
 
 -- ---- the word and the numbers of each answer
 
@@ -43,3 +49,11 @@ checkParts (check.rule i) = parts 4 i 0 0
 checkParts (check.constraint i) = parts 3 i 0 0
 checkParts (check.unfounded n k) = parts 2 n k 0
 checkParts check.stable = parts 1 0 0 0
+
+-- so many bytes are written
+abbrev pub lengthParts : ℕ → Parts
+lengthParts n = parts 10 (n % 65536) (n / 65536) 0
+
+abbrev pub normalizeParts : normalize.Answer → Parts
+normalizeParts (normalize.refusal n at) = parts 6 n at 0
+normalizeParts (normalize.written n) = lengthParts n

@@ -4,11 +4,13 @@ ghost use Rattle.program.specs.Reading as read;
 ghost use Rattle.meaning.specs.Calls.{denialNumber, denialPlace};
 ghost use Rattle.meaning.specs.LeastCall as least;
 ghost use Rattle.verdict.specs.Checks as check;
-ghost use Rattle.packing.specs.Packing.{parts, Fits, packed, readParts, leastParts, checkParts};
+ghost use Rattle.normal.specs.Normalizes as normalize;
+ghost use Rattle.packing.specs.Packing.{parts, Fits, packed, readParts, leastParts, checkParts, lengthParts, normalizeParts};
 use calls::denial_number;
 use calls::denial_place;
 use meaning::Denied;
 use meaning::Solved;
+use normal::Rewriting;
 use program::Reading;
 use program::number_of;
 use verdict::Verdict;
@@ -41,6 +43,8 @@ impl Word {
     pub const FOUND: usize = 8;
 
     pub const NONE: usize = 9;
+
+    pub const WRITTEN: usize = 10;
 }
 
 fn alone(word: usize) -> Parts
@@ -107,6 +111,22 @@ pub fn of_verdict(verdict: Verdict) -> Parts
         Verdict::Constraint(i) => with_one(Word::CONSTRAINT, i),
         Verdict::Unfounded(bounds, conditions) => with_two(Word::UNFOUNDED, bounds, conditions),
         Verdict::Stable => alone(Word::STABLE),
+    }
+}
+
+// The word of a length, and its two halves.
+fn of_length(n: usize) -> Parts
+    ensures { λ r. ⌜ r ≡ lengthParts n ⌝ }
+{
+    with_two(Word::WRITTEN, n % 65536, n / 65536)
+}
+
+pub fn of_rewriting(rewriting: Rewriting) -> Parts
+    ensures { λ r. ⌜ r ≡ normalizeParts (normalize.answerOf rewriting) ⌝ }
+{
+    match rewriting {
+        Rewriting::Refused(why) => of_denied(why),
+        Rewriting::Written(n) => of_length(n),
     }
 }
 

@@ -4,20 +4,24 @@ use bytes::scan::find;
 use pieces::WRONG;
 use pieces::appended;
 use pieces::decimal;
+ghost use mathlib.Core.Path.{_≡_};
 ghost use Prim.Native.Nat.{_≤_, _<_};
 ghost use lib.ListN.{length};
 
 // The part of the room that a call is lent starts here.
 const START: usize = 16;
 
-// The most bytes that a call is lent: more than it asks for.
-const MOST: usize = 3080;
+// The bytes that a call is lent where the line does not say how many: more than `least` and `check` ask for.
+const USUAL: usize = 3080;
 
-// The most bytes of a case: the longest input of the printing program, and one byte more.
-const BYTES: usize = 61001;
+// The most bytes that a call is lent: more than any asks for.
+const MOST: usize = 61000;
 
 // The bytes of a short output.
 const SHORT: usize = 4;
+
+// The letter of a case that is tried after another: the file that is said to be written is written anew.
+pub const AGAIN: u8 = 1;
 
 // A line's letter, 0 where it is written wrongly, where its name starts and ends, and where its case starts.
 struct Head {
@@ -27,7 +31,8 @@ struct Head {
     rest: usize,
 }
 
-// Where the bytes of a case end: those of its file or input, and those of its assignment. Where the lent part of the room starts and ends.
+// Where the bytes of a case end: those of its file or input, and those of its assignment or of the file that is said to be written. Where the
+// lent part of the room starts and ends.
 struct Ends {
     file: usize,
     all: usize,
@@ -92,12 +97,12 @@ fn head_of(table: &[u8], at: usize, end: usize) -> Head
     }
 }
 
-// Where a call's part ends: it has as many bytes as the number after the assignment says, or the most.
+// Where a call's part ends: it has as many bytes as the number after the assignment says, or the usual.
 fn lent_to(text: &[u8]) -> usize
     ensures { λ r. ⌜ 16 ≤ r ⌝ }
 {
     if text.len() == 0 {
-        return START + MOST;
+        return START + USUAL;
     }
     let n = decimal(&text[1..]);
     if MOST < n { WRONG } else { START + n }
@@ -115,7 +120,7 @@ fn alone(file: usize, to: usize) -> Ends
     }
 }
 
-// The file of a call, before a semicolon, its assignment, and the rest.
+// The file of a call, before a semicolon, its assignment or the file that is said to be written, and the rest.
 fn called(bytes: &mut [u8], begun: usize, text: &[u8]) -> Ends
     ensures { λ r. ⌜ r .from ≤ r .to ⌝ }
 {
@@ -148,17 +153,10 @@ fn filled(bytes: &mut [u8], begun: usize, letter: u8, text: &[u8], room: usize) 
     ensures { λ r. ⌜ r .from ≤ r .to ⌝ }
 {
     match letter {
-        b'l' | b'c' => called(bytes, begun, text),
+        b'l' | b'c' | b'n' => called(bytes, begun, text),
         b'w' => alone(appended(bytes, 0, text), 0),
         _ => alone(appended(bytes, begun, text), output(letter, room)),
     }
-}
-
-// How many bytes a case may have, of so many.
-fn most(len: usize) -> usize
-    ensures { λ r. ⌜ r ≤ len ⌝ }
-{
-    if len < BYTES { len } else { BYTES }
 }
 
 // The line with its case, where there are so many bytes for it, and a room of so many.
@@ -218,7 +216,31 @@ pub fn parsed(bytes: &mut [u8], begun: usize, table: &[u8], at: usize, room: usi
     let head = head_of(table, at, end);
     let rest = head.rest;
     let ends = filled(bytes, begun, head.letter, &table[rest..end], room);
-    fitted(head, ends, begun, most(bytes.len()), room)
+    fitted(head, ends, begun, bytes.len(), room)
+}
+
+// Whether a line says which file is written.
+pub fn is_said(line: Line) -> bool {
+    (line.letter == b'n') & (line.file < line.all)
+}
+
+// The line with the letter `AGAIN`.
+pub fn again(line: Line) -> Line
+    ensures { λ r. ⌜ r .file ≡ line .file ⌝ }
+    ensures { λ r. ⌜ r .all ≡ line .all ⌝ }
+    ensures { λ r. ⌜ r .from ≡ line .from ⌝ }
+    ensures { λ r. ⌜ r .to ≡ line .to ⌝ }
+{
+    Line {
+        letter: AGAIN,
+        start: line.start,
+        colon: line.colon,
+        file: line.file,
+        all: line.all,
+        from: line.from,
+        to: line.to,
+        begun: line.begun,
+    }
 }
 
 // Where the line after the one that starts at `at` starts, or the table's end.

@@ -90,7 +90,7 @@ pub all-inside : (P : Program) (θ : Valuation) → outside-in P θ ≡ false �
 unfolding outside-in
 all-inside P θ e v h = not-false (inRange (variableIn (P .variables) v) (θ v)) (none-below (length (P .variables)) _ e v h)
 
-rules-met : (P : Program) (θ : Valuation) (n : ℕ) → unmet-in P θ n ≡ false → (i : ℕ) → i < n → RuleMet P θ i
+pub rules-met : (P : Program) (θ : Valuation) (n : ℕ) → unmet-in P θ n ≡ false → (i : ℕ) → i < n → RuleMet P θ i
 unfolding unmet-in
 rules-met P θ n e i h = is-test (not-false (rule-met P θ i) (none-below n _ e i h))
 

@@ -1,6 +1,7 @@
 -- Document 01's starred sample plans under the check, and wrong checks that they refute.
 use Prim.Native.Nat.{ℕ, _+_, _*_, _≤_}
 use mathlib.Core.Path.{_≡_, refl, ap, ap₂, subst, _∙_}
+use mathlib.Core.Bool.{false}
 use mathlib.Core.List.{List, [], _∷_, _++_}
 use native.Mathlib.Omega.{arith}
 use lib.Dec.{T}
@@ -12,14 +13,14 @@ use Rattle.program.specs.Reading.{Accepts}
 use Rattle.program.proofs.Unique.{accepts-unique}
 use Rattle.meaning.specs.Founded.{Least}
 use Rattle.meaning.specs.Reduct.{system}
-use Rattle.meaning.specs.Stable.{assigned, Meets}
+use Rattle.meaning.specs.Stable.{assigned, ConstraintMet, Meets}
 use Rattle.meaning.specs.Calls.{Called, lengths}
 use Rattle.meaning.proofs.Denials.{called}
 use Rattle.plans.specs.Starred.{Plan, StablePlan, UnfoundedPlan, UnmetPlan, small, printed, example2, example1, example4, contrary}
 use Rattle.plans.proofs.Starred as plans
-use Rattle.plans.proofs.Starred.{starred-plans, printed-read, example2-read, example1-read, example4-read, contrary-read}
+use Rattle.plans.proofs.Starred.{unmet-in, rules-met, starred-plans, printed-read, example2-read, example1-read, example4-read, contrary-read}
 use Rattle.report.specs.Report.{bytesIn, ascending, askedAt, askedBy, asked, shown, bounds, conditions}
-use Rattle.verdict.specs.Checks.{unfounded, stable, rule, checkBytes, Checks, judged, is-stable, some-shown, rule-unmet}
+use Rattle.verdict.specs.Checks.{unfounded, stable, rule, constraint, FirstUnmet, checkBytes, Checks, judged, is-stable, some-shown, rule-unmet, constraint-unmet}
 use Rattle.plans.specs.StarredChecks.{Checked, StarredChecks}
 use Rattle.program.specs.Readings.{valued}
 
@@ -37,6 +38,10 @@ stable-checked u n e b h = judged (plan-called b (u .plan) n e h) (is-stable (u 
 
 pub unmet-checked : {s a : List ℕ} {i : ℕ} → UnmetPlan s a i → (n : ℕ) → length a ≡ 2 * n → Checked s a n (rule i) []
 unmet-checked u n e b h = judged (plan-called b (u .plan) n e h) (rule-unmet (u .plan .ranges) (record { among = u .among; unmet = u .unmet; first = u .first }))
+
+pub constraint-checked : {s a : List ℕ} {P : Program} {i : ℕ} → Plan s a P → unmet-in P (assigned a) (length (P .rules)) ≡ false
+    → FirstUnmet (ConstraintMet P (assigned a)) (length (P .constraints)) i → (n : ℕ) → length a ≡ 2 * n → Checked s a n (constraint i) []
+constraint-checked {a = a} {P} p r f n e b h = judged (plan-called b p n e h) (constraint-unmet (p .ranges) (rules-met P (assigned a) (length (P .rules)) r) f)
 
 -- the report of a plan, by the program Q that its file means
 module _ {s a : List ℕ} {m : List ℤ} (u : UnfoundedPlan s a m) {Q : Program} (x : Accepts s Q) (n : ℕ) (e : length a ≡ 2 * n) where

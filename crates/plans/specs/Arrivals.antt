@@ -15,7 +15,7 @@ use Rattle.verdict.specs.Checks.{refusal, rule, unfounded, stable, Checks}
 abbrev hundred : ℕ → List ℕ → List ℕ
 hundred kind rest = variable kind 0x00 0x00 0x00 0x64 rest
 
-abbrev natural : ℕ → List ℕ → List ℕ
+abbrev pub natural : ℕ → List ℕ → List ℕ
 natural kind rest = variable kind 0x00 0x00 0x00 0x0A rest
 
 abbrev whole : ℕ → List ℕ → List ℕ

@@ -56,7 +56,7 @@ front v j rest h e = drop-cons v j 0 h ∙ ap (λ (r : List ℕ). getD v j 0 ∷
 pub front-three : (v : List ℕ) → 3 ≤ length v → v ≡ getD v 0 0 ∷ getD v 1 0 ∷ getD v 2 0 ∷ drop 3 v
 front-three v h = front v 0 _ (omega arith) (front v 1 _ (omega arith) (front v 2 _ (omega arith) refl))
 
-front-four : (v : List ℕ) → 4 ≤ length v → v ≡ getD v 0 0 ∷ getD v 1 0 ∷ getD v 2 0 ∷ getD v 3 0 ∷ drop 4 v
+pub front-four : (v : List ℕ) → 4 ≤ length v → v ≡ getD v 0 0 ∷ getD v 1 0 ∷ getD v 2 0 ∷ getD v 3 0 ∷ drop 4 v
 front-four v h = front v 0 _ (omega arith) (front v 1 _ (omega arith) (front v 2 _ (omega arith) (front v 3 _ (omega arith) refl)))
 
 all-five : (v : List ℕ) → length v ≡ 5 → v ≡ getD v 0 0 ∷ getD v 1 0 ∷ getD v 2 0 ∷ getD v 3 0 ∷ getD v 4 0 ∷ []

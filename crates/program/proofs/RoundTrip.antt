@@ -29,7 +29,7 @@ use Rattle.program.specs.declared.Variable.{Variable}
 
 -- ---- an accepted file is what its program encodes to
 
-each-snoc : {A : Type 0} (f : A → List ℕ) (xs : List A) (x : A) → each f (xs ++ (x ∷ [])) ≡ each f xs ++ f x
+pub each-snoc : {A : Type 0} (f : A → List ℕ) (xs : List A) (x : A) → each f (xs ++ (x ∷ [])) ≡ each f xs ++ f x
 each-snoc f [] x = append-nil (f x)
 each-snoc f (y ∷ xs) x = rw (each-snoc f xs x) (sym (append-assoc (f y) (each f xs) (f x)))
 
@@ -60,14 +60,19 @@ header s at h =
     rw (a, b, c) (front s at _ (omega arith) (front s (suc at) _ (omega arith) (front s (suc (suc at)) _ (omega arith) refl)))
 
 -- the bytes of a field that ends within the file
-field-bytes : (s : List ℕ) (at : ℕ) → Bytes s → nextAt s at ≤ length s → take (nextAt s at) s ≡ take at s ++ fieldBytes (tagAt s at) (valueAt s at)
-field-bytes s at b h =
+pub field-stretch : (s : List ℕ) (at : ℕ) → Bytes s → nextAt s at ≤ length s → take (3 + lengthAt s at) (drop at s) ≡ fieldBytes (tagAt s at) (valueAt s at)
+field-stretch s at b h =
     let v = valueAt s at in
-    let e : at + 3 + lengthAt s at ≡ at + suc (suc (suc (lengthAt s at))) = omega arith in
+    let e : 3 + lengthAt s at ≡ suc (suc (suc (lengthAt s at))) = omega arith in
     let l = value-length s at h in
     let high : length v / 256 ≡ getD s (at + 1) 0 = omega (arith, b (at + 1), b (at + 1 + 1)) in
     let low : length v % 256 ≡ getD s (at + 1 + 1) 0 = omega (arith, b (at + 1), b (at + 1 + 1)) in
-    rw (e, take-add at (suc (suc (suc (lengthAt s at)))) s, header s at (omega arith), high, low)
+    rw (e, header s at (omega arith), high, low)
+
+field-bytes : (s : List ℕ) (at : ℕ) → Bytes s → nextAt s at ≤ length s → take (nextAt s at) s ≡ take at s ++ fieldBytes (tagAt s at) (valueAt s at)
+field-bytes s at b h =
+    let e : at + 3 + lengthAt s at ≡ at + (3 + lengthAt s at) = omega arith in
+    ap (λ (n : ℕ). take n s) e ∙ take-add at (3 + lengthAt s at) s ∙ ap (_++_ (take at s)) (field-stretch s at b h)
 
 module _ (s : List ℕ) (k : ℕ) where
   -- field k, written after the fields before it

@@ -1,10 +1,12 @@
 // A line's case: its head printed before it is tried, and its answer after.
-use guarding::ROOM;
 use guarding::guarded;
+use guarding::guarded_file;
 use packing::Parts;
 use packing::Word;
+use parsing::AGAIN;
 use parsing::Line;
 use parsing::parsed;
+use telling::length_told;
 use telling::printed;
 use telling::say;
 use telling::tell;
@@ -25,6 +27,7 @@ fn announce(letter: u8, name: &[u8], number: usize) {
         b'r' => text(name),
         b'l' => head(b"least of ", name),
         b'c' => head(b"check of ", name),
+        b'n' => head(b"normalize of ", name),
         b'p' | b's' => head(b"print of ", name),
         b'w' | b'#' => {}
         _ => {
@@ -34,15 +37,22 @@ fn announce(letter: u8, name: &[u8], number: usize) {
     }
 }
 
-// Takes the line that starts at `at` apart, and prints its head.
-pub fn opened(bytes: &mut [u8], begun: usize, table: &[u8], at: usize, number: usize) -> Line
+// Takes the line that starts at `at` apart, where there is a room of so many bytes, and prints its head.
+pub fn opened(
+    bytes: &mut [u8],
+    begun: usize,
+    table: &[u8],
+    at: usize,
+    number: usize,
+    room: usize,
+) -> Line
     requires { ⌜ at ≤ length (now table) ⌝ }
     ensures { λ r. ⌜ r .file ≤ r .all ⌝ }
     ensures { λ r. ⌜ r .all ≤ length (now (bytes .exit)) ⌝ }
     ensures { λ r. ⌜ r .from ≤ r .to ⌝ }
-    ensures { λ r. ⌜ r .to ≤ 14644 ⌝ }
+    ensures { λ r. ⌜ r .to ≤ room ⌝ }
 {
-    let line = parsed(bytes, begun, table, at, ROOM);
+    let line = parsed(bytes, begun, table, at, room);
     let start = line.start;
     let colon = line.colon;
     announce(line.letter, &table[start..colon], number);
@@ -85,17 +95,38 @@ fn called(room: &[u8], line: Line, answer: Parts)
     );
 }
 
-// Prints what the call for a line's case answered: a packed answer, or how many bytes the text has.
-pub fn show(room: &[u8], line: Line, answer: u64)
-    requires { ⌜ line .file ≤ line .all ⌝ }
+// Prints the answer of a call that writes a file, whether it wrote the one that is said, and whether the rest of the room is as it was.
+fn renewed(room: &[u8], said: &[u8], line: Line, answer: Parts)
     requires { ⌜ line .from ≤ line .to ⌝ }
     requires { ⌜ line .to ≤ length (now room) ⌝ }
 {
+    tell(answer);
+    if answer.word == Word::WRITTEN {
+        guarded_file(room, said, line.from, line.to, length_told(answer));
+    } else {
+        guarded(room, false, line.from, line.to, 0);
+    }
+}
+
+// Prints what the call for a line's case answered: a packed answer, or how many bytes the text has.
+pub fn show(room: &[u8], bytes: &[u8], line: Line, answer: u64)
+    requires { ⌜ line .file ≤ line .all ⌝ }
+    requires { ⌜ line .from ≤ line .to ⌝ }
+    requires { ⌜ line .to ≤ length (now room) ⌝ }
+    requires { ⌜ line .all ≤ length (now bytes) ⌝ }
+{
     let letter = line.letter;
     let to = line.to;
+    let file = line.file;
+    let all = line.all;
     match letter {
         b'r' => tell_line(unpacked(answer)),
         b'l' | b'c' => called(room, line, unpacked(answer)),
+        b'n' => renewed(room, &bytes[file..all], line, unpacked(answer)),
+        AGAIN => {
+            text(b"again");
+            renewed(room, &bytes[file..all], line, unpacked(answer));
+        }
         b'p' | b's' => printed(&room[0..to], answer as usize),
         _ => {}
     }

@@ -1,4 +1,6 @@
 // Reads the table, and prints an answer's word and numbers, and the text of the printing program.
+ghost use mathlib.Core.Path.{_≡_};
+ghost use lib.ListN.{length};
 use libc::STDIN_FILENO;
 use libc::STDOUT_FILENO;
 use packing::Parts;
@@ -22,6 +24,11 @@ fn say_two(word: &[u8], n: usize, k: usize) {
     say(b"", k);
 }
 
+// The length that the word `written` goes with: its low half is the first number, its high half the second.
+pub fn length_told(answer: Parts) -> usize {
+    answer.first % 65536 + answer.second % 65536 * 65536
+}
+
 // An answer, by its word and numbers.
 pub fn tell(answer: Parts) {
     let word = answer.word;
@@ -38,6 +45,7 @@ pub fn tell(answer: Parts) {
         }
         Word::FOUND => text(b": found"),
         Word::NONE => text(b": none"),
+        Word::WRITTEN => say(b": written", length_told(answer)),
         _ => text(b": no such word"),
     }
 }
@@ -59,6 +67,13 @@ pub fn printed(output: &[u8], n: usize) {
         text(output);
         text(b"\n");
     }
+}
+
+// Room for the table, or for the bytes of a case.
+pub fn space() -> [u8; 262144]
+    ensures { λ r. ⌜ 262144 ≡ length r ⌝ }
+{
+    [0; 262144]
 }
 
 // Reads the table and answers how many bytes it has; of one that does not fit nothing is taken.

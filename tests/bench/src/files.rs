@@ -1,4 +1,5 @@
 //! The files that are timed.
+pub mod orders;
 
 pub struct Plan {
     pub name: String,

@@ -1,7 +1,7 @@
 //! How long the proved calls take, beside (1) Rust written for speed alone, (2) a port of the proved code, statement by statement, and (3) naive
 //! iteration, the second checker. Rows of one kind double in size, so that the table shows how the time grows. Before anything is timed, the first
-//! two are held to the proved calls: every answer, and every byte of the lent buffer and around it, on the rows, on seeded inputs and on the same
-//! inputs with variables founded from above.
+//! two are held to the proved calls: every answer, and every byte of the lent buffer and around it, on the rows, on seeded inputs, on the same
+//! inputs with variables founded from above and on seeded files to be written anew.
 //!
 //! bench: the table. bench hold [seeded inputs] [first seed]: no table.
 mod fast;
@@ -9,6 +9,7 @@ mod files;
 mod port;
 mod turned;
 
+use files::orders;
 use files::{arrivals, capped, circle, circle_of, desk, followers, halves, led, led_by_two, mixed, mixed_in_use, ring, ring_of_both, roster};
 use files::{roster_of, row_13, Plan, Posts, Seed, ABOVE, ALL, BELOW, BOTH, DIVIDED, LONG, UNDIVIDED, UNUSED, USED, WITHOUT_SIZE};
 use std::hint::black_box;
@@ -19,6 +20,7 @@ extern "C" {
     fn founded_read(file: *const u8, length: usize) -> u64;
     fn founded_least(file: *const u8, length: usize, a: *const u8, n: usize, buffer: *mut u8, room: usize) -> u64;
     fn founded_check(file: *const u8, length: usize, a: *const u8, n: usize, report: *mut u8, room: usize) -> u64;
+    fn founded_normalize(file: *const u8, length: usize, buffer: *mut u8, room: usize) -> u64;
 }
 
 /// File, assignment and lent buffer; the answer is packed.
@@ -34,6 +36,10 @@ fn proved_least(file: &[u8], a: &[u8], b: &mut [u8]) -> u64 {
 
 fn proved_check(file: &[u8], a: &[u8], b: &mut [u8]) -> u64 {
     unsafe { founded_check(file.as_ptr(), file.len(), a.as_ptr(), a.len(), b.as_mut_ptr(), b.len()) }
+}
+
+fn proved_normalize(file: &[u8], _: &[u8], b: &mut [u8]) -> u64 {
+    unsafe { founded_normalize(file.as_ptr(), file.len(), b.as_mut_ptr(), b.len()) }
 }
 
 /// One call in four programs: proved, fast, port, naive. The naive one's answer is not looked at.
@@ -81,10 +87,23 @@ const CHECK: Row = Row {
     ],
 };
 
+const NORMALIZE: Row = Row {
+    name: "normalize",
+    calls: [
+        proved_normalize,
+        |file, _, b| fast::normalize_call(file, b),
+        |file, _, b| port::normalize_call(file, b),
+        |file, _, b| {
+            black_box(second::normalize(file, b));
+            0
+        },
+    ],
+};
+
 /// Whether the fast and the ported calls answer what the proved ones do, on a lent buffer of this length between guards.
-fn same(file: &[u8], assignment: &[u8], room: usize) -> bool {
+fn same(rows: &[Row], file: &[u8], assignment: &[u8], room: usize) -> bool {
     const GUARD: usize = 64;
-    [READ, LEAST, CHECK].iter().all(|row| {
+    rows.iter().all(|row| {
         let seen = |call: Call| {
             let mut buffer = vec![0xA5; room + 2 * GUARD];
             let answer = call(file, assignment, &mut buffer[GUARD..GUARD + room]);
@@ -95,22 +114,34 @@ fn same(file: &[u8], assignment: &[u8], room: usize) -> bool {
     })
 }
 
-fn hold(plans: &[Plan], first: u64, inputs: u64) {
+/// The calls for files with an assignment.
+const ASSIGNED: [Row; 3] = [READ, LEAST, CHECK];
+
+/// The same of normalize, on a buffer as long as the file, on a longer one, on one that is too short and on one of this length.
+fn same_written(file: &[u8], room: usize) -> bool {
+    let n = file.len();
+    [n, n + 40, n.saturating_sub(1), room].iter().all(|&room| same(&[NORMALIZE], file, &[], room))
+}
+
+fn hold_rows(plans: &[Plan]) {
     for p in plans {
         let n = p.assignment.len() / 2;
-        for room in [12 * n, 12 * n + 8, 12 * n - 1, 2 * n, 2 * n - 1] {
-            if !same(&p.file, &p.assignment, room) {
-                println!("answers differ: {}", p.name);
-                exit(1);
-            }
+        let rooms = [12 * n, 12 * n + 8, 12 * n - 1, 2 * n, 2 * n - 1];
+        if !rooms.iter().all(|&room| same(&ASSIGNED, &p.file, &p.assignment, room)) || !same_written(&p.file, 0) {
+            println!("answers differ: {}", p.name);
+            exit(1);
         }
     }
+}
+
+fn hold(first: u64, inputs: u64) {
     // how many of the turned inputs are stable, and unfounded
     let (mut stable, mut unfounded) = (0, 0);
     for seed in first..first + inputs {
         let input = second::gen::input(seed);
         let turned = turned::turned(seed, &input.file, &input.assignment);
-        if !same(&input.file, &input.assignment, input.buffer) || !same(&turned.file, &turned.assignment, input.buffer) {
+        let fine = |file: &[u8], a: &[u8]| same(&ASSIGNED, file, a, input.buffer) && same_written(file, input.buffer);
+        if !fine(&input.file, &input.assignment) || !fine(&turned.file, &turned.assignment) {
             println!("answers differ: seed {seed}");
             exit(1);
         }
@@ -123,12 +154,29 @@ fn hold(plans: &[Plan], first: u64, inputs: u64) {
     println!("variables founded from above, of which {stable} are stable and {unfounded} unfounded.");
 }
 
+/// Files to be written anew, and where they are accepted the same plan written otherwise.
+fn hold_written(first: u64, inputs: u64) {
+    let (mut written, mut shorter) = (0, 0);
+    for seed in first..first + inputs {
+        let case = second::gen::anew::case(seed);
+        let copy = case.copy.as_deref().unwrap_or(&[]);
+        if !same_written(&case.file, case.buffer) || !same_written(copy, case.buffer) {
+            println!("answers differ: seed {seed}, written anew");
+            exit(1);
+        }
+        let answer = port::normalize_call(&case.file, &mut vec![0; case.file.len()]);
+        written += (answer & 0xFF == 10) as u64;
+        shorter += (answer & 0xFF == 10 && answer >> 8 < case.file.len() as u64) as u64;
+    }
+    println!("So does normalize on these, and on {inputs} seeded files to be written anew, of which {written} are written, {shorter} of these shorter.");
+}
+
 const ROUNDS: usize = 25;
 const SLOW: usize = 3;
 
 /// The median of each call's times, and of the first one's ratios to it, over rounds in which every call has its turn.
 fn medians(calls: &[Call], p: &Plan) -> Vec<(Duration, f64)> {
-    let mut buffer = vec![0u8; 12 * port::VARIABLES];
+    let mut buffer = vec![0u8; port::MAX_FILE];
     let mut turn = |call: Call, times: u32| {
         let start = Instant::now();
         for _ in 0..times {
@@ -163,7 +211,7 @@ fn line(p: &Plan, row: &Row) {
     let naive = accepts == port::read(&p.file).is_ok() && (row.name != "least" || !p.name.contains("reverse"));
     let times = medians(&row.calls[..if naive { 4 } else { 3 }], p);
     let ratio = |i: usize| times.get(i).map_or("-".to_string(), |t| format!("{:.2}", t.1));
-    print!("{:<38} {:<5} {:>10}", p.name, row.name, shown(times[0].0));
+    print!("{:<38} {:<9} {:>10}", p.name, row.name, shown(times[0].0));
     println!(" {:>10} {:>7} {:>10} {:>7} {:>7}", shown(times[1].0), ratio(1), shown(times[2].0), ratio(2), ratio(3));
 }
 
@@ -275,19 +323,24 @@ fn idle_plans() -> [Plan; 3] {
 fn main() {
     let given: Vec<String> = std::env::args().skip(1).collect();
     let amount = |i: usize, usual: u64| given.get(i).map_or(usual, |a| a.parse().expect("a number"));
-    let plans = plans();
-    hold(&plans, amount(2, 0), amount(1, 50_000));
+    let (plans, orders) = (plans(), orders::plans());
+    let (first, inputs) = (amount(2, 0), amount(1, 50_000));
+    hold_rows(&plans);
+    hold_rows(&orders);
+    hold(first, inputs);
+    hold_written(first, inputs);
     if given.first().is_some_and(|word| word == "hold") {
         return;
     }
     println!("Times and ratios (the proved call's time by the other's) are medians of {ROUNDS} rounds of one run, {SLOW} for calls over 20 ms; in a");
     println!("round every program has its turn, about 1 ms.");
     println!("fast: Rust for speed alone, by its own algorithms; port: the proved code in Rust, statement by statement; naive: the second checker.\n");
-    print!("{:<38} {:<5} {:>10}", "input", "call", "proved");
+    print!("{:<38} {:<9} {:>10}", "input", "call", "proved");
     println!(" {:>10} {:>7} {:>10} {:>7} {:>7}", "fast", "/ fast", "port", "/ port", "/ naive");
     for p in &plans {
-        for row in [READ, LEAST, CHECK] {
-            line(p, &row);
-        }
+        ASSIGNED.iter().for_each(|row| line(p, row));
+    }
+    for p in &orders {
+        [READ, NORMALIZE].iter().for_each(|row| line(p, row));
     }
 }

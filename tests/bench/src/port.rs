@@ -1,5 +1,9 @@
-//! The three calls as the proved code has them, statement by statement, with no proofs. It reads rules and terms from the file's bytes, keeps a set
+//! The calls as the proved code has them, statement by statement, with no proofs. It reads rules and terms from the file's bytes, keeps a set
 //! of rules still to look at and, for each variable, the set of rules that read it at a kept position.
+
+mod normal;
+
+pub use normal::normalize_call;
 
 pub const MAX_FILE: usize = 60_000;
 pub const VARIABLES: usize = 256;

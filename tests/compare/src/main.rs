@@ -1,13 +1,16 @@
 //! Compares the proved calls, through libfounded.a, with the second checker on seeded inputs: every answer and every byte of the lent buffers and
-//! around them. Small programs are tried by brute force, and a smaller number of inputs goes through the printing program.
+//! around them. Small programs are tried by brute force, and a smaller number of inputs goes through the two programs. A twentieth of the inputs
+//! more are files to be written anew.
 //!
-//! compare [first seed] [inputs] [small programs] [inputs of the printing program] [its path]
+//! compare [first seed] [inputs] [small programs] [inputs of each program] [path of the printing one] [path of the one that writes anew]
 
-use second::brute::{self, Calls, Tried};
+use second::anew::{self, Normalize};
+use second::brute::{self, Anew, Calls, Tried};
+use second::gen::anew::Case;
 use second::gen::{self, Input};
 use second::mirror::{self, Turned};
 use second::tally::{see, Seen, Tally};
-use second::{Reading, Solved, Verdict, Wrong};
+use second::{Normal, Reading, Solved, Verdict, Wrong};
 use std::io::Write;
 use std::process::{Command, Stdio};
 
@@ -15,7 +18,11 @@ extern "C" {
     fn founded_read(file: *const u8, length: usize) -> u64;
     fn founded_least(file: *const u8, length: usize, a: *const u8, n: usize, buffer: *mut u8, room: usize) -> u64;
     fn founded_check(file: *const u8, length: usize, a: *const u8, n: usize, report: *mut u8, room: usize) -> u64;
+    fn founded_normalize(file: *const u8, length: usize, buffer: *mut u8, room: usize) -> u64;
 }
+
+const PROVED: Calls = Calls { read: proved_read, least: proved_least, check: proved_check };
+const WRITES: Normalize = &proved_normalize;
 
 /// What the buffers hold before, and how many such bytes stand on each side.
 const FILL: u8 = 0xA5;
@@ -55,6 +62,16 @@ fn proved_check(file: &[u8], a: &[u8], report: &mut [u8]) -> Verdict {
         (2, n, k, 0) => Verdict::Unfounded(n, k),
         (1, 0, 0, 0) => Verdict::Stable,
         other => panic!("check answers {other:?}"),
+    }
+}
+
+/// A length has 32 bits, and none stands above them.
+fn proved_normalize(file: &[u8], buffer: &mut [u8]) -> Normal {
+    let packed = unsafe { founded_normalize(file.as_ptr(), file.len(), buffer.as_mut_ptr(), buffer.len()) };
+    match (packed & 0xFF, packed >> 8, parts(packed)) {
+        (10, length, _) if length <= u64::from(u32::MAX) => Normal::Written(length as usize),
+        (6, _, (_, number, place, 0)) if packed >> 56 == 0 => Normal::Refused { number, place },
+        _ => panic!("normalize answers {packed:#x}"),
     }
 }
 
@@ -117,17 +134,59 @@ fn calls(first: u64, inputs: u64, failures: &mut Vec<String>) {
     }
 }
 
-/// Every assignment of small programs, each sentence of the third demand tried on what the proved check shows.
-fn brute_force(first: u64, programs: u64, failures: &mut Vec<String>) {
-    let proved = Calls { read: proved_read, least: proved_least, check: proved_check };
-    let mut tried = Tried::default();
-    for seed in first..first + programs {
-        if let Err(what) = brute::try_file(&proved, &gen::small(seed), &mut tried) {
-            failures.push(format!("small program {seed}: {what}"));
+/// What differs when this file is written anew into a buffer that holds these bytes.
+fn differs_anew(case: &Case, before: &[u8]) -> Option<String> {
+    let (answer, bytes) = anew::lend_from(before, |buffer| proved_normalize(&case.file, buffer));
+    let (wanted, due) = anew::lend_from(before, |buffer| second::normalize(&case.file, buffer));
+    let same = answer == wanted && bytes.is_some() && bytes == due;
+    (!same).then(|| format!("normalize, buffer of {}: {answer:?}, second {wanted:?}", before.len()))
+}
+
+/// Buffers of several lengths and with several bytes before: the case's own, one as long as the file that holds it already, a longer one of
+/// zeros, and one that is a byte too short.
+fn buffers(case: &Case) -> [Vec<u8>; 4] {
+    let n = case.file.len();
+    [vec![FILL; case.buffer], case.file.clone(), vec![0; n + 7], vec![0xFF; n.saturating_sub(1)]]
+}
+
+/// Files written anew: every answer and byte, then each sentence about the normal form tried on the proved calls alone.
+fn normal_forms(first: u64, cases: u64, failures: &mut Vec<String>) {
+    let mut tally = Tally::default();
+    let mut compared = 0;
+    for seed in first..first + cases {
+        let case = gen::anew::case(seed);
+        for before in buffers(&case) {
+            compared += 1;
+            if let Some(what) = differs_anew(&case, &before) {
+                failures.push(format!("normal form {seed}, {}: {what}", case.label));
+            }
+        }
+        if let Err(what) = anew::try_case(&PROVED, WRITES, &case, &mut tally) {
+            failures.push(format!("normal form {seed}, {}: {what}", case.label));
         }
     }
-    println!("brute force {tried:?}");
-    for (name, count) in tried.each() {
+    for (name, count) in &tally.counts {
+        println!("{count:>8}  {name}");
+    }
+    failures.extend(tally.missing_of(anew::required(), (cases / 200).max(1) as usize));
+    println!("{cases} files written anew by the library, {compared} buffers");
+}
+
+/// Every assignment of small programs, each sentence of the third demand tried on what the proved check shows; and their stable assignments
+/// held against those of what is written anew.
+fn brute_force(first: u64, programs: u64, failures: &mut Vec<String>) {
+    let mut tried = Tried::default();
+    let mut anew = Anew::default();
+    for seed in first..first + programs {
+        if let Err(what) = brute::try_file(&PROVED, &gen::small(seed), &mut tried) {
+            failures.push(format!("small program {seed}: {what}"));
+        }
+        if let Err(what) = brute::try_normal(WRITES, &gen::anew::small(seed), &mut anew) {
+            failures.push(format!("small program {seed}, written anew: {what}"));
+        }
+    }
+    println!("brute force {tried:?}, written anew {anew:?}");
+    for (name, count) in tried.each().into_iter().chain(anew.each()) {
         if programs >= 1_000 && count < 20 {
             failures.push(format!("brute force tried too little: {name} {count}"));
         }
@@ -162,15 +221,37 @@ fn program(path: &str, first: u64, inputs: u64, failures: &mut Vec<String>) {
     }
 }
 
+fn normal_program(path: &str, first: u64, inputs: u64, failures: &mut Vec<String>) {
+    let (mut refused, mut long, mut other) = (0, 0, 0);
+    for seed in first..first + inputs {
+        let input = gen::anew::print_input(seed);
+        let want = second::print_normal(&input);
+        refused += u64::from(want.starts_with(b"refused"));
+        long += u64::from(want == b"refused 1 0\n");
+        other += u64::from(!want.starts_with(b"refused") && want != input);
+        match printed(path, &input) {
+            Ok(got) if got == want => {}
+            Ok(got) => failures.push(format!("normal form {seed}: printed {got:02X?}, second {want:02X?}")),
+            Err(e) => failures.push(format!("{path}: {e}")),
+        }
+    }
+    println!("{inputs} inputs through the program that writes anew, {refused} of them refused, {long} too long, {other} changed");
+    if refused < inputs / 20 || long < inputs / 200 || other < inputs / 4 {
+        failures.push("too few inputs refused, too long or changed by the program that writes anew".to_string());
+    }
+}
+
 fn main() {
     let given: Vec<String> = std::env::args().skip(1).collect();
     let amount = |i: usize, usual: u64| given.get(i).map_or(usual, |a| a.parse().expect("a number"));
     let (first, inputs, small, prints) = (amount(0, 0), amount(1, 60_000), amount(2, 4_000), amount(3, 0));
     let mut failures = Vec::new();
     calls(first, inputs, &mut failures);
+    normal_forms(first, inputs / 20, &mut failures);
     brute_force(first, small, &mut failures);
     if prints > 0 {
-        program(given.get(4).expect("the program's path"), first, prints, &mut failures);
+        program(given.get(4).expect("the printing program's path"), first, prints, &mut failures);
+        normal_program(given.get(5).expect("the path of the program that writes anew"), first, prints, &mut failures);
     }
     for failure in failures.iter().take(20) {
         println!("differs: {failure}");

@@ -2,11 +2,13 @@
 //! the papers and the settled points alone. Clarity comes before speed: plain
 //! structures, plain searches, naive iteration.
 //!
-//! The four calls are `read`, `least`, `check` and `print`. Each has a twin
-//! ending in `_with` that takes a [`Wrong`]: a deliberate mistake, used to see
-//! whether the generator would notice it. `Wrong::Nothing` is the checker.
+//! The calls are `read`, `least`, `check` and `normalize`, and `print` and
+//! `print_normal` for the programs. Each has a twin ending in `_with` that takes
+//! a [`Wrong`]: a deliberate mistake, used to see whether the generator would
+//! notice it. `Wrong::Nothing` is the checker.
 
 pub mod above;
+pub mod anew;
 pub mod brute;
 pub mod calls;
 pub mod gen;
@@ -16,6 +18,8 @@ mod idle_above;
 pub mod idling;
 pub mod meaning;
 pub mod mirror;
+pub mod normal;
+pub mod plan;
 pub mod printing;
 pub mod program;
 pub mod reader;
@@ -24,6 +28,7 @@ pub mod tally;
 pub mod wrong;
 
 pub use calls::{Reading, Solved, Verdict};
+pub use normal::Normal;
 pub use wrong::Wrong;
 
 /// Reads a file: its three counts, or the first refusal.
@@ -44,4 +49,14 @@ pub fn check(file: &[u8], assignment: &[u8], report: &mut [u8]) -> Verdict {
 /// What the printing program prints for this standard input.
 pub fn print(input: &[u8]) -> Vec<u8> {
     printing::print_with(input, Wrong::Nothing)
+}
+
+/// Writes an accepted file anew and answers the length; a refusal writes nothing.
+pub fn normalize(file: &[u8], buffer: &mut [u8]) -> Normal {
+    normal::normalize_with(file, buffer, Wrong::Nothing)
+}
+
+/// What the program of the normal form prints for this standard input.
+pub fn print_normal(input: &[u8]) -> Vec<u8> {
+    normal::print_normal_with(input, Wrong::Nothing)
 }

@@ -218,8 +218,13 @@ impl Tally {
 
     /// Names hit less often than they should be.
     pub fn missing(&self, least: usize) -> Vec<String> {
+        self.missing_of(required(), least)
+    }
+
+    /// Those of these names, each with what the wanted number is divided by.
+    pub fn missing_of(&self, names: Vec<(String, usize)>, least: usize) -> Vec<String> {
         let mut missing = Vec::new();
-        for (name, part) in required() {
+        for (name, part) in names {
             let wanted = (least / part).max(3);
             let count = self.counts.get(&name).copied().unwrap_or(0);
             if count < wanted {

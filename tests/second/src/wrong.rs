@@ -2,15 +2,19 @@
 //! on which each of them answers differently from the checker.
 
 macro_rules! mistakes {
-    ($($(#[$says:meta])* $name:ident,)*) => {
+    ($($(#[$says:meta])* $name:ident,)*; $($(#[$tells:meta])* $normal:ident,)*) => {
         #[derive(Clone, Copy, Debug, PartialEq, Eq)]
         pub enum Wrong {
             Nothing,
             $($(#[$says])* $name,)*
+            $($(#[$tells])* $normal,)*
         }
 
         impl Wrong {
+            /// Mistakes of reading, least, check and print.
             pub const ALL: &'static [Wrong] = &[$(Wrong::$name,)*];
+            /// Mistakes of the normal form alone.
+            pub const NORMAL: &'static [Wrong] = &[$(Wrong::$normal,)*];
         }
     };
 }
@@ -371,4 +375,137 @@ mistakes! {
     AboveLeastHeadAtHigh,
     /// For the least, standard variables are 0.
     AboveLeastStandardZero,
+    ;
+    /// 17 is tried before the file's own refusals.
+    SeventeenFirst,
+    /// The lent buffer is compared with the output.
+    BufferByOutput,
+    /// A buffer one byte shorter than the file is good enough.
+    OneShortWritten,
+    /// A buffer as long as the file is too short.
+    BufferMustBeLonger,
+    /// An empty buffer is too short for the empty file.
+    EmptyBufferRefused,
+    /// The place of 17 is the buffer's length.
+    SeventeenHasPlace,
+    /// What fits is written though the buffer is too short.
+    RefusedWrites,
+    /// A file that is not valid is written anew.
+    InvalidWritten,
+    /// The length of the input is answered.
+    AnswersInputLength,
+    /// Bytes after the output are cleared.
+    ClearsBehind,
+    /// The input's last bytes stand after the output.
+    LeavesInput,
+    /// The output stands at the end of the buffer.
+    WritesAtEnd,
+    /// Equal variables are written once.
+    VariablesMerged,
+    /// Variables are sorted too.
+    VariablesSorted,
+    /// Constraints stand before rules.
+    ConstraintsBeforeRules,
+    /// Repeats stay.
+    RepeatsKept,
+    /// Repeated rules stay.
+    RuleRepeatsKept,
+    /// Repeated constraints stay.
+    ConstraintRepeatsKept,
+    /// Repeats are dropped before terms are ordered.
+    RepeatsBeforeTerms,
+    /// Only repeats that are neighbours in the input are dropped.
+    NeighboursDropped,
+    /// Of more than two equal fields one is dropped.
+    OneRepeatDropped,
+    /// A field that is repeated is not written at all.
+    RepeatsAllDropped,
+    /// Fields that agree but for the last byte are repeats.
+    RepeatsButLast,
+    /// Fields that agree in their terms are repeats, whatever c is.
+    RepeatsByTerms,
+    /// Rules stay in the order of the file.
+    RulesUnsorted,
+    /// Constraints stay in the order of the file.
+    ConstraintsUnsorted,
+    /// Fields are sorted 256 at a time.
+    SortsBlocks,
+    /// Fields are sorted by one pass over neighbours.
+    SortsOnePass,
+    /// Fields are compared by signed bytes.
+    SignedBytes,
+    /// c is compared as a number.
+    ConstantAsNumber,
+    /// Only values are compared, not lengths.
+    ValuesOnly,
+    /// A longer field stands before a shorter one.
+    LongerFirst,
+    /// Fields are descending.
+    FieldsDescending,
+    /// Rules are sorted by their heads first.
+    HeadsFirst,
+    /// Fields are compared from their last byte on.
+    LastByteFirst,
+    /// Forms are compared last.
+    FormLast,
+    /// 7 bytes are compared: all before a rule's terms.
+    StopsAfter7,
+    /// 8 bytes are compared.
+    StopsAfter8,
+    /// 16 bytes are compared.
+    StopsAfter16,
+    /// 32 bytes are compared.
+    StopsAfter32,
+    /// 64 bytes are compared.
+    StopsAfter64,
+    /// All bytes but the last are compared.
+    StopsBeforeLast,
+    /// The carried variable is sorted in.
+    CarriedSorted,
+    /// The literals of a carry are not ordered.
+    CarryUnordered,
+    /// The divisor and the terms are sorted by all their bytes.
+    DivisorBehindZero,
+    /// The divisor stands last.
+    DivisorLast,
+    /// The divisor and the terms are sorted by their numbers.
+    DivisorByNumber,
+    /// The terms of form 8 are not ordered.
+    QuotientUnordered,
+    /// The terms of form 1 are not ordered.
+    SumUnordered,
+    /// The terms of max are not ordered.
+    MaxUnordered,
+    /// The terms of min are not ordered.
+    MinUnordered,
+    /// The factors of a product are not ordered.
+    ProductUnordered,
+    /// The literals of form 6 are not ordered.
+    IfUnordered,
+    /// No literals are ordered.
+    LiteralsUnordered,
+    /// The terms of constraint form 1 are not ordered.
+    ConstraintSumUnordered,
+    /// The literals of constraint form 2 are not ordered.
+    ConstraintLiteralsUnordered,
+    /// The first term stays first in every form.
+    FirstTermStays,
+    /// Terms are descending.
+    TermsDescending,
+    /// Variables of terms are compared as signed bytes.
+    TermsSigned,
+    /// Terms are sorted by their numbers.
+    TermsByNumber,
+    /// Literals of op 1 stand before those of op 2.
+    LiteralsByOp,
+    /// Terms are sorted by one pass over neighbours.
+    TermsOnePass,
+    /// Only the first 8 terms are ordered.
+    EightTermsOrdered,
+    /// The 16th term stays where it is.
+    SixteenthStays,
+    /// Form 8 with divisor 1 is written as form 1.
+    OneIsSum,
+    /// Idle rules are left out.
+    IdleLeftOut,
 }

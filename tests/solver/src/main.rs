@@ -1,14 +1,16 @@
 //! Compares the proved check with an answer set solver: for each small
 //! program, the assignments called stable against the answer sets of its
-//! translation.
+//! translation. The same on the file written anew.
 //!
 //! solver [first seed] [programs]                  compares, then tries the wrong readings
 //! solver --reading NAME [first seed] [programs]   compares under another reading
 //! solver --show SEED                              prints a program and its translation
 
+mod anew;
 mod answers;
 mod families;
 mod inputs;
+mod mistakes;
 mod proved;
 mod reading;
 mod show;
@@ -22,6 +24,7 @@ use second::gen::fields;
 use second::program::Program;
 use second::reader::parse;
 use second::{Verdict, Wrong};
+use std::cell::OnceCell;
 use std::collections::BTreeSet;
 use tally::Tally;
 
@@ -75,22 +78,23 @@ const WRONG_CHECKERS: [Wrong; 38] = [
 struct Case {
     name: String,
     file: Vec<u8>,
+    /// The same plan in another order, and the file written anew.
+    copy: Vec<u8>,
+    output: Vec<u8>,
     program: Program,
     words: Vec<(Vec<i64>, Word)>,
+    /// What the solver says by the right reading, once asked.
+    answers: OnceCell<Result<Vec<Vec<i64>>, String>>,
 }
 
 impl Case {
     /// Nothing for a file that the second reader turns down.
     fn new((name, file): (String, Vec<u8>)) -> Option<Case> {
         let program = parse(&file, Wrong::Nothing).ok()?;
-        let words = proved::assignments(&program)
-            .into_iter()
-            .map(|values| {
-                let word = proved::check(&file, &values);
-                (values, word)
-            })
-            .collect();
-        Some(Case { name, file, program, words })
+        let words = proved::words(&file, &program);
+        let copy = anew::copy(&file);
+        let output = proved::normalize(&file).unwrap_or_default();
+        Some(Case { name, file, copy, output, program, words, answers: OnceCell::new() })
     }
 
     fn stable(&self) -> BTreeSet<Vec<i64>> {
@@ -122,6 +126,13 @@ impl Case {
 
     /// The assignment of every answer set, or what went wrong.
     fn solved(&self, reading: Reading) -> Result<Vec<Vec<i64>>, String> {
+        match reading {
+            Reading::Right => self.answers.get_or_init(|| self.solve(reading)).clone(),
+            _ => self.solve(reading),
+        }
+    }
+
+    fn solve(&self, reading: Reading) -> Result<Vec<Vec<i64>>, String> {
         let text = translate::translate(&self.program, reading);
         let answers = answers::answers(&text, self.program.variables.len());
         answers.map_err(|what| format!("{}\n{text}{what}\n", self.title()))
@@ -201,6 +212,7 @@ fn count(cases: &[Case]) -> Vec<String> {
     let mut tally = Tally::default();
     for case in cases {
         tally.add(&case.program, &case.words);
+        tally.met(anew::names(&case.file, &case.copy, &case.output));
     }
     for (name, count) in &tally.programs {
         println!("{count:>6}  {name}");
@@ -258,7 +270,9 @@ fn main() {
         for &other in Reading::OTHERS {
             failed |= compare(&cases, other) > 0;
         }
+        failed |= anew::compare(&cases) > 0;
         let mut failures = sharp(&cases);
+        failures.extend(anew::sharp(&cases));
         failures.extend(count(&cases));
         for failure in &failures {
             println!("failed: {failure}");

@@ -1,4 +1,5 @@
-//! The proved check, through libfounded.a, on every assignment in the ranges.
+//! The proved calls, through libfounded.a: the check on every assignment in the
+//! ranges, and a file written anew.
 
 use second::program::Program;
 
@@ -11,7 +12,10 @@ extern "C" {
         report: *mut u8,
         room: usize,
     ) -> u64;
+    fn founded_normalize(file: *const u8, length: usize, buffer: *mut u8, room: usize) -> u64;
 }
+
+const WRITTEN: u64 = 10;
 
 #[derive(Clone, Debug, PartialEq, Eq)]
 pub enum Word {
@@ -44,8 +48,27 @@ pub fn check(file: &[u8], values: &[i64]) -> Word {
     }
 }
 
+/// The file written anew, or nothing where it is refused.
+pub fn normalize(file: &[u8]) -> Option<Vec<u8>> {
+    let mut buffer = vec![0; file.len()];
+    // SAFETY: each pointer is lent with the length of its buffer.
+    let packed =
+        unsafe { founded_normalize(file.as_ptr(), file.len(), buffer.as_mut_ptr(), buffer.len()) };
+    let length = (packed >> 8) as usize;
+    (packed & 0xFF == WRITTEN && length <= file.len()).then(|| buffer[..length].to_vec())
+}
+
+/// Every assignment in the ranges of a program, with the check's word on a file.
+pub fn words(file: &[u8], program: &Program) -> Vec<(Vec<i64>, Word)> {
+    let word = |values: Vec<i64>| {
+        let word = check(file, &values);
+        (values, word)
+    };
+    assignments(program).into_iter().map(word).collect()
+}
+
 /// Every assignment in the ranges.
-pub fn assignments(program: &Program) -> Vec<Vec<i64>> {
+fn assignments(program: &Program) -> Vec<Vec<i64>> {
     let mut all = vec![Vec::new()];
     for variable in &program.variables {
         let longer = |a: &Vec<i64>| -> Vec<Vec<i64>> {

@@ -1,5 +1,6 @@
 //! How often each form, direction, kind and sort of circle was met.
 
+use crate::anew;
 use crate::proved::Word;
 use crate::reading::{direction, Direction};
 use second::graph;
@@ -149,6 +150,11 @@ impl Tally {
         names.extend(program.constraints.iter().map(|c| format!("constraint form {}", c.form)));
         names.extend(self.verdicts(program, words));
         names.extend(quotients(program, words));
+        self.met(names);
+    }
+
+    /// What was met in one program.
+    pub fn met(&mut self, names: BTreeSet<String>) {
         for name in names {
             *self.programs.entry(name).or_insert(0) += 1;
         }
@@ -270,6 +276,7 @@ fn required() -> Vec<(String, usize)> {
         ("kind 2: several stable assignments", 5),
     ];
     names.extend(others.map(|(name, n)| (name.to_string(), n)));
+    names.extend(anew::required());
     names
 }
 

@@ -7,10 +7,11 @@ use Rattle.cases.proofs.each.Statement.{statement}
 use Rattle.cases.proofs.each.Tie as tie
 
 abbrev Inv-loop : tie.InvT-loop
-Inv-loop table bytes₀ begun₀ number₀ at₀ bytes begun number at = (length bytes ≡ length bytes₀) × (number ≤ at)
+Inv-loop table bytes₀ room₀ begun₀ number₀ at₀ bytes room begun number at =
+    (length bytes ≡ length bytes₀) × (length room ≡ length room₀) × (number ≤ at)
 
 abbrev μ-loop : tie.MeasureT-loop
-μ-loop table bytes₀ begun₀ number₀ at₀ bytes begun number at = length table - at
+μ-loop table bytes₀ room₀ begun₀ number₀ at₀ bytes room begun number at = length table - at
 
 loop-holds : tie.Need-loop-holds Inv-loop μ-loop
 loop-holds c = search needs
@@ -36,6 +37,9 @@ loop-again c = search needs
 same-length : tie.Need-same-length Inv-loop μ-loop
 same-length c = search needs
 
+same-length-2 : tie.Need-same-length-2 Inv-loop μ-loop
+same-length-2 c = search needs
+
 returns : tie.Need-returns Inv-loop μ-loop
 returns c = search needs
 
@@ -53,4 +57,5 @@ each-spec =
     loop-less
     loop-again
     same-length
+    same-length-2
     returns)

@@ -7,10 +7,10 @@ use Rattle.guarding.proofs.patterned.Statement.{statement}
 use Rattle.guarding.proofs.patterned.Tie as tie
 
 abbrev Inv-loop : tie.InvT-loop
-Inv-loop room₀ i₀ room i = length room ≡ 14644
+Inv-loop room₀ i₀ i-end room i = (length room ≡ length room₀) × (i-end ≡ length room₀)
 
 abbrev μ-loop : tie.MeasureT-loop
-μ-loop room₀ i₀ room i = 14644 - i
+μ-loop room₀ i₀ i-end room i = i-end - i
 
 loop-holds : tie.Need-loop-holds Inv-loop μ-loop
 loop-holds c = search needs
@@ -18,8 +18,8 @@ loop-holds c = search needs
 pattern-requires : tie.Need-pattern-requires Inv-loop μ-loop
 pattern-requires c κs = search needs
 
-array-write-room : tie.Need-array-write-room Inv-loop μ-loop
-array-write-room c = search needs
+slice-write-room : tie.Need-slice-write-room Inv-loop μ-loop
+slice-write-room c = search needs
 
 add-i : tie.Need-add-i Inv-loop μ-loop
 add-i c = search needs
@@ -29,6 +29,9 @@ loop-less c = search needs
 
 loop-again : tie.Need-loop-again Inv-loop μ-loop
 loop-again c = search needs
+
+same-length : tie.Need-same-length Inv-loop μ-loop
+same-length c = search needs
 
 returns : tie.Need-returns Inv-loop μ-loop
 returns c = search needs
@@ -41,8 +44,9 @@ patterned-spec =
     μ-loop
     loop-holds
     pattern-requires
-    array-write-room
+    slice-write-room
     add-i
     loop-less
     loop-again
+    same-length
     returns)

@@ -1,11 +1,13 @@
-//! The three calls written for speed alone: one pass that tries each field, rules and constraints as structs over slices of the file, graphs and
+//! The calls written for speed alone: one pass that tries each field, rules and constraints as structs over slices of the file, graphs and
 //! lists of readers only where they are needed and as large as the file, and an end as soon as the answer is known.
 mod graph;
+mod normal;
 mod read;
 mod run;
 mod set;
 
 use crate::port::pack;
+pub use normal::normalize_call;
 use read::{Program, Refusal, Skip};
 use run::Values;
 use set::Set;

@@ -3,8 +3,10 @@
 //!
 //! selftest [inputs] [small programs] [inputs for each wrong variant]
 
-use second::brute::{self, Tried};
+use second::anew::{self, lend};
+use second::brute::{self, Anew, Tried};
 use second::mirror::{self, Turned};
+use second::normal::normalize_with;
 use second::printing::print_with;
 use second::tally::{see, Tally};
 use second::{gen, Reading, Solved, Verdict, Wrong};
@@ -18,7 +20,11 @@ fn main() {
     mirrors(amount(0, 60_000), Turned::Above, &mut failures);
     mirrors(amount(0, 60_000), Turned::All, &mut failures);
     brute_force(amount(1, 12_000), &mut failures);
+    normal_forms(amount(0, 60_000) / 4, &mut failures);
+    normal_force(amount(1, 12_000), &mut failures);
     variants(amount(2, 20_000), &mut failures);
+    normal_variants(amount(2, 20_000), &mut failures);
+    println!("wrong variants: {}", Wrong::ALL.len() + Wrong::NORMAL.len());
     for failure in failures.iter().take(40) {
         println!("FAILED {failure}");
     }
@@ -135,5 +141,62 @@ fn variants(bound: u64, failures: &mut Vec<String>) {
     }
     for wrong in unseen {
         failures.push(format!("wrong variant {wrong:?} not found in {bound} inputs"));
+    }
+}
+
+/// The sentences about the normal form.
+fn normal_forms(cases: u64, failures: &mut Vec<String>) {
+    let mut tally = Tally::default();
+    for seed in 0..cases {
+        let case = gen::anew::case(seed);
+        if let Err(what) = anew::try_case(&brute::OWN, &second::normalize, &case, &mut tally) {
+            failures.push(format!("normal form {seed}, {}: {what}", case.label));
+        }
+    }
+    println!("normal forms {cases}");
+    for (name, count) in &tally.counts {
+        println!("{count:>8}  {name}");
+    }
+    let missing = tally.missing_of(anew::required(), (cases / 200).max(1) as usize);
+    println!("names hit less than wanted: {}", missing.len());
+    failures.extend(missing);
+}
+
+/// The stable assignments of small files and of their normal forms.
+fn normal_force(programs: u64, failures: &mut Vec<String>) {
+    let mut tried = Anew::default();
+    for seed in 0..programs {
+        let file = gen::anew::small(seed);
+        if let Err(what) = brute::try_normal(&second::normalize, &file, &mut tried) {
+            failures.push(format!("normal form of small program {seed}: {what}"));
+        }
+    }
+    println!("brute force, normal forms {tried:?}");
+    for (name, count) in tried.each() {
+        if programs >= 1_000 && count < 50 {
+            failures.push(format!("brute force tried too little: normal forms, {name} {count}"));
+        }
+    }
+}
+
+fn normal_variants(bound: u64, failures: &mut Vec<String>) {
+    let mut unseen = Wrong::NORMAL.to_vec();
+    for seed in 0..bound {
+        if unseen.is_empty() {
+            break;
+        }
+        let case = gen::anew::case(seed);
+        let see = |wrong| lend(case.buffer, |buffer| normalize_with(&case.file, buffer, wrong));
+        let right = see(Wrong::Nothing);
+        unseen.retain(|&wrong| {
+            let same = see(wrong) == right;
+            if !same {
+                println!("wrong variant {wrong:?}: first differs on normal form {seed}");
+            }
+            same
+        });
+    }
+    for wrong in unseen {
+        failures.push(format!("wrong variant {wrong:?} not found in {bound} normal forms"));
     }
 }

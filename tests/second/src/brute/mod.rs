@@ -5,12 +5,13 @@
 mod defs;
 mod tried;
 
+use crate::anew::{written, Normalize};
 use crate::program::{signed, Kind};
 use crate::reader::{parse_fields, Refusal};
 use crate::wrong::Wrong;
 use crate::{Reading, Solved, Verdict};
 use defs::{choices, constraint_met, Small, OUT};
-pub use tried::Tried;
+pub use tried::{Anew, Tried};
 
 /// The calls that are tried.
 pub struct Calls {
@@ -57,6 +58,36 @@ pub fn try_file(calls: &Calls, file: &[u8], tried: &mut Tried) -> Result<(), Str
         tried.idle_unfounded += usize::from(by_idle) * unfounded;
     }
     Ok(())
+}
+
+/// The stable assignments of a small file, by the definitions; nothing where the
+/// file is refused.
+fn stable_of(file: &[u8]) -> Option<Vec<Vec<i64>>> {
+    let small = Small::of(parse_fields(file, Wrong::Nothing).ok()?);
+    if small.invalid(&small.idle()).is_some() {
+        return None;
+    }
+    let ranges: Vec<Vec<i64>> =
+        small.program.variables.iter().map(|v| (v.low..=v.high).collect()).collect();
+    Some(choices(&ranges).into_iter().filter(|a| is_stable(&small, a)).collect())
+}
+
+/// The stable assignments of a small file and of its normal form are the same.
+pub fn try_normal(normalize: Normalize, file: &[u8], tried: &mut Anew) -> Result<(), String> {
+    let Some(before) = stable_of(file) else { return Ok(()) };
+    let out = written(normalize, file)?;
+    let after = stable_of(&out);
+    let other = usize::from(out != file);
+    tried.programs += 1;
+    tried.rewritten += other;
+    tried.shorter += usize::from(out.len() < file.len());
+    tried.stable += other * before.len();
+    tried.several += other * usize::from(before.len() > 1);
+    tried.without += other * usize::from(before.is_empty());
+    match after.as_ref() == Some(&before) {
+        true => Ok(()),
+        false => Err(format!("{before:?} are stable, of the output {after:?}")),
+    }
 }
 
 /// Idle rules, validity and the counts. Nothing where the file is refused;

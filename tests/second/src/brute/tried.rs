@@ -1,16 +1,14 @@
 //! How much the brute force has tried.
 
 macro_rules! counts {
-    ($($(#[$says:meta])* $name:ident,)*) => {
+    ($tried:ident, $($all:ident)*; $($(#[$says:meta])* $name:ident,)*) => {
         #[derive(Default, Debug)]
-        pub struct Tried {
-            pub programs: usize,
-            pub assignments: usize,
-            pub sets: usize,
+        pub struct $tried {
+            $(pub $all: usize,)*
             $($(#[$says])* pub $name: usize,)*
         }
 
-        impl Tried {
+        impl $tried {
             /// What has to be tried often enough, by name.
             pub fn each(&self) -> Vec<(&'static str, usize)> {
                 vec![$((stringify!($name), self.$name),)*]
@@ -20,6 +18,7 @@ macro_rules! counts {
 }
 
 counts! {
+    Tried, programs assignments sets;
     invalid,
     stable,
     unfounded,
@@ -69,4 +68,17 @@ counts! {
     /// Assignments by which a divisor of a rule for kind 2 leaves a remainder
     /// of a negative sum.
     above_uneven_below,
+}
+
+// Of the normal form.
+counts! {
+    Anew, programs;
+    /// Programs whose normal form has other bytes, and fewer.
+    rewritten,
+    shorter,
+    /// Stable assignments of those with other bytes; those with more than one,
+    /// and with none.
+    stable,
+    several,
+    without,
 }

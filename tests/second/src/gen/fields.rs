@@ -57,6 +57,22 @@ pub fn bytes(fields: &[Field]) -> Vec<u8> {
     out
 }
 
+/// The fields of a file that has whole ones only; else those before the first
+/// that is cut.
+pub fn taken(file: &[u8]) -> Vec<Field> {
+    let mut out = Vec::new();
+    let mut rest = file;
+    while rest.len() >= 3 {
+        let end = 3 + usize::from(u16::from_be_bytes([rest[1], rest[2]]));
+        if rest.len() < end {
+            break;
+        }
+        out.push(Field { tag: rest[0], value: rest[3..end].to_vec() });
+        rest = &rest[end..];
+    }
+    out
+}
+
 /// Offset of the tag byte of field number `index`.
 pub fn place(fields: &[Field], index: usize) -> usize {
     fields[..index].iter().map(|f| 3 + f.value.len()).sum()

@@ -44,7 +44,7 @@ fn variables(random: &mut Random, above: usize, count: usize) -> Vec<Field> {
 
 /// Exactly 60,000 bytes of sound fields: 256 variables, r rules and k
 /// constraints, and as many groups as are needed to fill the rest.
-fn brimful(random: &mut Random, above: usize) -> Vec<Field> {
+pub fn brimful(random: &mut Random, above: usize) -> Vec<Field> {
     let mut out = variables(random, above, 256);
     let (rules, constraints) = (4 * (200 + random.below(10)), 2 * (20 + random.below(5)));
     let mut groups = (60_000 - 2_048 - 7 * rules - 6 * constraints) / 4;

@@ -1,7 +1,9 @@
 //! Inputs drawn from a seed. The same seed always gives the same input.
 
+pub mod anew;
 pub mod arrivals;
 pub mod assignments;
+pub mod bodies;
 pub mod damage;
 pub mod divisors;
 pub mod fields;
@@ -13,6 +15,7 @@ pub mod prng;
 pub mod programs;
 pub mod slack;
 pub mod spoil;
+pub mod vary;
 pub mod whole;
 
 use fields::Field;

@@ -6,7 +6,7 @@ use super::programs::divisor;
 
 /// Puts a fault of this number (3, 6 to 12) into field `i`. It brings no
 /// refusal of a lower number with it. False when the field cannot have it.
-fn spoil(random: &mut Random, fields: &mut [Field], i: usize, number: usize) -> bool {
+pub fn spoil(random: &mut Random, fields: &mut [Field], i: usize, number: usize) -> bool {
     let tag = fields[i].tag;
     match number {
         3 => {

@@ -1,0 +1,14 @@
+pub mod Alike
+pub mod AlikeValid
+pub mod Listings
+pub mod ByteOrder
+pub mod OrderedLaws
+pub mod Normals
+pub mod Rearranged
+pub mod Folds
+pub mod Alikes
+pub mod Fine
+pub mod Propers
+pub mod NormalFiles
+pub mod Calls
+pub mod Sentences

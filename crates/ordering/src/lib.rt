@@ -1,0 +1,3 @@
+// The terms of rules and constraints, ordered by variable.
+pub mod body;
+pub mod field;

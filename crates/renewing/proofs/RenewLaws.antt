@@ -1,0 +1,102 @@
+-- The text that the program `normalize` writes: it is always there and determined, a refusal's line is never taken for a file, and how the call's
+-- answer becomes the text.
+use Prim.Native.Nat.{ℕ, _≤_, _<_}
+use mathlib.Core.Path.{_≡_, refl, sym, ap, subst}
+use mathlib.Core.Logic.{inl, inr}
+use mathlib.Core.List.{List, [], _∷_, _++_}
+use native.Mathlib.Omega.{arith}
+use lib.ListN.{length, getD, drop, length-append, length-drop}
+use lib.Seq.{take-all}
+use Rattle.program.specs.Program.{Program, Rule, Constraint}
+use Rattle.program.specs.Reading.{Reads, accepted, refused}
+use Rattle.program.specs.Reading as reading
+use Rattle.program.specs.Encode.{encode, each, variableBytes, ruleBytes, constraintBytes}
+use Rattle.program.specs.declared.Variable.{Variable}
+use Rattle.program.proofs.Promises.{accepts-promises}
+use Rattle.program.proofs.Total.{reads-total}
+use Rattle.program.proofs.Unique.{reads-unique, accepts-unique, reads-accepts}
+use Rattle.meaning.specs.Calls.{bad-file, bad-call}
+use Rattle.meaning.proofs.Denials.{refused-or}
+use Rattle.normal.specs.Normal.{Normal}
+use Rattle.normal.specs.Normalizes.{Normalizes, written}
+use Rattle.normal.specs.Normalizes as normalize
+use Rattle.normal.proofs.Normals.{normal-unique, normal-exists}
+use Rattle.verdict.specs.Checks.{refusal}
+use Rattle.text.specs.Output.{Holds, Appends}
+use Rattle.text.proofs.OutputLaws.{holds-none}
+use Rattle.entries.specs.Text.{answerLine, firstMost}
+use Rattle.renewing.specs.Renews.{Renews, turned-down, rewritten, room, Renewed}
+
+-- ---- one text for every input
+
+pub renews-unique : {s t u : List ℕ} → Renews s t → Renews s u → t ≡ u
+renews-unique (turned-down p) (turned-down q) =
+    let e = reads-unique p q in cc
+renews-unique (turned-down p) (rewritten x n) = absurd (refused-or p x)
+renews-unique (rewritten x n) (turned-down q) = absurd (refused-or q x)
+renews-unique (rewritten {Q = Q} x n) (rewritten {Q = R} y m) = ap encode (normal-unique n (subst (λ P. Normal P R) (accepts-unique y x) m))
+
+pub renews-total : (s : List ℕ) → (t : List ℕ) × Renews s t
+renews-total s = go (reads-total s .0) (reads-total s .1)
+  where
+    go : (r : reading.Answer) → Reads s r → (t : List ℕ) × Renews s t
+    go (refused n at) q = (_, turned-down q)
+    go (accepted v r c) q = let k = reads-accepts q in (_, rewritten (k .accepts) (normal-exists (accepts-promises (k .accepts)) .1))
+
+-- ---- a refusal's line begins with `r`, a file with a tag
+
+pub file-first : (Q : Program) → getD (encode Q) 0 0 ≤ 3
+unfolding encode
+file-first Q = variables (Q .variables) (Q .rules) (Q .constraints)
+  where
+    constraints : (ks : List Constraint) → getD (each constraintBytes ks) 0 0 ≤ 3
+    constraints [] = omega arith
+    constraints (k ∷ ks) = omega arith
+
+    rules : (rs : List Rule) (ks : List Constraint) → getD (each ruleBytes rs ++ each constraintBytes ks) 0 0 ≤ 3
+    rules [] ks = constraints ks
+    rules (r ∷ rs) ks = omega arith
+
+    variables : (vs : List Variable) (rs : List Rule) (ks : List Constraint)
+        → getD (each variableBytes vs ++ (each ruleBytes rs ++ each constraintBytes ks)) 0 0 ≤ 3
+    variables [] rs ks = rules rs ks
+    variables (v ∷ vs) rs ks = omega arith
+
+pub refusal-first : (n at : ℕ) → getD (answerLine (refusal n at)) 0 0 ≡ 0x72
+unfolding answerLine
+refusal-first n at = refl
+
+-- an input whose text is a refusal's line is turned down so, and one that is accepted has another text
+pub told-apart : {s t : List ℕ} → Renews s t → 3 < getD t 0 0 → (n : ℕ) × (at : ℕ) × Reads s (refused n at) × (t ≡ answerLine (refusal n at))
+told-apart (turned-down p) h = (_, _, p, refl)
+told-apart (rewritten {Q = Q} x n) h = let f : ⊥ = omega (arith, file-first Q) in absurd f
+
+-- ---- the call's answer
+
+-- with an output as long as the longest file, the refusals are the file's own
+own : {s b : List ℕ} {n at : ℕ} {b₁ : List ℕ} → room ≤ length b → Normalizes s b (normalize.refusal n at) b₁ → Reads s (refused n at) × (b₁ ≡ b)
+own h (normalize.turned-down (bad-file r)) = (r, refl)
+own h (normalize.turned-down (bad-call x (inl g))) =
+    let f : ⊥ = omega (arith, g .1 .0, x .whole .passed .short) in absurd f
+own h (normalize.turned-down (bad-call x (inr g))) = absurd (g .1)
+
+pub renewed-refused : {s b : List ℕ} {n at : ℕ} {b₁ : List ℕ} {k : ℕ} {b′ : List ℕ} → room ≤ length b → Normalizes s b (normalize.refusal n at) b₁
+    → Appends (answerLine (refusal n at)) 0 k b₁ b′ → k ≤ firstMost → Renewed s b k b′
+renewed-refused {n = n} {at} {b₁} {k} {b′} h c w l =
+    let o = own h c in
+    record {
+      text = _;
+      renews = turned-down (o .0);
+      holds = subst (λ b. Holds (answerLine (refusal n at)) k b b′) (o .1) (w .holds [] b₁ (holds-none b₁));
+      inside = omega arith;
+    }
+
+pub renewed-written : {s b : List ℕ} {n : ℕ} {b′ : List ℕ} → Normalizes s b (written n) b′ → length b′ ≡ length b → Renewed s b n b′
+renewed-written {b = b} (normalize.rewritten {Q = Q} c m) e =
+    let inside : length (encode Q) ≤ length b = omega (arith, length-append (encode Q) (drop (length (encode Q)) b), length-drop (length (encode Q)) b) in
+    record {
+      text = encode Q;
+      renews = rewritten (c .accepts) m;
+      holds = record { counted = refl; bytes = ap (λ (l : List ℕ). l ++ drop (length (encode Q)) b) (sym (take-all (length b) (encode Q) inside)) };
+      inside = inside;
+    }

@@ -1,0 +1,4 @@
+pub mod Written
+pub mod Puts
+pub mod Forms
+pub mod Preparing

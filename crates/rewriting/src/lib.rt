@@ -1,0 +1,3 @@
+// The call normalize.
+pub mod call;
+pub mod writing;
