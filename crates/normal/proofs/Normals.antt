@@ -13,7 +13,7 @@ use Rattle.program.proofs.Promises.{RulePromise, ConstraintPromise, Promises}
 use Rattle.program.specs.declared.Term.{Term}
 use Rattle.normal.specs.Listing.{Among, Listing, SameSet}
 use Rattle.normal.specs.Ordered.{OrderedTerms, OrderedRule, OrderedConstraint}
-use Rattle.normal.specs.Normal.{lessBytes, ruleLess, constraintLess, RuleOf, ConstraintOf, Normal}
+use Rattle.normal.specs.Normal.{lessBytes, ruleLess, constraintLess, HasRule, HasConstraint, Normal}
 use Rattle.normal.specs.Sentences.{Agree}
 use Rattle.normal.proofs.Listings.{Strict, Comparable, sorted, sorted-lists, listing-unique, among-at, at-among, among-map, map-among}
 use Rattle.normal.proofs.ByteOrder.{bytes-strict, bytes-comparable}
@@ -101,10 +101,10 @@ module _ {A : Type 0} (Ordered : A → A → Type 0) (unique : (r q q′ : A) �
         of-image q a = subst (λ x. Among x (map f rs)) (unique (a .0) (f (a .0)) q (ordered (a .0) (a .1)) (a .2)) (among-map f (a .0) rs (a .1))
 
 module _ (P : Program) where
-  of-rules : SameSet (Of OrderedRule (P .rules)) (RuleOf P)
+  of-rules : SameSet (Of OrderedRule (P .rules)) (HasRule P)
   of-rules q = (λ a. record { rule = a .0; among = a .1; ordered = a .2 }, λ o. (o .rule, o .among, o .ordered))
 
-  of-constraints : SameSet (Of OrderedConstraint (P .constraints)) (ConstraintOf P)
+  of-constraints : SameSet (Of OrderedConstraint (P .constraints)) (HasConstraint P)
   of-constraints l = (λ a. record { constraint = a .0; among = a .1; ordered = a .2 }, λ o. (o .constraint, o .among, o .ordered))
 
 -- ---- the normal form is its own
@@ -141,7 +141,7 @@ module _ {P : Program} (p : Promises P) where
   constraint-of : (k : Constraint) → Among k (P .constraints) → ConstraintPromise (P .variables) k
   constraint-of k m = let a = among-at noConstraint k (P .constraints) m in subst (ConstraintPromise (P .variables)) (a .2) (p .constraints (a .0) (a .1))
 
-  rules-listed : Listing ruleLess (RuleOf P) (sorted ruleLess (map orderedRule (P .rules)))
+  rules-listed : Listing ruleLess (HasRule P) (sorted ruleLess (map orderedRule (P .rules)))
   rules-listed = relisted
       (images-listed OrderedRule (λ r q q′. ordered-rule-unique) ruleBytes (λ s. ruleOf (drop 3 s)) orderedRule (P .rules) in-order read) (of-rules P)
     where
@@ -153,7 +153,7 @@ module _ {P : Program} (p : Promises P) where
           let q = rule-of r m in
           rule-read (orderedRule r) (q .c-small) (q .divided) (divisor-small (r .divisor) (q .divisor)) (ordered-small (in-order r m .terms) (body-small (q .body)))
 
-  constraints-listed : Listing constraintLess (ConstraintOf P) (sorted constraintLess (map orderedConstraint (P .constraints)))
+  constraints-listed : Listing constraintLess (HasConstraint P) (sorted constraintLess (map orderedConstraint (P .constraints)))
   constraints-listed = relisted
       (images-listed OrderedConstraint (λ k l l′. ordered-constraint-unique) constraintBytes (λ s. constraintOf (drop 3 s)) orderedConstraint (P .constraints) in-order read)
       (of-constraints P)

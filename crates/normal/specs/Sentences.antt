@@ -9,14 +9,14 @@ use Rattle.program.specs.Program.{Program}
 use Rattle.program.specs.Reading.{Accepts}
 use Rattle.program.specs.Encode.{Bytes}
 use Rattle.normal.specs.Listing.{SameSet}
-use Rattle.normal.specs.Normal.{RuleOf, ConstraintOf, Normal}
+use Rattle.normal.specs.Normal.{HasRule, HasConstraint, Normal}
 use Rattle.normal.specs.Normalizes.{written, Normalizes}
 
 -- "variables and the sets of rules and constraints, so ordered, agree"
 pub record Agree (P P′ : Program) : Type 0 where
   pub variables : P .variables ≡ P′ .variables
-  pub rules : SameSet (RuleOf P) (RuleOf P′)
-  pub constraints : SameSet (ConstraintOf P) (ConstraintOf P′)
+  pub rules : SameSet (HasRule P) (HasRule P′)
+  pub constraints : SameSet (HasConstraint P) (HasConstraint P′)
 
 -- a call with a file that means P is not turned down: it answers n, and the first n bytes that it leaves are its output
 pub record Writes (P : Program) (output : List ℕ) : Type 0 where

@@ -29,9 +29,12 @@ use Rattle.program.specs.declared.Variable.{Variable}
 
 -- ---- an accepted file is what its program encodes to
 
+pub each-append : {A : Type 0} (f : A → List ℕ) (xs ys : List A) → each f (xs ++ ys) ≡ each f xs ++ each f ys
+each-append f [] ys = refl
+each-append f (x ∷ xs) ys = rw (each-append f xs ys) (sym (append-assoc (f x) (each f xs) (each f ys)))
+
 pub each-snoc : {A : Type 0} (f : A → List ℕ) (xs : List A) (x : A) → each f (xs ++ (x ∷ [])) ≡ each f xs ++ f x
-each-snoc f [] x = append-nil (f x)
-each-snoc f (y ∷ xs) x = rw (each-snoc f xs x) (sym (append-assoc (f y) (each f xs) (f x)))
+each-snoc f xs x = each-append f xs (x ∷ []) ∙ ap (λ (r : List ℕ). each f xs ++ r) (append-nil (f x))
 
 -- no element, no byte
 no-list : {A : Type 0} (f : A → List ℕ) (xs : List A) → length xs ≡ 0 → each f xs ≡ []

@@ -1,12 +1,12 @@
 -- The text that the program `normalize` writes: it is always there and determined, a refusal's line is never taken for a file, and how the call's
 -- answer becomes the text.
 use Prim.Native.Nat.{ℕ, _≤_, _<_}
-use mathlib.Core.Path.{_≡_, refl, sym, ap, subst}
+use mathlib.Core.Path.{_≡_, refl, sym, ap, _∙_, subst}
 use mathlib.Core.Logic.{inl, inr}
-use mathlib.Core.List.{List, [], _∷_, _++_}
+use mathlib.Core.List.{List, [], _∷_, _++_, append-assoc}
 use native.Mathlib.Omega.{arith}
-use lib.ListN.{length, getD, drop, length-append, length-drop}
-use lib.Seq.{take-all}
+use lib.ListN.{length, getD, take, drop, length-append, length-drop, take-append-drop}
+use lib.Seq.{take-all, drop-append-le, length-take-le}
 use Rattle.program.specs.Program.{Program, Rule, Constraint}
 use Rattle.program.specs.Reading.{Reads, accepted, refused}
 use Rattle.program.specs.Reading as reading
@@ -73,30 +73,50 @@ told-apart (rewritten {Q = Q} x n) h = let f : ⊥ = omega (arith, file-first Q)
 
 -- ---- the call's answer
 
--- with an output as long as the longest file, the refusals are the file's own
-own : {s b : List ℕ} {n at : ℕ} {b₁ : List ℕ} → room ≤ length b → Normalizes s b (normalize.refusal n at) b₁ → Reads s (refused n at) × (b₁ ≡ b)
+-- of the output b as many bytes are lent as the file has; they come back as `part`
+
+-- so the refusals are the file's own
+own : {s b : List ℕ} {n at : ℕ} {b₁ : List ℕ} → length s ≤ length b → Normalizes s b (normalize.refusal n at) b₁ → Reads s (refused n at) × (b₁ ≡ b)
 own h (normalize.turned-down (bad-file r)) = (r, refl)
 own h (normalize.turned-down (bad-call x (inl g))) =
-    let f : ⊥ = omega (arith, g .1 .0, x .whole .passed .short) in absurd f
+    let f : ⊥ = omega (arith, g .1 .0) in absurd f
 own h (normalize.turned-down (bad-call x (inr g))) = absurd (g .1)
 
-pub renewed-refused : {s b : List ℕ} {n at : ℕ} {b₁ : List ℕ} {k : ℕ} {b′ : List ℕ} → room ≤ length b → Normalizes s b (normalize.refusal n at) b₁
-    → Appends (answerLine (refusal n at)) 0 k b₁ b′ → k ≤ firstMost → Renewed s b k b′
-renewed-refused {n = n} {at} {b₁} {k} {b′} h c w l =
-    let o = own h c in
-    record {
-      text = _;
-      renews = turned-down (o .0);
-      holds = subst (λ b. Holds (answerLine (refusal n at)) k b b′) (o .1) (w .holds [] b₁ (holds-none b₁));
-      inside = omega arith;
-    }
+module _ (s b : List ℕ) (h : length s ≤ length b) where
+  lent-length : length (take (length s) b) ≡ length s
+  lent-length = length-take-le (length s) b h
 
-pub renewed-written : {s b : List ℕ} {n : ℕ} {b′ : List ℕ} → Normalizes s b (written n) b′ → length b′ ≡ length b → Renewed s b n b′
-renewed-written {b = b} (normalize.rewritten {Q = Q} c m) e =
-    let inside : length (encode Q) ≤ length b = omega (arith, length-append (encode Q) (drop (length (encode Q)) b), length-drop (length (encode Q)) b) in
-    record {
-      text = encode Q;
-      renews = rewritten (c .accepts) m;
-      holds = record { counted = refl; bytes = ap (λ (l : List ℕ). l ++ drop (length (encode Q)) b) (sym (take-all (length b) (encode Q) inside)) };
-      inside = inside;
-    }
+  pub renewed-refused : {n at : ℕ} {part : List ℕ} {k : ℕ} {b′ : List ℕ} → room ≤ length b → Normalizes s (take (length s) b) (normalize.refusal n at) part
+      → Appends (answerLine (refusal n at)) 0 k (part ++ drop (length s) b) b′ → k ≤ firstMost → Renewed s b k b′
+  renewed-refused {n} {at} {part} {k} {b′} r c w l =
+      let o = own (omega (arith, lent-length)) c in
+      let e : part ++ drop (length s) b ≡ b = ap (λ (p : List ℕ). p ++ drop (length s) b) (o .1) ∙ take-append-drop (length s) b in
+      record {
+        text = _;
+        renews = turned-down (o .0);
+        holds = subst (λ v. Holds (answerLine (refusal n at)) k v b′) e (w .holds [] (part ++ drop (length s) b) (holds-none (part ++ drop (length s) b)));
+        inside = omega arith;
+      }
+
+  -- what is written, then the rest of what is lent, then the rest of the output
+  rest-kept : (t : List ℕ) → length t ≤ length s → t ++ drop (length t) (take (length s) b) ++ drop (length s) b ≡ t ++ drop (length t) b
+  rest-kept t k =
+      let n = length t in
+      append-assoc t (drop n (take (length s) b)) (drop (length s) b)
+      ∙ ap (λ (r : List ℕ). t ++ r) (sym (drop-append-le n (take (length s) b) (drop (length s) b) (omega (arith, lent-length))) ∙ ap (drop n) (take-append-drop (length s) b))
+
+  pub renewed-written : {n : ℕ} {part : List ℕ} → Normalizes s (take (length s) b) (written n) part → length part ≡ length (take (length s) b)
+      → Renewed s b n (part ++ drop (length s) b)
+  renewed-written (normalize.rewritten {Q = Q} c m) e =
+      let lent = take (length s) b in
+      let k : length (encode Q) ≤ length s = omega (arith, lent-length, length-append (encode Q) (drop (length (encode Q)) lent), length-drop (length (encode Q)) lent) in
+      record {
+        text = encode Q;
+        renews = rewritten (c .accepts) m;
+        holds = record {
+          counted = refl;
+          bytes = rest-kept (encode Q) k
+              ∙ ap (λ (l : List ℕ). l ++ drop (length (encode Q)) b) (sym (take-all (length b) (encode Q) (omega arith)));
+        };
+        inside = omega arith;
+      }

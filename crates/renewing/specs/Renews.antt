@@ -1,6 +1,5 @@
 -- The program `normalize`: what it writes for an input s. The input is a rule file; the text is the file's normal form, or `refused N P` (number,
--- place) in a line of its own, as the printing program has it. The output that is lent is as long as the longest file, so the refusals are the
--- file's own.
+-- place) in a line of its own, as the printing program has it. The buffer that is lent is as long as the input, so the refusals are the file's own.
 use Prim.Native.Nat.{ℕ, _≤_}
 use mathlib.Core.List.{List}
 use lib.ListN.{length}
@@ -17,7 +16,7 @@ pub data Renews (s : List ℕ) : List ℕ → Type 0 where
   turned-down : {n at : ℕ} → Reads s (refused n at) → Renews s (answerLine (refusal n at))
   rewritten : {P Q : Program} → Accepts s P → Normal P Q → Renews s (encode Q)
 
--- room enough for every text
+-- room enough for every text, in an output that is also as long as the input
 abbrev pub room : ℕ
 room = maxFile
 

@@ -20,7 +20,7 @@ use Rattle.normal.proofs.Normals.{normal-exists}
 use Rattle.normal.proofs.Propers.{normal-short}
 use Rattle.sorting.specs.Stretches.{stretch}
 use Rattle.sorting.specs.Sorts.{Sorts}
-use Rattle.sorting.specs.declared.stretches.Unit.the-variants.{Field}
+use Rattle.sorting.specs.declared.stretches.Piece.the-variants.{Field}
 use Rattle.rewriting.specs.Writing.{putAt, fieldsAt, FieldsOf, Prepared, Room, Rewritten}
 use Rattle.rewriting.proofs.Written.{fields-written}
 use Rattle.rewriting.proofs.Puts.{put-length, put-more}

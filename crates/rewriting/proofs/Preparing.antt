@@ -17,7 +17,7 @@ use Rattle.reader.specs.Parts.{rulePlace, constraintPlace}
 use Rattle.reader.proofs.Published.{limited}
 use Rattle.sorting.specs.Stretches.{stretch, Inside}
 use Rattle.sorting.specs.Sorts.{Sorts, AllInside}
-use Rattle.sorting.specs.declared.stretches.Unit.the-variants.{Field}
+use Rattle.sorting.specs.declared.stretches.Piece.the-variants.{Field}
 use Rattle.ordering.specs.Fields.{OrderedFile}
 use Rattle.ordering.proofs.Meant.{rule-meant, rule-ends, field-rule, constraint-meant, constraint-ends, field-constraint}
 use Rattle.rewriting.specs.Writing.{maxFields, FieldsOf, Prepared, putAt}

@@ -1,18 +1,18 @@
 -- Bytes put in one after the other.
 use Prim.Native.Nat.{ℕ, _+_, _-_, _<_, _≤_}
 use mathlib.Core.Path.{_≡_, sym, ap, _∙_, subst}
-use mathlib.Core.List.{List, [], _∷_, _++_, append-assoc, append-nil}
+use mathlib.Core.List.{List, [], _∷_, _++_, append-assoc}
 use native.Mathlib.Nat.{add-zero, add-assoc}
 use native.Mathlib.Numerals.{add-one}
 use native.Mathlib.Omega.{arith}
 use lib.ListN.{length, getD, take, drop, length-append, take-append-drop}
 use lib.Seq.{paste, take-length, take-suc, take-at, drop-at, length-take-le, drop-drop, length-paste, getD-take, take-add}
 use Rattle.program.specs.Encode.{each}
+use Rattle.program.proofs.RoundTrip.{each-append, each-snoc}
 use Rattle.sorting.specs.Stretches.{stretch, Inside}
-use Rattle.sorting.specs.declared.stretches.Unit.the-variants.{Field}
+use Rattle.sorting.specs.declared.stretches.Piece.the-variants.{Field}
 use Rattle.normal.proofs.Listings.{at-among}
 use Rattle.rewriting.specs.Writing.{putAt, fieldsAt, Room, PutSoFar}
-use Rattle.rewriting.proofs.Written.{each-append}
 
 -- a whole copy
 pub pasted-all : (b : List ℕ) (at : ℕ) (w : List ℕ) → paste b at w (length w) ≡ putAt b at w
@@ -54,8 +54,7 @@ module _ (t places : List ℕ) (i : ℕ) where
   fields-more h =
       let e : take (i + 1) places ≡ take i places ++ (getD places i 0 ∷ []) = rw (add-one i) (take-suc places i 0 h) in
       ap (each (stretch Field t)) e
-      ∙ each-append (stretch Field t) (take i places) (getD places i 0 ∷ [])
-      ∙ ap (λ (r : List ℕ). fieldsAt t places i ++ r) (append-nil (stretch Field t (getD places i 0)))
+      ∙ each-snoc (stretch Field t) (take i places) (getD places i 0)
 
 -- ---- a loop that puts in fields
 

@@ -2,46 +2,22 @@
 use Prim.Native.Nat.{ℕ, _+_, _-_, _<_}
 use mathlib.Core.Path.{_≡_, refl, sym, ap, ap₂, _∙_, subst}
 use mathlib.Core.Logic.{_⊎_, inl, inr, Iff·rfl}
-use mathlib.Core.Bool.{Bool}
-use mathlib.Core.List.{List, [], _∷_, _++_, map, append-assoc}
+use mathlib.Core.List.{List, [], _∷_, _++_, map}
 use native.Mathlib.Omega.{arith}
 use native.Mathlib.Decide.{decLt}
 use lib.Dec.{T}
 use lib.ListN.{length, getD}
 use Rattle.program.specs.Program.{Program, Rule, Constraint, ruleIn, constraintIn, noRule, noConstraint}
 use Rattle.program.specs.Encode.{each, ruleBytes, constraintBytes}
-use Rattle.normal.specs.Listing.{Among, Ascending, Listing}
+use Rattle.program.proofs.RoundTrip.{each-append}
+use Rattle.normal.specs.Listing.{Among, Listing}
 use Rattle.normal.specs.Ordered.{OrderedRule, OrderedConstraint}
-use Rattle.normal.specs.Normal.{lessBytes, RuleOf, ConstraintOf, Normal}
-use Rattle.normal.proofs.Listings.{all-among, among-all, among-at, at-among, among-left, among-right, among-append, among-map, map-among, listing-unique}
+use Rattle.normal.specs.Normal.{lessBytes, ruleLess, constraintLess, HasRule, HasConstraint, Normal}
+use Rattle.normal.proofs.Listings.{ascending-map, ascending-append, among-at, at-among, among-left, among-right, among-append, among-map, map-among, listing-unique}
 use Rattle.normal.proofs.ByteOrder.{bytes-strict}
 use Rattle.normal.proofs.OrderedLaws.{ordered-rule-unique, ordered-constraint-unique}
 use Rattle.sorting.specs.Sorts.{Sorts}
 use Rattle.rewriting.specs.Writing.{FieldsOf}
-
--- ---- ascending lists, mapped and one after the other
-
-ascending-map : {A B : Type 0} (less : B → B → Bool) (f : A → B) (xs : List A) → Ascending (λ x y. less (f x) (f y)) xs → Ascending less (map f xs)
-ascending-map less f [] a = tt
-ascending-map less f (x ∷ xs) a = (
-  among-all _ (map f xs) (λ y m. after y (map-among f y xs m)),
-  ascending-map less f xs (a .1),
-)
-  where
-    after : (y : _) → (z : _) × Among z xs × (y ≡ f z) → T (less (f x) y)
-    after y (z, m, e) = rw e (all-among _ z xs (a .0) m)
-
-ascending-append : {A : Type 0} (less : A → A → Bool) (xs ys : List A) → Ascending less xs → Ascending less ys
-    → ((x y : A) → Among x xs → Among y ys → T (less x y)) → Ascending less (xs ++ ys)
-ascending-append less [] ys a b h = b
-ascending-append less (x ∷ xs) ys a b h = (
-  among-all _ (xs ++ ys) (λ y m. either y (among-append y xs ys m)),
-  ascending-append less xs ys (a .1) b (λ z y m k. h z y (inr m) k),
-)
-  where
-    either : (y : _) → Among y xs ⊎ Among y ys → T (less x y)
-    either y (inl m) = all-among _ y xs (a .0) m
-    either y (inr m) = h x y (inl refl) m
 
 -- ---- bytes one after the other
 
@@ -49,15 +25,11 @@ each-map : {A : Type 0} (f : A → List ℕ) (xs : List A) → each (λ w. w) (m
 each-map f [] = refl
 each-map f (x ∷ xs) = ap (λ r. f x ++ r) (each-map f xs)
 
-pub each-append : {A : Type 0} (f : A → List ℕ) (xs ys : List A) → each f (xs ++ ys) ≡ each f xs ++ each f ys
-each-append f [] ys = refl
-each-append f (x ∷ xs) ys = ap (λ r. f x ++ r) (each-append f xs ys) ∙ sym (append-assoc (f x) (each f xs) (each f ys))
-
 -- ---- the fields of a program's ordered rules and constraints
 
 -- the bytes w are such a field
 unfoldable FieldOf : Program → List ℕ → Type 0
-FieldOf P w = ((q : Rule) × RuleOf P q × (w ≡ ruleBytes q)) ⊎ ((l : Constraint) × ConstraintOf P l × (w ≡ constraintBytes l))
+FieldOf P w = ((q : Rule) × HasRule P q × (w ≡ ruleBytes q)) ⊎ ((l : Constraint) × HasConstraint P l × (w ≡ constraintBytes l))
 
 module _ {P : Program} {f : ℕ → List ℕ} {places ys : List ℕ} (x : FieldsOf P f places) (o : Sorts f places ys) where
   -- what stands at a place is such a field
@@ -79,14 +51,14 @@ module _ {P : Program} {f : ℕ → List ℕ} {places ys : List ℕ} (x : Fields
           )
 
   -- and each such field stands at a place
-  rule-stands : (q : Rule) → RuleOf P q → Among (ruleBytes q) (map f ys)
+  rule-stands : (q : Rule) → HasRule P q → Among (ruleBytes q) (map f ys)
   rule-stands q r =
       let i = among-at noRule (r .rule) (P .rules) (r .among) in
       let m = x .rules (i .0) (i .1) in
       let e : m .0 ≡ q = ordered-rule-unique (subst (λ b. OrderedRule b (m .0)) (i .2) (m .1)) (r .ordered) in
       subst (λ w. Among w (map f ys)) (m .2 ∙ ap ruleBytes e) (o .whole _ (at-among 0 places (i .0) (omega (arith, x .counted, i .1))))
 
-  constraint-stands : (l : Constraint) → ConstraintOf P l → Among (constraintBytes l) (map f ys)
+  constraint-stands : (l : Constraint) → HasConstraint P l → Among (constraintBytes l) (map f ys)
   constraint-stands l r =
       let i = among-at noConstraint (r .constraint) (P .constraints) (r .among) in
       let m = x .constraints (i .0) (i .1) in
@@ -123,7 +95,9 @@ module _ {P Q : Program} (n : Normal P Q) where
   unfolding FieldOf
   normal-fields = record {
     ascending = ascending-append lessBytes (map ruleBytes (Q .rules)) (map constraintBytes (Q .constraints))
-        (ascending-map lessBytes ruleBytes (Q .rules) (n .rules .ascending)) (ascending-map lessBytes constraintBytes (Q .constraints) (n .constraints .ascending)) tags-ascend;
+        (ascending-map ruleLess ruleBytes lessBytes (Q .rules) (λ r q a b h. h) (n .rules .ascending))
+        (ascending-map constraintLess constraintBytes lessBytes (Q .constraints) (λ k l a b h. h) (n .constraints .ascending))
+        tags-ascend;
     exactly = λ w. (λ m. told w (among-append w (map ruleBytes (Q .rules)) (map constraintBytes (Q .constraints)) m), λ h. found w h);
   }
     where

@@ -10,7 +10,7 @@ use Rattle.normal.specs.Ordered.{OrderedRule, OrderedConstraint}
 use Rattle.normal.specs.Normal.{Normal}
 use Rattle.sorting.specs.Stretches.{stretch}
 use Rattle.sorting.specs.Sorts.{Sorts, AllInside}
-use Rattle.sorting.specs.declared.stretches.Unit.the-variants.{Field}
+use Rattle.sorting.specs.declared.stretches.Piece.the-variants.{Field}
 
 -- the most fields after the variables
 abbrev pub maxFields : ℕ

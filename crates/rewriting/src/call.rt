@@ -16,7 +16,7 @@ use ordering::field::order_fields;
 use program::Counts;
 use program::Reading;
 use sorting::sort::sort;
-use sorting::stretches::Unit;
+use sorting::stretches::Piece;
 
 pub struct Fields {}
 
@@ -46,12 +46,13 @@ fn prepare(
 {
     put(file, text, 0);
     let fields = order_fields(file, counts, text, places);
-    sort(
+    let left = sort(
         text,
-        Unit::Field,
+        Piece::Field,
         &mut places[..fields],
         &mut spare[..fields],
-    )
+    );
+    left
 }
 
 // The variables of the file, then the fields at the first n places.

@@ -3,7 +3,7 @@ ghost use mathlib.Core.Path.{_≡_};
 ghost use Prim.Native.Nat.{_+_, _≤_};
 ghost use lib.ListN.{length};
 ghost use Rattle.rewriting.specs.Writing.{putAt, fieldsAt, Room};
-use sorting::stretches::Unit;
+use sorting::stretches::Piece;
 use sorting::stretches::stretch;
 use sorting::stretches::wide;
 
@@ -27,7 +27,7 @@ pub fn put_fields(text: &[u8], places: &[u16], n: usize, buffer: &mut [u8], at: 
 {
     let mut end = at;
     for i in 0..n {
-        let field = stretch(text, Unit::Field, wide(places[i]));
+        let field = stretch(text, Piece::Field, wide(places[i]));
         end = put(field, buffer, end);
     }
     end

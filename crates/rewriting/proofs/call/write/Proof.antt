@@ -39,7 +39,8 @@ put-fields-requires c κs =
     let p = c .before .before .before .before .before .before .before .before .before .before in
     let y = reads-accepts (p .pre .0 .0) in
     let o = c .before .before .before .put .ensures in
-    room-left (λ i. omega (arith, c .before .before .before .before .before .before .before .before .before .shared-slice-known .given i)) (y .accepts) (p .pre .1 (y .meant) (y .accepts)) (p .args .counts .variables) (y .variables-are) (p .args .buffer .now) _ _ (p .pre .0 .1) (o .0) (o .1)
+    room-left (λ i. omega (arith, c .before .before .before .before .before .before .before .before .before .shared-slice-known .given i))
+    (y .accepts) (p .pre .1 (y .meant) (y .accepts)) (p .args .counts .variables) (y .variables-are) (p .args .buffer .now) _ _ (p .pre .0 .1) (o .0) (o .1)
 
 -- src/call.rt:48:1
 same-length : tie.Need-same-length
