@@ -1,21 +1,24 @@
 /*
- * Founded cover for C: reads a rule file, finds the least model for an assignment, checks an assignment, writes a file in its normal form.
- * Link with libfounded.a (x86-64 Linux); it needs memset and memcpy of the C library and nothing else. The calls are proved: each returns,
- * for every input that is passed as said here, and answers and writes what document 01 and document 02's first four wishes define (crates/founded).
+ * Founded cover for C: reads a rule file, finds the least model for an assignment, checks an assignment, writes a file in its normal form, steps
+ * through the search of a file's components. Link with libfounded.a (x86-64 Linux); it needs memset and memcpy of the C library and nothing
+ * else. The calls are proved: each returns, for every input that is passed as said here, and answers and writes what document 01 and document
+ * 02's first five wishes define (crates/founded).
  *
  * What a caller passes:
- * - Each buffer is a pointer and its length in bytes. So many bytes can be read there, and written where the pointer is not const.
- * - No pointer is null. A buffer without bytes has length 0 and any other pointer; nothing is read or written there.
- * - The report or the buffer that is written overlaps neither the file nor the assignment. These two may overlap.
+ * - Each buffer is a pointer and its length: in words of 64 bits for `sets`, which is aligned as a uint64_t, in bytes for every other. So much can
+ *   be read there, and written where the pointer is not const. What it holds, and any other number that is passed, is free.
+ * - No pointer is null. An empty buffer has length 0 and any other pointer, `sets` an aligned one; nothing is read or written there.
+ * - The report, buffer or sets that are written overlap nothing else that is passed. A file and an assignment may overlap.
  * - No other thread writes the buffers, or reads the one that is written, while a call runs.
  * - The calling thread has the stack that is named below left.
  *
  * A call keeps nothing after it returns: it has no state, no heap, no locks, and threads may call at the same time. A call writes only
- * where its comment says so, from the buffer's first byte on; every other byte keeps its value.
+ * where its comment says so, from the buffer's first byte or word on; every other byte keeps its value.
  */
 #ifndef FOUNDED_H
 #define FOUNDED_H
 
+#include <stdbool.h>
 #include <stddef.h>
 #include <stdint.h>
 
@@ -40,15 +43,22 @@ extern "C" {
 #define FOUNDED_LEAST_BYTES 2u      /* at least, of the buffer that founded_least writes */
 #define FOUNDED_CHECK_BYTES 12u     /* at least, of the report that founded_check writes: they are enough, and can all be used */
 
+/* ---- words of 64 bits for each variable: its set, one bit for each of the 256 numbers */
+
+#define FOUNDED_SET_WORDS 4u
+
 /*
- * ---- stack of a thread that makes the call and little else. In the tests the calls touched at most 10,800, 105,100, 105,400 and 81,300 bytes;
- * the rest is for the thread's own start and a margin.
+ * ---- stack of a thread that makes the call and little else. In the tests the calls, in this order, touched at most 11,000, 105,200, 105,500,
+ * 81,400, 21,100, 100 and 100 bytes; the rest is for the thread's own start and a margin.
  */
 
 #define FOUNDED_READ_STACK 32768u
 #define FOUNDED_LEAST_STACK 131072u
 #define FOUNDED_CHECK_STACK 131072u
 #define FOUNDED_NORMALIZE_STACK 131072u
+#define FOUNDED_BEGIN_STACK 65536u
+#define FOUNDED_STEP_STACK 32768u
+#define FOUNDED_COMPONENTS_STACK 32768u
 
 /* ---- the calls */
 
@@ -80,8 +90,34 @@ uint64_t founded_check(const uint8_t *file, size_t file_len, const uint8_t *assi
 uint64_t founded_normalize(const uint8_t *file, size_t file_len, uint8_t *buffer, size_t buffer_len);
 
 /*
- * ---- answers: a word and up to three numbers, 0 where there is none, or a word and a length, which takes the place of the first two. No
- * answer is 0.
+ * The search of a file's components, step by step. It is the one that founded_read makes to decide on refusal 13. An edge runs from the head of a
+ * rule that is not idle to each kept or mixed variable of its body. Each variable has a set of reached ones: the set of x is the words 4x to
+ * 4x + 3, and it has y where bit y % 64 (bit 0 is the lowest) of word 4x + y / 64 is 1.
+ *
+ * REFUSED with a number from 1 to 12, as by founded_read, or with number 15 and place 0 where sets_len is under 4 words for each variable; or BEGUN
+ * with the count of variables. A file that founded_read refuses with 13 is begun like one that it accepts, and one without a mixed variable too.
+ * Only BEGUN writes: the set of each variable has exactly the variables that an edge leads to from it. Every word after these sets keeps its value.
+ */
+uint64_t founded_begin(const uint8_t *file, size_t file_len, uint64_t *sets, size_t sets_len);
+
+/*
+ * Variable k's round among so many variables, whatever the sets hold. False, and nothing is written, where k is not below variables, variables is over
+ * 256 or sets_len is under 4 words for each of them. Else true: each of their sets that has k takes in the set of k, all its bits; every
+ * other set, and every word after them, keeps its value. The rounds of a search that is begun are those of variable 0, 1 and so on. After variable k's
+ * round each set holds exactly those reached over one edge or more with every stop between at most k.
+ */
+bool founded_step(uint64_t *sets, size_t sets_len, size_t variables, size_t k);
+
+/*
+ * The components that the sets say, whatever they hold: those of the file after the last round of its search. False, and nothing is written, where
+ * variables is over 256, sets_len is under 4 words for each of them or buffer_len under a byte for each. Else true: byte x of the buffer is
+ * the first y that is x, or that the set of x has and whose set has x. So after the last round it is the first variable of x's component.
+ */
+bool founded_components(const uint64_t *sets, size_t sets_len, size_t variables, uint8_t *buffer, size_t buffer_len);
+
+/*
+ * ---- answers that are a uint64_t: a word and up to three numbers, 0 where there is none, or a word and a length, which takes the place of the
+ * first two. No such answer is 0.
  */
 
 enum {
@@ -94,7 +130,8 @@ enum {
     FOUNDED_ACCEPTED = 7,   /* variables, rules, constraints */
     FOUNDED_FOUND = 8,
     FOUNDED_NONE = 9,
-    FOUNDED_WRITTEN = 10 /* length */
+    FOUNDED_WRITTEN = 10, /* length */
+    FOUNDED_BEGUN = 11    /* variables */
 };
 
 static inline unsigned founded_word(uint64_t answer) { return (unsigned)(answer & 0xff); }
@@ -139,6 +176,13 @@ static inline unsigned founded_entry_variable(const uint8_t *report, size_t i) {
 static inline unsigned founded_entry_mark(const uint8_t *report, size_t i) { return report[4 * i + 1]; }
 
 static inline int founded_entry_number(const uint8_t *report, size_t i) { return founded_number(report + 4 * i + 2); }
+
+/* ---- sets: whether that of x has y, x being one of the variables that have sets and y below 256 */
+
+static inline bool founded_has(const uint64_t *sets, size_t x, size_t y)
+{
+    return (sets[FOUNDED_SET_WORDS * x + y / 64] >> y % 64 & 1) != 0;
+}
 
 #ifdef __cplusplus
 }

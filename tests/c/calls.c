@@ -1,6 +1,6 @@
 /*
- * The four calls from C, one line an answer. Every buffer lies between two pages that may not be touched, in a first call directly behind
- * one and in a second directly before the other; the file and the assignment may not be written either. Each call runs on a thread with just
+ * The calls from C, one line an answer. Every buffer lies between two pages that may not be touched, in a first call directly behind
+ * one and in a second directly before the other; what is only read may not be written either. Each call runs on a thread with just
  * the stack that founded.h names, below it a page that may not be touched.
  */
 #define _DEFAULT_SOURCE
@@ -15,18 +15,20 @@
 #define PAGE ((size_t)4096)
 #define ROOM (16 * PAGE)
 
-enum { PAINT = 0xA5, MARK = 0xEE };
+enum { PAINT = 0xA5, MARK = 0xEE, WORD = 8 };
 
-enum which { READ, LEAST, CHECK, NORMALIZE, COUNT };
+enum which { READ, LEAST, CHECK, NORMALIZE, BEGIN, STEP, COMPONENTS, COUNT };
 
-static const char *const CALLS[] = {"read", "least", "check", "normalize"};
-static const size_t STACKS[] = {FOUNDED_READ_STACK, FOUNDED_LEAST_STACK, FOUNDED_CHECK_STACK, FOUNDED_NORMALIZE_STACK};
+static const char *const CALLS[] = {"read", "least", "check", "normalize", "begin", "step", "components"};
+static const size_t STACKS[] = {FOUNDED_READ_STACK,  FOUNDED_LEAST_STACK, FOUNDED_CHECK_STACK,     FOUNDED_NORMALIZE_STACK,
+                                FOUNDED_BEGIN_STACK, FOUNDED_STEP_STACK,  FOUNDED_COMPONENTS_STACK};
 
+/* beside is the assignment, or the sets that components are read off; every length is in bytes */
 struct call {
     enum which which;
-    const uint8_t *file, *assignment;
-    uint8_t *lent;
-    size_t file_len, assignment_len, lent_len;
+    const void *file, *beside;
+    void *lent;
+    size_t file_len, beside_len, lent_len, variables, k;
     uint64_t answer;
     uintptr_t top;
 };
@@ -54,7 +56,7 @@ static void protect(uint8_t *room, int how)
 }
 
 /* the bytes stand at the room's end or at its start */
-static uint8_t *placed(uint8_t *room, const uint8_t *bytes, size_t n, int at_end)
+static uint8_t *placed(uint8_t *room, const void *bytes, size_t n, int at_end)
 {
     uint8_t *p = at_end ? room + ROOM - n : room;
     if (n > 0)
@@ -73,9 +75,12 @@ static void answer(struct call *c)
 {
     switch (c->which) {
     case READ: c->answer = founded_read(c->file, c->file_len); break;
-    case LEAST: c->answer = founded_least(c->file, c->file_len, c->assignment, c->assignment_len, c->lent, c->lent_len); break;
-    case CHECK: c->answer = founded_check(c->file, c->file_len, c->assignment, c->assignment_len, c->lent, c->lent_len); break;
+    case LEAST: c->answer = founded_least(c->file, c->file_len, c->beside, c->beside_len, c->lent, c->lent_len); break;
+    case CHECK: c->answer = founded_check(c->file, c->file_len, c->beside, c->beside_len, c->lent, c->lent_len); break;
     case NORMALIZE: c->answer = founded_normalize(c->file, c->file_len, c->lent, c->lent_len); break;
+    case BEGIN: c->answer = founded_begin(c->file, c->file_len, c->lent, c->lent_len / WORD); break;
+    case STEP: c->answer = founded_step(c->lent, c->lent_len / WORD, c->variables, c->k); break;
+    case COMPONENTS: c->answer = founded_components(c->beside, c->beside_len / WORD, c->variables, c->lent, c->lent_len); break;
     case COUNT: break;
     }
 }
@@ -109,15 +114,15 @@ static void on_thread(struct call *c)
 
 /* ---- a case */
 
-static uint8_t *file_room, *assignment_room, *lent_room;
+static uint8_t *file_room, *beside_room, *lent_room;
 
 static void say(uint64_t a)
 {
-    static const char *const WORDS[] = {"nothing", "stable",   "unfounded", "constraint", "rule",   "range",
-                                        "refused", "accepted", "found",     "none",       "written"};
-    static const int NUMBERS[] = {0, 0, 2, 1, 1, 1, 2, 3, 0, 0, 0};
+    static const char *const WORDS[] = {"nothing", "stable",   "unfounded", "constraint", "rule",    "range",
+                                        "refused", "accepted", "found",     "none",       "written", "begun"};
+    static const int NUMBERS[] = {0, 0, 2, 1, 1, 1, 2, 3, 0, 0, 0, 1};
     unsigned word = founded_word(a), numbers[] = {founded_first(a), founded_second(a), founded_third(a)};
-    if (word < 1 || word > 10 || a >> 56 != 0)
+    if (word < 1 || word > 11 || a >> 56 != 0)
         fail("answer", "no word");
     printf("%s", WORDS[word]);
     if (word == FOUNDED_WRITTEN) {
@@ -131,6 +136,9 @@ static void say(uint64_t a)
             fail("answer", "a number that is not 0");
     }
 }
+
+/* of many, the first four and the last are said */
+static bool said(size_t i, size_t n) { return i < 4 || i + 1 == n; }
 
 static void say_entry(const uint8_t *report, size_t i)
 {
@@ -155,57 +163,95 @@ static void say_file(const uint8_t *bytes, size_t n)
     }
 }
 
-/* a few values or entries, or the first and the last of many */
-static size_t say_written(uint64_t a, const uint8_t *bytes, size_t values)
+static void say_set(const uint64_t *sets, size_t x)
 {
-    size_t entries = founded_first(a) + founded_second(a);
-    if (founded_word(a) == FOUNDED_FOUND) {
-        for (size_t v = 0; v < values; v++)
-            if (v < 4 || v + 1 == values)
-                printf(" %d", founded_value(bytes, v));
-        return 2 * values;
-    }
-    if (founded_word(a) == FOUNDED_WRITTEN) {
-        say_file(bytes, founded_length(a));
-        return founded_length(a);
-    }
-    if (founded_word(a) != FOUNDED_UNFOUNDED)
-        return 0;
-    for (size_t i = 0; i < entries; i++)
-        if (i < 4 || i + 1 == entries)
-            say_entry(bytes, i);
-    return 4 * entries;
+    size_t members = 0, i = 0;
+    for (size_t y = 0; y < FOUNDED_MAX_VARIABLES; y++)
+        members += founded_has(sets, x, y);
+    printf("; %zu:", x);
+    for (size_t y = 0; y < FOUNDED_MAX_VARIABLES; y++)
+        if (founded_has(sets, x, y) && said(i++, members))
+            printf(i == members && i > 5 ? " .. %zu" : " %zu", y);
 }
 
-static void try(const char *name, enum which which, const uint8_t *file, size_t n, const uint8_t *assignment, size_t m, size_t lent)
+static void say_sets(const uint64_t *sets, size_t n)
 {
-    static uint8_t after[2][ROOM];
-    uint64_t answers[2];
-    for (int at_end = 0; at_end < 2; at_end++) {
-        struct call c = {which, NULL, NULL, NULL, n, m, lent, 0, 0};
-        c.file = placed(file_room, file, n, at_end);
-        c.assignment = placed(assignment_room, assignment, m, at_end);
-        memset(lent_room, MARK, ROOM);
-        c.lent = at_end ? lent_room + ROOM - lent : lent_room;
-        protect(file_room, PROT_READ);
-        protect(assignment_room, PROT_READ);
-        on_thread(&c);
-        protect(file_room, PROT_READ | PROT_WRITE);
-        protect(assignment_room, PROT_READ | PROT_WRITE);
-        for (uint8_t *p = lent_room; p < lent_room + ROOM; p++)
-            if ((p < c.lent || p >= c.lent + lent) && *p != MARK)
-                fail(name, "a byte beside the lent ones is written");
-        memcpy(after[at_end], c.lent, lent);
-        answers[at_end] = c.answer;
+    for (size_t x = 0; x < n; x++)
+        if (said(x, n))
+            say_set(sets, x);
+}
+
+/* what a call wrote; it answers how many bytes */
+static size_t say_written(uint64_t a, const void *bytes, size_t values)
+{
+    size_t entries = founded_first(a) + founded_second(a);
+    switch (founded_word(a)) {
+    case FOUNDED_FOUND:
+        for (size_t v = 0; v < values; v++)
+            if (said(v, values))
+                printf(" %d", founded_value(bytes, v));
+        return 2 * values;
+    case FOUNDED_UNFOUNDED:
+        for (size_t i = 0; i < entries; i++)
+            if (said(i, entries))
+                say_entry(bytes, i);
+        return 4 * entries;
+    case FOUNDED_WRITTEN: say_file(bytes, founded_length(a)); return founded_length(a);
+    case FOUNDED_BEGUN: say_sets(bytes, founded_first(a)); return WORD * FOUNDED_SET_WORDS * founded_first(a);
+    default: return 0;
     }
-    if (answers[0] != answers[1] || memcmp(after[0], after[1], lent) != 0)
+}
+
+/* what the lent bytes hold before a call that is not told otherwise, and after the last call */
+static uint64_t marks[ROOM / WORD], left[ROOM / WORD];
+
+/* the call with each buffer at the end of its room or at the start; it answers, and the lent bytes are then in `after` */
+static uint64_t once(const char *name, struct call c, void *after, int at_end)
+{
+    c.file = placed(file_room, c.file, c.file_len, at_end);
+    c.beside = placed(beside_room, c.beside, c.beside_len, at_end);
+    memset(lent_room, MARK, ROOM);
+    uint8_t *lent = placed(lent_room, c.lent, c.lent_len, at_end);
+    c.lent = lent;
+    protect(file_room, PROT_READ);
+    protect(beside_room, PROT_READ);
+    on_thread(&c);
+    protect(file_room, PROT_READ | PROT_WRITE);
+    protect(beside_room, PROT_READ | PROT_WRITE);
+    for (uint8_t *p = lent_room; p < lent_room + ROOM; p++)
+        if ((p < lent || p >= lent + c.lent_len) && *p != MARK)
+            fail(name, "a byte beside the lent ones is written");
+    memcpy(after, lent, c.lent_len);
+    return c.answer;
+}
+
+/* the call twice, and the line's beginning */
+static uint64_t twice(const char *name, struct call c)
+{
+    static uint64_t second[ROOM / WORD];
+    uint64_t answer = once(name, c, left, 0);
+    if (once(name, c, second, 1) != answer || memcmp(left, second, c.lent_len) != 0)
         fail(name, "two answers");
-    printf("%s %s: ", CALLS[which], name);
-    say(answers[0]);
-    for (size_t i = say_written(answers[0], after[0], m / 2); i < lent; i++)
-        if (after[0][i] != MARK)
-            fail(name, "a byte after the last is written");
+    printf("%s %s: ", CALLS[c.which], name);
+    return answer;
+}
+
+/* of so many lent bytes those from the n-th on have the marks that they had */
+static void unwritten_from(const char *name, size_t n, size_t lent)
+{
+    if (n > lent || memcmp((uint8_t *)left + n, marks, lent - n) != 0)
+        fail(name, "a byte after the last is written");
+}
+
+static uint64_t try(const char *name, enum which which, const uint8_t *file, size_t n, const uint8_t *assignment, size_t m, size_t lent)
+{
+    struct call c = {which, file, assignment, marks, n, m, lent, 0, 0, 0, 0};
+    uint64_t answer = twice(name, c);
+    say(answer);
+    size_t written = say_written(answer, left, m / 2);
+    unwritten_from(name, written, lent);
     printf("\n");
+    return answer;
 }
 
 /* ---- files */
@@ -278,6 +324,8 @@ static void fresh(void) { built.len = 0; }
 
 static void try_read(const char *name) { try(name, READ, built.bytes, built.len, NULL, 0, 0); }
 
+static uint64_t try_begin(const char *name, size_t words) { return try(name, BEGIN, built.bytes, built.len, NULL, 0, WORD * words); }
+
 static void try_normalize(const char *name, size_t lent) { try(name, NORMALIZE, built.bytes, built.len, NULL, 0, lent); }
 
 /* values of the built file, and so many lent bytes */
@@ -291,7 +339,16 @@ static void try_on(const char *name, enum which which, const int *values, size_t
 
 #define VALUES(...) (const int[]){__VA_ARGS__}, sizeof((const int[]){__VA_ARGS__}) / sizeof(int)
 
-static void row(const char *name, const uint8_t *bytes, size_t n) { try(name, READ, bytes, n, NULL, 0, 0); }
+enum { SETS = FOUNDED_SET_WORDS * FOUNDED_MAX_VARIABLES };
+
+/* a file that is read, and whose search is begun with words for every variable that there can be */
+static void row(const char *name, const uint8_t *bytes, size_t n)
+{
+    try(name, READ, bytes, n, NULL, 0, 0);
+    try(name, BEGIN, bytes, n, NULL, 0, WORD * SETS);
+}
+
+static void row_built(const char *name) { row(name, built.bytes, built.len); }
 
 #define BYTES(...) (const uint8_t[]){__VA_ARGS__}, sizeof((const uint8_t[]){__VA_ARGS__})
 
@@ -331,7 +388,7 @@ static void rows(void)
     row("row 4", BYTES(3, 0, 3, 1, 0, 0, 1, 0, 5, 0, 0, 0, 0, 1));
     fresh();
     variables(FOUNDED_MAX_VARIABLES + 1, FOUNDED, 0, 10);
-    try_read("row 5");
+    row_built("row 5");
     row("row 6", BYTES(1, 0, 4, 0, 0, 0, 0));
     row("row 7", BYTES(1, 0, 5, 3, 0, 0, 0, 1));
     row("row 8", BYTES(1, 0, 5, 0, 0, 1, 0, 0));
@@ -342,15 +399,17 @@ static void rows(void)
     rule(SUM, 0, 0);
     term(1, PLAIN, 2);
     term(1, PLAIN, -1);
-    try_read("row 11");
+    row_built("row 11");
     fresh();
     variables(3, FOUNDED, -1, 10);
     rule(PRODUCT, 0, 0);
     term(1, PLAIN, 0);
     term(2, PLAIN, 0);
-    try_read("row 12");
+    row_built("row 12");
+    try_begin("row 12, nothing lent", 0);
     size_circle(-10, -6);
-    try_read("row 13");
+    row_built("row 13");
+    try_begin("row 13, nothing lent", 0);
 }
 
 /* ---- the limits of founded.h */
@@ -731,19 +790,253 @@ static void normal_forms(void)
     try_normalize("a byte more than the longest file", FOUNDED_MAX_FILE);
 }
 
+/* ---- the component search, step by step */
+
+/* variable k's round over sets of so many words, which then hold what it leaves */
+static void try_step(const char *name, uint64_t *sets, size_t words, size_t variables, size_t k)
+{
+    struct call c = {STEP, NULL, NULL, sets, 0, 0, WORD * words, variables, k, 0, 0};
+    static uint64_t joined[ROOM / WORD];
+    bool done = twice(name, c) != 0;
+    memcpy(joined, sets, WORD * words);
+    for (size_t i = 0; done && i < FOUNDED_SET_WORDS * variables; i++)
+        if (founded_has(sets, i / FOUNDED_SET_WORDS, k))
+            joined[i] |= sets[FOUNDED_SET_WORDS * k + i % FOUNDED_SET_WORDS];
+    if (memcmp(left, joined, WORD * words) != 0)
+        fail(name, "other sets");
+    printf(done ? "true" : "false");
+    if (done)
+        say_sets(left, words / FOUNDED_SET_WORDS);
+    printf("\n");
+    memcpy(sets, left, WORD * words);
+}
+
+static size_t first_sharing(const uint64_t *sets, size_t x)
+{
+    size_t y = 0;
+    while (y != x && !(founded_has(sets, x, y) && founded_has(sets, y, x)))
+        y++;
+    return y;
+}
+
+/* the components that sets of so many words say, into so many bytes */
+static void try_components(const char *name, const uint64_t *sets, size_t words, size_t variables, size_t lent)
+{
+    struct call c = {COMPONENTS, NULL, sets, marks, 0, WORD * words, lent, variables, 0, 0, 0};
+    const uint8_t *bytes = (const uint8_t *)left;
+    bool done = twice(name, c) != 0;
+    printf(done ? "true" : "false");
+    for (size_t x = 0; done && x < variables; x++) {
+        if (bytes[x] != first_sharing(sets, x))
+            fail(name, "another component");
+        if (said(x, variables))
+            printf(" %u", bytes[x]);
+    }
+    unwritten_from(name, done ? variables : 0, lent);
+    printf("\n");
+}
+
+/* the whole search of the built file, which has so many variables. Of many rounds only those that are said run between the pages */
+static void search(const char *name, size_t variables)
+{
+    static uint64_t sets[SETS];
+    const size_t words = FOUNDED_SET_WORDS * variables;
+    char round[80];
+    if (founded_first(try_begin(name, words)) != variables)
+        fail(name, "another count of variables");
+    memcpy(sets, left, WORD * words);
+    for (size_t k = 0; k < variables; k++) {
+        snprintf(round, sizeof round, "%s, round %zu", name, k);
+        if (said(k, variables))
+            try_step(round, sets, words, variables, k);
+        else if (!founded_step(sets, words, variables, k))
+            fail(round, "no round");
+    }
+    try_components(name, sets, words, variables, variables);
+}
+
+/* founded a and b, standard x and y in -9..9, a >= |x|, b >= (a + b + x - y) / 2, a >= 5 if b < 3 and x >= 1 */
+static void edges_to_some(void)
+{
+    fresh();
+    variables(2, FOUNDED, -9, 9);
+    variables(2, STANDARD, -9, 9);
+    rule(SIZE, 0, 0);
+    term(2, PLAIN, 0);
+    rule(DIVIDED, 1, 0);
+    term(0, DIVISOR, 2);
+    for (unsigned v = 0; v < 4; v++)
+        term(v, PLAIN, v == 3 ? -1 : 1);
+    rule(IF, 0, 5);
+    term(1, UNDER, 3);
+    term(2, OVER, 1);
+}
+
+/* founded variables 0 to 4 in 0..9, a rule of each form, and a constraint, which draws no edge */
+static void every_form(void)
+{
+    fresh();
+    variables(5, FOUNDED, 0, 9);
+    rule(SUM, 0, 0);
+    term(1, PLAIN, 1);
+    term(2, PLAIN, -1);
+    rule(CARRY, 0, 0);
+    term(3, PLAIN, 0);
+    term(4, OVER, 1);
+    rule(MAX, 1, 0);
+    term(0, PLAIN, 0);
+    term(2, PLAIN, 0);
+    rule(IF, 1, 5);
+    term(3, OVER, 1);
+    term(4, UNDER, 3);
+    rule(MIN, 2, 0);
+    term(0, PLAIN, 0);
+    term(1, PLAIN, 0);
+    rule(SIZE, 2, 0);
+    term(4, PLAIN, 0);
+    rule(PRODUCT, 3, 0);
+    term(1, PLAIN, 0);
+    term(2, PLAIN, 0);
+    rule(DIVIDED, 4, 0);
+    term(0, DIVISOR, 2);
+    term(3, PLAIN, 1);
+    constraint(1, -5);
+    term(4, PLAIN, 1);
+}
+
+static void begun(void)
+{
+    fresh();
+    try_begin("empty", 0);
+    try_begin("empty, more lent", 5);
+    printing_example();
+    try_begin("printing example, more lent", 13);
+    try_begin("printing example, row 15", 11);
+    try_begin("printing example, nothing lent", 0);
+    every_form();
+    try_begin("every form", 20);
+    longest();
+    try_begin("longest file", SETS);
+    try_begin("longest file, more lent", SETS + 1);
+    try_begin("longest file, row 15", SETS - 1);
+    put(0);
+    try_begin("a byte more than the longest file", SETS);
+}
+
+static void searches(void)
+{
+    printing_example();
+    search("printing example", 3);
+    edges_to_some();
+    search("edges to some", 4);
+    size_circle(-10, -6);
+    search("row 13", 2);
+    size_circle(-10, -30);
+    search("a >= |b|, b >= 2a - 30", 2);
+    needing(4);
+    search("d >= 5 if a >= 1, s >= 4", 4);
+    needing(9);
+    search("d >= 5 if a >= 1, s >= 9", 4);
+    arrival();
+    search("arrival", 3);
+    sizes(FOUNDED, -19);
+    search("256 sizes, the last rule not idle", FOUNDED_MAX_VARIABLES);
+    sizes(FOUNDED, -20);
+    search("256 sizes", FOUNDED_MAX_VARIABLES);
+}
+
+static void put_in(uint64_t *sets, size_t x, size_t y) { sets[FOUNDED_SET_WORDS * x + y / 64] |= (uint64_t)1 << y % 64; }
+
+/* sets that no search leaves, and after those of 256 variables one more that has 2 */
+static uint64_t *no_search(void)
+{
+    static uint64_t sets[SETS + FOUNDED_SET_WORDS];
+    static const unsigned members[][2] = {{0, 1}, {0, 2}, {0, 255}, {1, 0}, {2, 0}, {2, 3}, {3, 2}, {3, 200}, {256, 2}};
+    memset(sets, 0, sizeof sets);
+    for (size_t i = 0; i < sizeof members / sizeof members[0]; i++)
+        put_in(sets, members[i][0], members[i][1]);
+    return sets;
+}
+
+static void steps(void)
+{
+    try_step("four sets, 0 of 2", no_search(), 16, 2, 0);
+    try_step("four sets, 0 of 4", no_search(), 16, 4, 0);
+    try_step("four sets, 3 of 4", no_search(), 16, 4, 3);
+    try_step("four sets and three words, 2 of 4", no_search(), 19, 4, 2);
+    try_step("257 sets, 2 of 256", no_search(), SETS + 4, 256, 2);
+    try_step("256 sets, 255 of 256", no_search(), SETS, 256, 255);
+    try_step("k is no variable", no_search(), 16, 3, 3);
+    try_step("256 sets, k is no variable", no_search(), SETS, 256, 256);
+    try_step("a word too few", no_search(), 15, 4, 0);
+    try_step("256 variables, a word too few", no_search(), SETS - 1, 256, 0);
+    try_step("no words", no_search(), 0, 1, 0);
+    try_step("no variables", no_search(), 16, 0, 0);
+    try_step("no variables, no words", no_search(), 0, 0, 0);
+    try_step("257 variables", no_search(), SETS + 4, 257, 0);
+}
+
+static void components(void)
+{
+    static uint64_t full[SETS];
+    memset(full, 0xff, sizeof full);
+    try_components("four sets", no_search(), 16, 4, 4);
+    try_components("four sets, more lent", no_search(), 16, 4, 7);
+    try_components("four sets and three words, 2 variables", no_search(), 19, 2, 4);
+    try_components("no variables", no_search(), 16, 0, 4);
+    try_components("no variables, no words, no bytes", no_search(), 0, 0, 0);
+    try_components("256 full sets", full, SETS, 256, 256);
+    try_components("257 sets, 256 variables", no_search(), SETS + 4, 256, 257);
+    try_components("a word too few", no_search(), 15, 4, 4);
+    try_components("a byte too few", no_search(), 16, 4, 3);
+    try_components("no words", no_search(), 0, 1, 1);
+    try_components("no bytes", no_search(), 16, 1, 0);
+    try_components("256 variables, a word too few", full, SETS - 1, 256, 256);
+    try_components("256 variables, a byte too few", full, SETS, 256, 255);
+    try_components("257 variables", no_search(), SETS + 4, 257, 257);
+}
+
+/* numbers that are no count of variables; four times the second to the fifth is small again in 64 bits */
+static void huge_numbers(void)
+{
+    const size_t high = (size_t)1 << 62, numbers[] = {SIZE_MAX, high, high + 1, 2 * high + 1, 3 * high + 2, 1000};
+    char name[80];
+    for (size_t i = 0; i < sizeof numbers / sizeof numbers[0]; i++) {
+        snprintf(name, sizeof name, "%zu variables", numbers[i]);
+        try_step(name, no_search(), 16, numbers[i], 0);
+        try_components(name, no_search(), 16, numbers[i], 4);
+        snprintf(name, sizeof name, "the last of %zu variables", numbers[i]);
+        try_step(name, no_search(), 16, numbers[i], numbers[i] - 1);
+        snprintf(name, sizeof name, "k is %zu", numbers[i]);
+        try_step(name, no_search(), 16, 4, numbers[i]);
+    }
+}
+
 /* ---- threads at the same time, over one file and one assignment */
 
 struct worker {
     pthread_t thread;
     const uint8_t *assignment;
-    int right;
+    bool right;
 };
+
+/* the search of the printing example */
+static bool searches_right(void)
+{
+    uint64_t sets[12], begin = founded_begin(built.bytes, built.len, sets, 12);
+    uint8_t firsts[3];
+    bool right = founded_word(begin) == FOUNDED_BEGUN && founded_first(begin) == 3 && !founded_has(sets, 1, 1);
+    for (size_t k = 0; k < 3; k++)
+        right &= founded_step(sets, 12, 3, k);
+    right &= founded_has(sets, 1, 1) && !founded_has(sets, 1, 0) && founded_components(sets, 12, 3, firsts, 3);
+    return right && firsts[0] == 0 && firsts[1] == 1 && firsts[2] == 1;
+}
 
 static void *works(void *p)
 {
     struct worker *w = p;
     uint8_t report[36], model[6], normal[57];
-    w->right = 1;
+    w->right = true;
     for (int i = 0; i < 2000; i++) {
         uint64_t read = founded_read(built.bytes, built.len);
         uint64_t least = founded_least(built.bytes, built.len, w->assignment, 6, model, sizeof model);
@@ -754,6 +1047,7 @@ static void *works(void *p)
         uint64_t normalize = founded_normalize(built.bytes, built.len, normal, sizeof normal);
         w->right &= founded_word(normalize) == FOUNDED_WRITTEN && founded_length(normalize) == 57 && normal[56] == 1;
         w->right &= founded_entry_variable(report, 1) == 2 && founded_entry_mark(report, 2) == FOUNDED_AT_MOST;
+        w->right &= searches_right();
     }
     return NULL;
 }
@@ -779,8 +1073,9 @@ int main(int argc, char **argv)
 {
     (void)argv;
     file_room = fenced(ROOM);
-    assignment_room = fenced(ROOM);
+    beside_room = fenced(ROOM);
     lent_room = fenced(ROOM);
+    memset(marks, MARK, sizeof marks);
     for (int i = 0; i < COUNT; i++)
         stacks[i] = fenced(STACKS[i]);
     rows();
@@ -789,6 +1084,11 @@ int main(int argc, char **argv)
     idle_rules();
     from_above();
     normal_forms();
+    begun();
+    searches();
+    steps();
+    components();
+    huge_numbers();
     at_once();
     for (int i = 0; i < COUNT; i++)
         if (deepest[i] + MARGIN > STACKS[i])

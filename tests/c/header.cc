@@ -1,7 +1,21 @@
-// founded.h in C++: every accessor, and a call.
+// founded.h in C++: every accessor, and every call.
 #include <cstdio>
 
 #include "founded.h"
+
+// variable 0 is at least itself
+static void search()
+{
+    const uint8_t file[] = {1, 0, 5, 1, 0, 0, 0, 1, 2, 0, 8, 1, 0, 0, 0, 0, 0, 0, 1};
+    uint64_t sets[FOUNDED_SET_WORDS];
+    uint8_t first[1];
+    uint64_t begin = founded_begin(file, sizeof file, sets, FOUNDED_SET_WORDS);
+    bool stepped = founded_step(sets, FOUNDED_SET_WORDS, 1, 0), again = founded_step(sets, FOUNDED_SET_WORDS, 1, 1);
+    bool named = founded_components(sets, FOUNDED_SET_WORDS, 1, first, sizeof first);
+    std::printf("%u %u %d %d %d %u\n", founded_word(begin), founded_first(begin), stepped, again, named, first[0]);
+    const uint64_t bits[] = {0, 0, 0, 0, 1, 0, 0, (uint64_t)1 << 63};
+    std::printf("%d %d %d %d\n", founded_has(bits, 1, 0), founded_has(bits, 1, 255), founded_has(bits, 1, 254), founded_has(bits, 0, 0));
+}
 
 int main()
 {
@@ -18,5 +32,6 @@ int main()
     std::printf("%u %u %d\n", founded_entry_variable(report, 0), founded_entry_mark(report, 0), founded_entry_number(report, 0));
     std::printf("%u %u %u\n", founded_word(normalize), (unsigned)founded_length(normalize), normal[7]);
     std::printf("%x\n", (unsigned)founded_length((uint64_t)0x89abcdef << 8 | FOUNDED_WRITTEN));
+    search();
     return 0;
 }

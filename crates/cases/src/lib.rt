@@ -6,6 +6,7 @@ use parsing::is_said;
 use parsing::next;
 use showing::opened;
 use showing::show;
+use stepping::searched;
 use trying::tried;
 ghost use Prim.Native.Nat.{_≤_};
 ghost use lib.ListN.{length};
@@ -22,13 +23,18 @@ fn once(room: &mut [u8], bytes: &[u8], line: Line)
     show(room, bytes, line, answer);
 }
 
-// Tries a line's case and, where it says which file is written, this file too.
+// Tries a line's case and, where it says which file is written, this file too; a search has a room of its own.
 fn case(room: &mut [u8], bytes: &[u8], line: Line)
     requires { ⌜ line .file ≤ line .all ⌝ }
     requires { ⌜ line .all ≤ length (now bytes) ⌝ }
     requires { ⌜ line .from ≤ line .to ⌝ }
     requires { ⌜ line .to ≤ length (now room) ⌝ }
 {
+    let file = line.file;
+    if line.letter == b'b' {
+        searched(&bytes[0..file], line.from, line.to);
+        return;
+    }
     once(room, bytes, line);
     if is_said(line) {
         once(room, bytes, again(line));

@@ -5,7 +5,6 @@ use mathlib.Core.List.{List}
 use mathlib.Core.Bool.{Bool, true, false, _||_, _&&_, or-false, or-comm, or-assoc}
 use lib.ListN.{length}
 use lib.Dec.{eqb}
-use borrow.Author.Tests.{eq-eqb, ne-eqb}
 use Rattle.reach.specs.Rows.{Marked}
 use Rattle.program.specs.Tables.{anyBelow}
 use Rattle.program.specs.Program.{Rule}
@@ -15,7 +14,8 @@ use Rattle.program.proofs.Conditions.{any-next}
 use Rattle.program.proofs.Tests.{eqb-swap}
 use Rattle.positions.specs.Positions.{PositionIs}
 use Rattle.positions.specs.declared.Position.{Position}
-use Rattle.edges.specs.Edges.{Grown, anyMixed, drawsEdge, drawsAt, drawsIn, shareIn, offendsAt, offendsIn}
+use Rattle.sharing.specs.Sharing.{shareIn}
+use Rattle.edges.specs.Edges.{Grown, anyMixed, drawsEdge, drawsAt, drawsIn, offendsAt, offendsIn}
 use Rattle.program.specs.declared.Variable.{Variable}
 
 -- ---- rows that take in edges
@@ -73,7 +73,7 @@ module _ (vs : List Variable) (r : Rule) where
         → h ≡ r .head → x ≡ bodyVariable r i → Marked t t′ h x → Grown t t′ (drawsAt vs r i)
     unfolding drawsAt
     draws-one {t} h x e p q m = record {
-      is = λ a b ha hb. m a b ha hb ∙ or-comm (eqb a h && eqb b x) (t a b)
+      is = λ a b ha hb. m .is a b ha hb ∙ or-comm (eqb a h && eqb b x) (t a b)
           ∙ ap (λ (z : Bool). t a b || z)
           (go a b (eqb a h) (eqb b x) (eqb-swap a h ∙ ap (λ (y : ℕ). eqb y a) p) (eqb-swap b x ∙ ap (λ (y : ℕ). eqb y b) q));
     }
@@ -92,14 +92,3 @@ module _ (vs : List Variable) (r : Rule) where
         → h ≡ r .head → x ≡ bodyVariable r i → f ≡ shareIn t h x → f ≡ offendsAt t vs r i
     unfolding offendsAt
     offends-shared t h x e p q s = s ∙ rw (e, p, q)
-
--- ---- two variables
-
-module _ (t : ℕ → ℕ → Bool) (x y : ℕ) where
-  pub share-same : x ≡ y → true ≡ shareIn t x y
-  unfolding shareIn
-  share-same e = simp (eq-eqb x y e)
-
-  pub share-other : {there back : Bool} → (x ≡ y → ⊥) → there ≡ t x y → back ≡ t y x → (there && back) ≡ shareIn t x y
-  unfolding shareIn
-  share-other f p q = simp (ne-eqb x y f, p, q)

@@ -11,6 +11,7 @@ use Rattle.program.specs.Program.{Rule, termIn}
 use Rattle.program.specs.Directions.{direction, isMixed}
 use Rattle.program.specs.Readings.{bodyVariable, kept}
 use Rattle.program.specs.declared.Variable.{Variable}
+use Rattle.sharing.specs.Sharing.{shareIn}
 
 -- r′ is r with the edges of e
 pub record Grown (r r′ e : ℕ → ℕ → Bool) : Type 0 where
@@ -31,10 +32,6 @@ drawsAt vs r i x y = eqb (r .head) x && (eqb (bodyVariable r i) y && drawsEdge v
 
 unfoldable pub drawsIn : List Variable → Rule → ℕ → ℕ → Bool
 drawsIn vs r x y = anyBelow (length (r .terms)) (λ i. drawsAt vs r i x y)
-
--- x and y share a component, t being what is reached
-unfoldable pub shareIn : (ℕ → ℕ → Bool) → ℕ → ℕ → Bool
-shareIn t x y = eqb x y || (t x y && t y x)
 
 unfoldable pub offendsAt : (ℕ → ℕ → Bool) → List Variable → Rule → ℕ → Bool
 offendsAt t vs r i = isMixed (direction vs r i) && shareIn t (r .head) (termIn (r .terms) i .variable)

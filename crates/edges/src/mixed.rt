@@ -2,19 +2,18 @@
 ghost use mathlib.Core.Path.{_≡_};
 ghost use Prim.Native.Nat.{_<_};
 ghost use lib.ListN.{length};
-ghost use Rattle.format.specs.Limits.{maxVariables};
 ghost use Rattle.program.specs.Program.{ruleOf, variablesAt};
 ghost use Rattle.program.specs.Directions.{direction, isMixed};
 ghost use Rattle.reach.specs.Rows.{rowHas};
-ghost use Rattle.edges.specs.Edges.{anyMixed, shareIn, offendsAt, offendsIn};
+ghost use Rattle.reach.specs.Stepping.{Lent};
+ghost use Rattle.edges.specs.Edges.{anyMixed, offendsAt, offendsIn};
 ghost use Rattle.parts.specs.Values.{Standing};
 ghost use Rattle.positions.specs.Positions.{OpenedIs};
 use parts::rules;
 use positions::Opened;
 use positions::open_rule;
 use positions::position_at;
-use reach::Rows;
-use reach::row_has;
+use sharing::share;
 
 // Whether position i of the rule in a field's value is mixed.
 fn is_mixed_position(file: &[u8], variables: usize, value: &[u8], rule: Opened, i: usize) -> bool
@@ -45,28 +44,16 @@ pub fn is_mixed(file: &[u8], variables: usize, value: &[u8]) -> bool
     found
 }
 
-// Whether two variables are the same or each reaches the other.
-fn share(rows: &[u64; Rows::LENGTH], x: usize, y: usize) -> bool
-    requires { ⌜ (x < maxVariables) × (y < maxVariables) ⌝ }
-    ensures { λ r. ⌜ r ≡ shareIn (rowHas (now (rows .entry))) x y ⌝ }
-{
-    if x == y {
-        return true;
-    }
-    let there = row_has(rows, x, y);
-    let back = row_has(rows, y, x);
-    there & back
-}
-
 // Whether position i is mixed and its variable shares the head's component.
 fn offends_position(
-    rows: &[u64; Rows::LENGTH],
+    rows: &[u64],
     file: &[u8],
     variables: usize,
     value: &[u8],
     rule: Opened,
     i: usize,
 ) -> bool
+    requires { ⌜ Lent (now rows) variables ⌝ }
     requires { ⌜ Standing (now file) variables (now value) ⌝ }
     requires { ⌜ OpenedIs (variablesAt (now file) variables) (ruleOf (now value)) rule ⌝ }
     requires { ⌜ i < length (ruleOf (now value) .terms) ⌝ }
@@ -83,7 +70,8 @@ fn offends_position(
 }
 
 // Whether some position does.
-pub fn offends(rows: &[u64; Rows::LENGTH], file: &[u8], variables: usize, value: &[u8]) -> bool
+pub fn offends(rows: &[u64], file: &[u8], variables: usize, value: &[u8]) -> bool
+    requires { ⌜ Lent (now rows) variables ⌝ }
     requires { ⌜ Standing (now file) variables (now value) ⌝ }
     ensures { λ r. ⌜ r ≡ offendsIn (rowHas (now (rows .entry))) (variablesAt (now (file .entry)) variables) (ruleOf (now (value .entry))) ⌝ }
 {

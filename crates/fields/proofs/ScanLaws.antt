@@ -1,10 +1,10 @@
 -- The fields of a file one after the other.
 use Prim.Native.Nat.{ℕ, _+_, _*_, _-_, _<_, _≤_}
-use mathlib.Core.Path.{_≡_, refl, sym, ap, _∙_}
+use mathlib.Core.Path.{_≡_, refl, sym, ap, _∙_, subst}
 use mathlib.Core.List.{List}
 use mathlib.Core.Logic.{_⊎_, ⊎-elim}
 use mathlib.Core.Bool.{Bool, true, false, cond}
-use lib.Dec.{leb, lit<}
+use lib.Dec.{leb, lit<, lit≤}
 use lib.ListN.{length, take, drop}
 use native.Mathlib.Nat.{add-sub-cancel-left}
 use native.Mathlib.Numerals.{add-one}
@@ -15,15 +15,18 @@ use Rattle.format.specs.Limits.{maxFile, maxVariables, maxRules, maxConstraints
 use Rattle.program.specs.Fields.{tagAt, lengthAt, valueAt, nextAt, place, tagBefore}
 use Rattle.program.specs.Program.{Program, program}
 use Rattle.program.specs.Refusals.{cutShort, valueRefusal, fieldRefusal}
-use Rattle.program.specs.Reading.{Passed, Whole, Reads, refused, bad-field, too-long, numberOf, counted}
+use Rattle.program.specs.Reading.{Passed, Whole, bad-field, too-long, numberOf, counted}
 use Rattle.program.specs.declared.Counts.{Counts}
 use Rattle.program.specs.declared.Refusal.{Refusal}
 use Rattle.program.specs.declared.Refusal.the-variants.{FileTooLong, CutShort, UnknownTag, TagBelow, OneTooMany, WrongLength, WrongForm, OutsideRange}
 use Rattle.program.specs.declared.Refusal.the-variants.{Undeclared, WrongCount, VariableTwice, NegativeProduct, NotValid}
 use Rattle.program.proofs.Places.{passed-none, passed-more, passed-inside, passed-fine, place-next, before-next, not-cut, variables-stand, counts, variables-length}
 use Rattle.program.proofs.Counting.{countsTo, counts-more}
+use Rattle.program.proofs.ReadDemanded.{field-most}
 use Rattle.fields.specs.Standing.{fieldAt}
-use Rattle.fields.specs.Scanning.{Describes, Counted}
+use Rattle.fields.specs.Scanning.{Describes, Counted, Stopped, Scans}
+use Rattle.fields.specs.declared.answers.Scanned.{Scanned}
+use Rattle.fields.specs.declared.answers.Scanned.the-variants as scanned
 use Rattle.faults.specs.Faults.{checkedNumber}
 use Rattle.fields.specs.declared.cursor.Cursor.{Cursor}
 use Rattle.fields.specs.declared.cursor.Field.{Field}
@@ -137,8 +140,8 @@ counts-are {s} {k} {P} d =
     λ i. record { variables = sym v i; rules = sym (d .rules-are) i; constraints = sym (d .constraints-are) i }
 
 module _ (s : List ℕ) where
-  pub scan-long : maxFile < length s → Reads s (refused 1 0)
-  scan-long h = too-long h
+  pub scan-long : maxFile < length s → Stopped s 1 0
+  scan-long h = record { reads = too-long h; early = lit≤ tt }
 
   pub scan-start : length s ≤ maxFile → Reached s 0 0 (record { variables = 0; rules = 0; constraints = 0 })
   unfolding place tagBefore program
@@ -177,17 +180,18 @@ module _ (s : List ℕ) (at before : ℕ) (k : Counts) (r : Reached s at before 
       last : (n : ℕ) → n ≡ n
       last n = refl
 
-  refuse : (n : ℕ) → at < length s → fieldRefusal s (r .fields) ≡ n → 0 < n → Reads s (refused n at)
-  refuse n h e z =
-      rw (← e, r .placed)
-      (bad-field {k = r .fields} (r .passed) (let q = r .placed in omega arith) (omega arith))
+  refuse : (n : ℕ) → at < length s → fieldRefusal s (r .fields) ≡ n → 0 < n → Stopped s n at
+  refuse n h e z = record {
+    reads = rw (← e, r .placed) (bad-field {k = r .fields} (r .passed) (let q = r .placed in omega arith) (omega arith));
+    early = rw e at (field-most s (r .fields));
+  }
 
   pub scan-ended : field.End ≡ fieldAt s at → Counted s k
   scan-ended e =
       let h = field-ended s at e in
       record { fields = r .fields; whole = record { passed = r .passed; ended = let q = r .placed in omega arith }; describes = r .describes }
 
-  pub scan-cut : field.Short ≡ fieldAt s at → Reads s (refused 2 at)
+  pub scan-cut : field.Short ≡ fieldAt s at → Stopped s 2 at
   scan-cut e = let c = field-cut s at e in refuse 2 (c .0) (cut-refusal (c .1)) (lit< tt)
 
   module _ (tag start len next : ℕ) (w : Stands s at tag start len next) (checked : Checked)
@@ -197,7 +201,7 @@ module _ (s : List ℕ) (at before : ℕ) (k : Counts) (r : Reached s at before 
         next-refusal (w .uncut)
         ∙ sym (rw (part-value s at tag start len next w, w .tag-is) at (a (program s (r .fields)) (r .describes)))
 
-    pub scan-bad : (why : Refusal) → checked ≡ Bad why → Reads s (refused (numberOf why) at)
+    pub scan-bad : (why : Refusal) → checked ≡ Bad why → Stopped s (numberOf why) at
     scan-bad why e = refuse (numberOf why) (w .more) (answer-is ∙ ap checkedNumber e) (number-positive why)
 
     pub scan-more : (k′ : Counts) → checked ≡ Fine → k′ ≡ counted tag k → Reached s next tag k′
@@ -210,3 +214,12 @@ module _ (s : List ℕ) (at before : ℕ) (k : Counts) (r : Reached s at before 
         (w .next-is ∙ ap (λ (n : ℕ). at + 3 + n) (w .len-is) ∙ ap (nextAt s) (r .placed) ∙ sym (place-next s (r .fields)))
         (t ∙ sym (before-next s (r .fields)))
         (q ∙ rw (t, counts-are (r .describes)) (counts-more s (r .fields) (f .tag-least) (f .tag-most)) ∙ ap (countsTo s) (sym (add-one (r .fields))))
+
+-- ---- what scanning a file answers
+
+module _ (s : List ℕ) (r : Scanned) (scans : Scans s r) where
+  pub scanned-whole : (k : Counts) → r ≡ scanned.Whole k → Counted s k
+  scanned-whole k e = subst (Scans s) e scans
+
+  pub scanned-stopped : (why : Refusal) (at : ℕ) → r ≡ scanned.Refused why at → Stopped s (numberOf why) at
+  scanned-stopped why at e = subst (Scans s) e scans

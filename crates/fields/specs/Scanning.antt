@@ -1,5 +1,5 @@
 -- What reading all fields of a file finds.
-use Prim.Native.Nat.{ℕ}
+use Prim.Native.Nat.{ℕ, _≤_}
 use mathlib.Core.Path.{_≡_}
 use mathlib.Core.List.{List}
 use lib.ListN.{length}
@@ -21,7 +21,12 @@ pub record Counted (s : List ℕ) (counts : Counts) : Type 0 where
   pub whole : Whole s fields
   pub describes : Describes s counts (program s fields)
 
+-- the file's first refusal, by its length or by a field: none of these is 13
+pub record Stopped (s : List ℕ) (n at : ℕ) : Type 0 where
+  pub reads : Reads s (refused n at)
+  pub early : n ≤ 12
+
 -- all fields are fine, or the first refusal is the file's
 abbrev pub Scans : List ℕ → Scanned → Type 0
 Scans s (scanned.Whole counts) = Counted s counts
-Scans s (scanned.Refused why at) = Reads s (refused (numberOf why) at)
+Scans s (scanned.Refused why at) = Stopped s (numberOf why) at

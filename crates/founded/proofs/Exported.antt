@@ -13,11 +13,14 @@ use Rattle.verdict.specs.Demands.{Demands}
 use Rattle.normal.specs.Normalizes.{Normalizes}
 use Rattle.normal.specs.Normalizes as normalize
 use Rattle.normal.proofs.Calls.{normalize-demands}
+use Rattle.search.specs.BeginCall.{BeginCall}
+use Rattle.search.specs.BeginCall as begin
+use Rattle.search.proofs.BeginDetermined.{begin-demands}
 use Rattle.packing.specs.declared.Parts.{Parts}
-use Rattle.packing.specs.Packing.{packed, unpacked, lengthIn, readParts, leastParts, checkParts, normalizeParts}
-use Rattle.founded.specs.Exports.{ExportedRead, ExportedLeast, ExportedCheck, ExportedNormalize}
+use Rattle.packing.specs.Packing.{packed, unpacked, lengthIn, readParts, leastParts, checkParts, normalizeParts, beginParts}
+use Rattle.founded.specs.Exports.{ExportedRead, ExportedLeast, ExportedCheck, ExportedNormalize, ExportedBegin}
 use Rattle.packing.proofs.Bounds.{length-short}
-use Rattle.packing.proofs.Unpacked.{read-unpacks, least-unpacks, check-unpacks, normalize-unpacks, length-back}
+use Rattle.packing.proofs.Unpacked.{read-unpacks, least-unpacks, check-unpacks, normalize-unpacks, begin-unpacks, length-back}
 
 module _ {p : Parts} {r : ℕ} (e : r ≡ packed p) where
   pub exported-read : {s : List ℕ} {x : read.Answer} → Reads s x → p ≡ readParts x → ExportedRead s r
@@ -47,3 +50,8 @@ module _ {p : Parts} {r : ℕ} (e : r ≡ packed p) where
         length-told = λ n f. ap lengthIn (d ∙ ap (λ (z : normalize.Answer). packed (normalizeParts z)) f)
             ∙ length-back n (length-short y (subst (λ z. Normalizes s b z b′) f h));
       }
+
+  pub exported-begin : {s w w′ : List ℕ} {x : begin.Answer} → BeginCall s w x w′ → p ≡ beginParts x → ExportedBegin s w r w′
+  exported-begin {x = x} h q =
+      let d : r ≡ packed (beginParts x) = e ∙ ap packed q in
+      record { answer = x; begins = h; demands = begin-demands h; is-packed = d; unpacks = ap unpacked d ∙ begin-unpacks h }

@@ -12,7 +12,10 @@ use Rattle.verdict.specs.Demands.{Demands}
 use Rattle.normal.specs.Normalizes.{Normalizes, written}
 use Rattle.normal.specs.Normalizes as normalize
 use Rattle.normal.specs.NormalizeDemands.{NormalizeDemands}
-use Rattle.packing.specs.Packing.{packed, unpacked, lengthIn, readParts, leastParts, checkParts, normalizeParts}
+use Rattle.search.specs.BeginCall.{BeginCall}
+use Rattle.search.specs.BeginCall as begin
+use Rattle.search.specs.BeginDemands.{BeginDemands}
+use Rattle.packing.specs.Packing.{packed, unpacked, lengthIn, readParts, leastParts, checkParts, normalizeParts, beginParts}
 
 pub record ExportedRead (s : List ℕ) (r : ℕ) : Type 0 where
   pub answer : read.Answer
@@ -40,3 +43,10 @@ pub record ExportedNormalize (s b : List ℕ) (r : ℕ) (b′ : List ℕ) : Type
   pub is-packed : r ≡ packed (normalizeParts answer)
   pub unpacks : unpacked r ≡ normalizeParts answer
   pub length-told : (n : ℕ) → answer ≡ written n → lengthIn r ≡ n
+
+pub record ExportedBegin (s w : List ℕ) (r : ℕ) (w′ : List ℕ) : Type 0 where
+  pub answer : begin.Answer
+  pub begins : BeginCall s w answer w′
+  pub demands : BeginDemands s w answer w′
+  pub is-packed : r ≡ packed (beginParts answer)
+  pub unpacks : unpacked r ≡ beginParts answer

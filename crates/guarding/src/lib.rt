@@ -1,13 +1,25 @@
-// Prints what a call wrote into a part of a larger room, and whether every other byte of the room is as it was.
+// Prints what a call wrote into a part of a larger room, and whether every other byte of the room is as it was; of a room of words the latter.
 use libc::STDOUT_FILENO;
 use telling::say;
 use telling::text;
 ghost use Prim.Native.Nat.{_≤_};
 ghost use lib.ListN.{length};
 
+// The number of the pattern at a place.
+fn number_at(i: usize) -> usize
+    ensures { λ r. ⌜ r ≤ 248 ⌝ }
+{
+    i % 199 + 50
+}
+
 // The byte of the pattern at a place.
 fn pattern(i: usize) -> u8 {
-    (i % 199 + 50) as u8
+    number_at(i) as u8
+}
+
+// The word of the pattern at a place, in which each byte is the number.
+fn word_pattern(i: usize) -> u64 {
+    number_at(i) as u64 * 72340172838076673
 }
 
 // Gives the room the pattern.
@@ -17,16 +29,33 @@ pub fn patterned(room: &mut [u8]) {
     }
 }
 
-// Whether each byte but those from `start` on and below `end` is the pattern's.
-fn is_kept(room: &[u8], start: usize, end: usize) -> bool {
+// The same for a room of words.
+pub fn patterned_words(room: &mut [u64]) {
     for i in 0..room.len() {
-        if room[i] != pattern(i) {
-            if i < start {
-                return false;
-            }
-            if end <= i {
-                return false;
-            }
+        room[i] = word_pattern(i);
+    }
+}
+
+// Whether a place is none of those from `start` on and below `end`.
+fn is_outside(i: usize, start: usize, end: usize) -> bool {
+    (i < start) | (end <= i)
+}
+
+// Whether each byte but those from `start` on and below `end` is the pattern's.
+pub fn is_kept(room: &[u8], start: usize, end: usize) -> bool {
+    for i in 0..room.len() {
+        if is_outside(i, start, end) & (room[i] != pattern(i)) {
+            return false;
+        }
+    }
+    true
+}
+
+// The same for a room of words.
+pub fn words_are_kept(room: &[u64], start: usize, end: usize) -> bool {
+    for i in 0..room.len() {
+        if is_outside(i, start, end) & (room[i] != word_pattern(i)) {
+            return false;
         }
     }
     true
@@ -72,13 +101,18 @@ fn written(is_report: bool, bytes: &[u8]) {
     }
 }
 
-// Prints whether each byte but those from `start` on and below `end` is as it was.
-fn kept(room: &[u8], start: usize, end: usize) {
-    if is_kept(room, start, end) {
+// Prints whether all is as it was around what may be written.
+pub fn tell_kept(is_kept: bool) {
+    if is_kept {
         text(b", guard kept\n");
     } else {
         text(b", guard lost\n");
     }
+}
+
+// An answer says that more was written than was lent.
+pub fn exceeded() {
+    text(b", more than was lent\n");
 }
 
 // Prints what was written, n bytes from the lent part's start on, and whether the other bytes are as they were.
@@ -87,12 +121,12 @@ pub fn guarded(room: &[u8], is_check: bool, from: usize, to: usize, n: usize)
     requires { ⌜ to ≤ length (now room) ⌝ }
 {
     if to - from < n {
-        text(b", more than was lent\n");
+        exceeded();
         return;
     }
     let stop = from + n;
     written(is_check, &room[from..stop]);
-    kept(room, from, stop);
+    tell_kept(is_kept(room, from, stop));
 }
 
 // Each byte as a space and two hexadecimal digits.
@@ -120,10 +154,10 @@ pub fn guarded_file(room: &[u8], said: &[u8], from: usize, to: usize, n: usize)
     requires { ⌜ to ≤ length (now room) ⌝ }
 {
     if to - from < n {
-        text(b", more than was lent\n");
+        exceeded();
         return;
     }
     let stop = from + n;
     compared(&room[from..stop], said);
-    kept(room, from, stop);
+    tell_kept(is_kept(room, from, stop));
 }

@@ -6,9 +6,10 @@ use mathlib.Core.List.{List, _∷_, []}
 use native.Mathlib.Omega.{arith}
 use lib.ListN.{length}
 use Rattle.sets.proofs.Counts.{count-most}
-use Rattle.program.specs.Program.{Program}
+use Rattle.program.specs.Program.{Program, program}
 use Rattle.program.specs.Encode.{Bytes}
 use Rattle.program.proofs.ReadDemanded.{field-most}
+use Rattle.program.proofs.Places.{counts}
 use Rattle.program.specs.Reading.{Reads, too-long, bad-field, not-valid, whole, Accepts}
 use Rattle.program.specs.Reading as read
 use Rattle.reader.proofs.Published.{limited, program-limited}
@@ -22,7 +23,9 @@ use Rattle.verdict.specs.Checks as check
 use Rattle.normal.specs.Normalizes.{Normalizes, shorter}
 use Rattle.normal.specs.Normalizes as normalize
 use Rattle.normal.proofs.Calls.{normalize-demands}
-use Rattle.packing.specs.Packing.{parts, Fits, readParts, leastParts, checkParts, lengthParts, normalizeParts}
+use Rattle.search.specs.BeginCall.{TurnedDown, BeginCall, short}
+use Rattle.search.specs.BeginCall as begin
+use Rattle.packing.specs.Packing.{parts, Fits, readParts, leastParts, checkParts, lengthParts, normalizeParts, beginParts}
 use Rattle.program.specs.Readings.{Valuation}
 use mathlib.Core.Logic.{inl, inr}
 use Rattle.meaning.proofs.Denials.{Every}
@@ -113,3 +116,14 @@ module _ {s b : List ℕ} (y : Bytes s) where
   pub normalize-fits : {x : normalize.Answer} {b′ : List ℕ} → Normalizes s b x b′ → Fits (normalizeParts x)
   normalize-fits (normalize.turned-down r) = refuses-fits (shorter-small s b) r
   normalize-fits (normalize.rewritten c n) = length-fits _ (length-short (normalize.rewritten c n))
+
+short-small : (w : List ℕ) (P : Program) → Every Small (short w P)
+short-small w P = ((omega arith, λ at x. omega (arith, x .1)), tt)
+
+turned-fits : {s w : List ℕ} {n at : ℕ} → TurnedDown s w n at → Fits (parts 6 n at 0)
+turned-fits (begin.bad-field r l) = read-fits r
+turned-fits {s} {w} {n} {at} (begin.bad-call {k = k} h g) = first-fits (short w (program s k)) (short-small w (program s k)) n at g
+
+pub begin-fits : {s w w′ : List ℕ} {x : begin.Answer} → BeginCall s w x w′ → Fits (beginParts x)
+begin-fits (begin.turned-down t) = turned-fits t
+begin-fits (begin.starts h g e) = one 11 _ (omega arith) (omega (arith, counts (h .passed) .few-variables))

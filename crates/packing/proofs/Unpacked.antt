@@ -13,9 +13,11 @@ use Rattle.verdict.specs.Checks.{Checks}
 use Rattle.verdict.specs.Checks as check
 use Rattle.normal.specs.Normalizes.{Normalizes}
 use Rattle.normal.specs.Normalizes as normalize
+use Rattle.search.specs.BeginCall.{BeginCall}
+use Rattle.search.specs.BeginCall as begin
 use Rattle.packing.specs.declared.Parts.{Parts}
-use Rattle.packing.specs.Packing.{Fits, packed, unpacked, lengthIn, readParts, leastParts, checkParts, lengthParts, normalizeParts}
-use Rattle.packing.proofs.Bounds.{read-fits, least-fits, check-fits, normalize-fits}
+use Rattle.packing.specs.Packing.{Fits, packed, unpacked, lengthIn, readParts, leastParts, checkParts, lengthParts, normalizeParts, beginParts}
+use Rattle.packing.proofs.Bounds.{read-fits, least-fits, check-fits, normalize-fits, begin-fits}
 
 module _ (p : Parts) (f : Fits p) where
   same-word : packed p % 256 ≡ p .word
@@ -50,6 +52,9 @@ check-unpacks r = unpack _ (check-fits r)
 pub normalize-unpacks : {s b b′ : List ℕ} {x : normalize.Answer} → Bytes s → Normalizes s b x b′ → unpacked (packed (normalizeParts x)) ≡ normalizeParts x
 normalize-unpacks y r = unpack _ (normalize-fits y r)
 
+pub begin-unpacks : {s w w′ : List ℕ} {x : begin.Answer} → BeginCall s w x w′ → unpacked (packed (beginParts x)) ≡ beginParts x
+begin-unpacks r = unpack _ (begin-fits r)
+
 -- the length of 32 bits that an answer tells
 pub length-back : (n : ℕ) → n < 4294967296 → lengthIn (packed (lengthParts n)) ≡ n
 unfolding packed lengthIn
@@ -78,6 +83,9 @@ checkOf p =
 abbrev normalizeOf : Parts → normalize.Answer
 normalizeOf p = select (p .word) ((10 ⇒ normalize.written (p .first + 65536 * p .second)) ∷ []) (normalize.refusal (p .first) (p .second))
 
+abbrev beginOf : Parts → begin.Answer
+beginOf p = select (p .word) ((11 ⇒ begin.begun (p .first)) ∷ []) (begin.refusal (p .first) (p .second))
+
 read-back : (x : read.Answer) → readOf (readParts x) ≡ x
 read-back (read.accepted v r c) = refl
 read-back (read.refused n at) = refl
@@ -100,6 +108,10 @@ normalize-back : (x : normalize.Answer) → normalizeOf (normalizeParts x) ≡ x
 normalize-back (normalize.refusal n at) = refl
 normalize-back (normalize.written n) = let e : n % 65536 + 65536 * (n / 65536) ≡ n = omega arith in ap normalize.written e
 
+begin-back : (x : begin.Answer) → beginOf (beginParts x) ≡ x
+begin-back (begin.refusal n at) = refl
+begin-back (begin.begun n) = refl
+
 -- ---- no two answers of a call are packed in the same number, whatever the inputs
 
 pub read-injective : {s t : List ℕ} {x y : read.Answer} → Reads s x → Reads t y → packed (readParts x) ≡ packed (readParts y) → x ≡ y
@@ -120,6 +132,10 @@ pub normalize-injective : {s b b′ t d d′ : List ℕ} {x y : normalize.Answer
     → packed (normalizeParts x) ≡ packed (normalizeParts y) → x ≡ y
 normalize-injective {x = x} {y} h r k q e =
     sym (normalize-back x) ∙ ap normalizeOf (sym (normalize-unpacks h r) ∙ ap unpacked e ∙ normalize-unpacks k q) ∙ normalize-back y
+
+pub begin-injective : {s w w′ t v v′ : List ℕ} {x y : begin.Answer} → BeginCall s w x w′ → BeginCall t v y v′ → packed (beginParts x) ≡ packed (beginParts y) → x ≡ y
+begin-injective {x = x} {y} r q e =
+    sym (begin-back x) ∙ ap beginOf (sym (begin-unpacks r) ∙ ap unpacked e ∙ begin-unpacks q) ∙ begin-back y
 
 -- ---- no answer is 0
 
@@ -148,3 +164,8 @@ pub normalize-some : (x : normalize.Answer) → 0 < packed (normalizeParts x)
 unfolding packed
 normalize-some (normalize.refusal n at) = omega arith
 normalize-some (normalize.written n) = omega arith
+
+pub begin-some : (x : begin.Answer) → 0 < packed (beginParts x)
+unfolding packed
+begin-some (begin.refusal n at) = omega arith
+begin-some (begin.begun n) = omega arith

@@ -1,13 +1,14 @@
 -- How an answer is packed in a number for C: the word in bits 0 to 7, then three numbers of 16 bits at bits 8, 24 and 40. The numbers are
--- those that the printing program prints after the word, or an accepted file's three counts, and 0 where there is none. The word `written` has
+-- those that the printing program prints after the word, an accepted file's three counts, or the variables that have sets, and 0 where there is none. The word `written` has
 -- a length of 32 bits, in bits 8 to 39: its low half is the first number, its high half the second. No answer is 0.
 --
---   1 stable   2 unfounded   3 constraint   4 rule   5 range   6 refused   7 accepted   8 found   9 none   10 written
+--   1 stable   2 unfounded   3 constraint   4 rule   5 range   6 refused   7 accepted   8 found   9 none   10 written   11 begun
 use Prim.Native.Nat.{ℕ, _+_, _*_, _/_, _%_, _<_}
 use Rattle.program.specs.Reading as read
 use Rattle.meaning.specs.LeastCall as least
 use Rattle.verdict.specs.Checks as check
 use Rattle.normal.specs.Normalizes as normalize
+use Rattle.search.specs.BeginCall as begin
 use Rattle.packing.specs.declared.Parts.{Parts}
 
 abbrev pub parts : ℕ → ℕ → ℕ → ℕ → Parts
@@ -57,3 +58,7 @@ lengthParts n = parts 10 (n % 65536) (n / 65536) 0
 abbrev pub normalizeParts : normalize.Answer → Parts
 normalizeParts (normalize.refusal n at) = parts 6 n at 0
 normalizeParts (normalize.written n) = lengthParts n
+
+abbrev pub beginParts : begin.Answer → Parts
+beginParts (begin.refusal n at) = parts 6 n at 0
+beginParts (begin.begun n) = parts 11 n 0 0

@@ -5,7 +5,8 @@ ghost use Rattle.meaning.specs.Calls.{denialNumber, denialPlace};
 ghost use Rattle.meaning.specs.LeastCall as least;
 ghost use Rattle.verdict.specs.Checks as check;
 ghost use Rattle.normal.specs.Normalizes as normalize;
-ghost use Rattle.packing.specs.Packing.{parts, Fits, packed, readParts, leastParts, checkParts, lengthParts, normalizeParts};
+ghost use Rattle.search.specs.BeginCall as begin;
+ghost use Rattle.packing.specs.Packing.{parts, Fits, packed, readParts, leastParts, checkParts, lengthParts, normalizeParts, beginParts};
 use calls::denial_number;
 use calls::denial_place;
 use meaning::Denied;
@@ -13,6 +14,7 @@ use meaning::Solved;
 use normal::Rewriting;
 use program::Reading;
 use program::number_of;
+use search::Beginning;
 use verdict::Verdict;
 
 // An answer's word and its numbers, 0 where there is none.
@@ -45,6 +47,8 @@ impl Word {
     pub const NONE: usize = 9;
 
     pub const WRITTEN: usize = 10;
+
+    pub const BEGUN: usize = 11;
 }
 
 fn alone(word: usize) -> Parts
@@ -127,6 +131,15 @@ pub fn of_rewriting(rewriting: Rewriting) -> Parts
     match rewriting {
         Rewriting::Refused(why) => of_denied(why),
         Rewriting::Written(n) => of_length(n),
+    }
+}
+
+pub fn of_beginning(beginning: Beginning) -> Parts
+    ensures { λ r. ⌜ r ≡ beginParts (begin.answerOf beginning) ⌝ }
+{
+    match beginning {
+        Beginning::Refused(why) => of_denied(why),
+        Beginning::Begun(n) => with_one(Word::BEGUN, n),
     }
 }
 

@@ -14,7 +14,10 @@ const START: usize = 16;
 // The bytes that a call is lent where the line does not say how many: more than `least` and `check` ask for.
 const USUAL: usize = 3080;
 
-// The most bytes that a call is lent: more than any asks for.
+// The words that a search is lent where the line does not say how many: those of 256 sets.
+const SETS: usize = 1024;
+
+// The most bytes or words that a call is lent: more than any asks for.
 const MOST: usize = 61000;
 
 // The bytes of a short output.
@@ -97,12 +100,19 @@ fn head_of(table: &[u8], at: usize, end: usize) -> Head
     }
 }
 
-// Where a call's part ends: it has as many bytes as the number after the assignment says, or the usual.
-fn lent_to(text: &[u8]) -> usize
+// How many bytes a call is usually lent, of a search how many words.
+fn usual(letter: u8) -> usize
+    ensures { λ r. ⌜ r ≤ 3080 ⌝ }
+{
+    if letter == b'b' { SETS } else { USUAL }
+}
+
+// Where a call's part ends: it has as many bytes or words as the number after the assignment says, or the usual.
+fn lent_to(letter: u8, text: &[u8]) -> usize
     ensures { λ r. ⌜ 16 ≤ r ⌝ }
 {
     if text.len() == 0 {
-        return START + USUAL;
+        return START + usual(letter);
     }
     let n = decimal(&text[1..]);
     if MOST < n { WRONG } else { START + n }
@@ -121,7 +131,7 @@ fn alone(file: usize, to: usize) -> Ends
 }
 
 // The file of a call, before a semicolon, its assignment or the file that is said to be written, and the rest.
-fn called(bytes: &mut [u8], begun: usize, text: &[u8]) -> Ends
+fn called(bytes: &mut [u8], begun: usize, letter: u8, text: &[u8]) -> Ends
     ensures { λ r. ⌜ r .from ≤ r .to ⌝ }
 {
     let end = find(text, 0, text.len(), b';');
@@ -135,7 +145,7 @@ fn called(bytes: &mut [u8], begun: usize, text: &[u8]) -> Ends
         file,
         all: appended(bytes, file, &text[start..stop]),
         from: START,
-        to: lent_to(&text[stop..]),
+        to: lent_to(letter, &text[stop..]),
     }
 }
 
@@ -153,7 +163,7 @@ fn filled(bytes: &mut [u8], begun: usize, letter: u8, text: &[u8], room: usize) 
     ensures { λ r. ⌜ r .from ≤ r .to ⌝ }
 {
     match letter {
-        b'l' | b'c' | b'n' => called(bytes, begun, text),
+        b'l' | b'c' | b'n' | b'b' => called(bytes, begun, letter, text),
         b'w' => alone(appended(bytes, 0, text), 0),
         _ => alone(appended(bytes, begun, text), output(letter, room)),
     }

@@ -1,6 +1,6 @@
 -- Whether a rule offends, by a test: reaching is a walk whose stops are heads of rules. Small files are read by such tests.
 use Prim.Native.Nat.{ℕ, _+_, _<_, _≤_}
-use mathlib.Core.Path.{_≡_, refl}
+use mathlib.Core.Path.{_≡_}
 use mathlib.Core.Logic.{_⊎_, inl, inr}
 use mathlib.Core.List.{List}
 use mathlib.Core.Bool.{Bool, true, false, not, _||_, _&&_, or-true}
@@ -9,8 +9,8 @@ use lib.ListN.{length}
 use lib.Dec.{eqb, leb}
 use borrow.Author.Tests.{eqb-true, eq-eqb, leb-false, not-true, not-false}
 use Rattle.format.specs.Limits.{maxFile}
-use Rattle.walks.specs.Walk.{Walk, edge, step, Reached, closed}
-use Rattle.walks.proofs.Walks.{closed-reached}
+use Rattle.walks.specs.Walk.{BeforeRound, closed}
+use Rattle.walks.proofs.Walks.{or-cases, closed-before, before-walk, walk-before}
 use Rattle.program.specs.Tables.{anyBelow}
 use Rattle.program.specs.Fields.{place}
 use Rattle.program.specs.Program.{Program, Rule, ruleIn, termIn, program}
@@ -24,10 +24,6 @@ use Rattle.program.proofs.Tests.{is-it}
 use Rattle.program.proofs.Places.{rule-at}
 use Rattle.program.proofs.Promises.{passed-rule}
 use Rattle.program.proofs.IdleRules.{passed-acts, passed-not-idle}
-
-either : (a b : Bool) → (a || b) ≡ true → (a ≡ true) ⊎ (b ≡ true)
-either true b h = inl refl
-either false b h = inr h
 
 -- ---- the test, where all heads are below b
 
@@ -51,16 +47,6 @@ offends-in P n = anyBelow n (offends-test P (length (P .variables)))
 
 -- ---- what it means
 
--- every stop of a walk has an edge from it, so where edges start below b, stops are below b
-module _ (e : ℕ → ℕ → Bool) (b : ℕ) (starts : (x y : ℕ) → e x y ≡ true → x < b) where
-  walk-start : {n x y : ℕ} → Walk e n x y → x < b
-  walk-start {x = x} (edge {j = j} h) = starts x j h
-  walk-start {x = x} (step {m = m} h l w) = starts x m h
-
-  walk-stops : {n x y : ℕ} → Walk e n x y → Walk e b x y
-  walk-stops (edge h) = edge h
-  walk-stops (step h l w) = step h (walk-start w) (walk-stops w)
-
 -- every rule has its head below b
 abbrev pub HeadsBelow : Program → ℕ → Type 0
 HeadsBelow P b = (i : ℕ) → i < length (P .rules) → ruleIn (P .rules) i .head < b
@@ -74,18 +60,19 @@ module _ (P : Program) (b : ℕ) (heads : HeadsBelow P b) where
       let e = eqb-true (ruleIn (P .rules) (r .0) .head) x (both (eqb (ruleIn (P .rules) (r .0) .head) x) _ d .0) in
       omega (arith, heads (r .0) (r .1))
 
-  reached : (x y : ℕ) → Reached (drawn P) (closed (drawn P) b) (b + x + y + 1) b
-  reached x y = closed-reached (drawn P) (b + x + y + 1) b (omega arith)
+  reached : (x y : ℕ) → BeforeRound (drawn P) (closed (drawn P) b) (b + x + y + 1) b
+  reached x y = closed-before (drawn P) (b + x + y + 1) b (omega arith)
 
   reaches-told : (x y : ℕ) → closed (drawn P) b x y ≡ true → Reaches P x y
-  reaches-told x y h = (b, reached x y .sound x y (omega arith) (omega arith) h)
+  reaches-told x y h = before-walk (reached x y) x y (omega arith) (omega arith) h
 
+  -- every stop of a walk has an edge from it, so it is below b
   reaches-test : (x y : ℕ) → Reaches P x y → closed (drawn P) b x y ≡ true
-  reaches-test x y w = reached x y .whole x y (omega arith) (omega arith) (walk-stops (drawn P) b edge-start (w .1))
+  reaches-test x y w = walk-before (reached x y) (λ i m j p q. edge-start m j q) x y (omega arith) (omega arith) (w .1)
 
   share-told : (x y : ℕ) → share-test P b x y ≡ true → Share P x y
   unfolding share-test
-  share-told x y h = go (either (eqb x y) _ h)
+  share-told x y h = go (or-cases (eqb x y) _ h)
     where
       go : (eqb x y ≡ true) ⊎ ((closed (drawn P) b x y && closed (drawn P) b y x) ≡ true) → Share P x y
       go (inl e) = inl (eqb-true x y e)

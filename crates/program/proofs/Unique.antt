@@ -15,10 +15,10 @@ same-by : (k m : ℕ) → ¬ (k < m) → ¬ (m < k) → k ≡ m
 same-by k m h l = omega arith
 
 -- field k meets a refusal, and is the first that does
-record Bad (s : List ℕ) (k : ℕ) : Type 0 where
-  passed : Passed s k
-  stands : place s k < length s
-  refusal : 0 < fieldRefusal s k
+pub record Bad (s : List ℕ) (k : ℕ) : Type 0 where
+  pub passed : Passed s k
+  pub stands : place s k < length s
+  pub refusal : 0 < fieldRefusal s k
 
 module _ {s : List ℕ} {k m : ℕ} where
   no-more : Whole s k → Passed s m → ¬ (k < m)
@@ -28,13 +28,13 @@ module _ {s : List ℕ} {k m : ℕ} where
   not-fine b p h = omega (arith, p .fine k h, b .refusal)
 
 module _ {s : List ℕ} {k m : ℕ} where
-  same-end : Whole s k → Whole s m → k ≡ m
-  same-end w v = same-by k m (no-more w (v .passed)) (no-more v (w .passed))
+  pub whole-unique : Whole s k → Whole s m → k ≡ m
+  whole-unique w v = same-by k m (no-more w (v .passed)) (no-more v (w .passed))
 
   same-bad : Bad s k → Bad s m → k ≡ m
   same-bad b c = same-by k m (not-fine b (c .passed)) (not-fine c (b .passed))
 
-  bad-or-whole : Bad s k → Whole s m → ⊥
+  pub bad-or-whole : Bad s k → Whole s m → ⊥
   bad-or-whole b w = let e : k ≡ m = same-by k m (not-fine b (w .passed)) (no-more w (b .passed)) in omega (arith, ap (place s) e, b .stands, w .ended)
 
 -- the first rule that offends
@@ -44,14 +44,14 @@ first-offending {i = i} {j} f g = same-by i j (λ h. g .first i h (f .offends)) 
 same-rule : {s : List ℕ} {k m i j a b : ℕ} → Whole s k → Whole s m → i < k → RuleField s i a → FirstOffending (program s k) a
     → j < m → RuleField s j b → FirstOffending (program s m) b → i ≡ j
 same-rule {s} {k} {m} {i} {j} {a} {b} w v h f x l g y =
-    let e : k ≡ m = same-end w v in
+    let e : k ≡ m = whole-unique w v in
     let z : a ≡ b = first-offending x (subst (λ (n : ℕ). FirstOffending (program s n) b) (sym e) y) in
     let o = rule-stands (w .passed) h f in
     let q = rule-stands (v .passed) l g in
     omega (arith, o .number, q .number, ap (λ (n : ℕ). length (program s n .variables)) e)
 
 never-valid : {s : List ℕ} {k m i : ℕ} → Whole s k → Whole s m → FirstOffending (program s k) i → Valid (program s m) → ⊥
-never-valid {s} {k} {m} {i} w v x y = subst (λ (n : ℕ). Valid (program s n)) (sym (same-end w v)) y i (x .offends)
+never-valid {s} {k} {m} {i} w v x y = subst (λ (n : ℕ). Valid (program s n)) (sym (whole-unique w v)) y i (x .offends)
 
 pub reads-unique : {s : List ℕ} {a b : Answer} → Reads s a → Reads s b → a ≡ b
 reads-unique (too-long h) (too-long l) = refl
@@ -71,10 +71,10 @@ reads-unique (whole w x) (too-long l) = absurd (omega (arith, w .passed .short))
 reads-unique (whole w x) (bad-field p l r) = absurd (bad-or-whole (record { passed = p; stands = l; refusal = r }) w)
 reads-unique (whole w x) (not-valid v l f y) = absurd (never-valid v w y x)
 reads-unique {s} (whole w x) (whole v y) =
-    ap (λ (k : ℕ). accepted (length (program s k .variables)) (length (program s k .rules)) (length (program s k .constraints))) (same-end w v)
+    ap (λ (k : ℕ). accepted (length (program s k .variables)) (length (program s k .rules)) (length (program s k .constraints))) (whole-unique w v)
 
 pub accepts-unique : {s : List ℕ} {P Q : Program} → Accepts s P → Accepts s Q → P ≡ Q
-accepts-unique {s} a b = sym (a .means) ∙ ap (program s) (same-end (a .whole) (b .whole)) ∙ b .means
+accepts-unique {s} a b = sym (a .means) ∙ ap (program s) (whole-unique (a .whole) (b .whole)) ∙ b .means
 
 -- an accepted file is one that reading answers with the counts of its program
 abbrev pub countsOf : Program → Answer

@@ -1,2 +1,5 @@
 pub mod RowLaws
 pub mod Rounds
+pub mod StepLaws
+pub mod RowsDetermined
+pub mod StepDetermined

@@ -21,9 +21,9 @@ abbrev pub RowTaken : List ℕ → List ℕ → ℕ → ℕ → ℕ → Type 0
 RowTaken vs ws i k t = Taken vs vs ws (wordCount * i) (wordCount * k) t
 
 -- word t, which neither row has lost
-pub row-more : (vs ws : List ℕ) (i k t : ℕ) → length vs ≡ rowsLength → t < wordCount → i < maxVariables → RowTaken vs ws i k t
+pub row-more : (vs ws : List ℕ) (i k t : ℕ) → t < wordCount → wordCount * (i + 1) ≤ length vs → RowTaken vs ws i k t
     → RowTaken vs (set ws (wordCount * i + t) (bitOr (getD ws (wordCount * i + t) 0) (getD ws (wordCount * k + t) 0))) i k (t + 1)
-row-more vs ws i k t len ht hi s = taken-more vs vs ws (wordCount * i) (wordCount * k) t _ _ refl (omega arith) (of-k (decLt k i)) s
+row-more vs ws i k t ht hi s = taken-more vs vs ws (wordCount * i) (wordCount * k) t _ _ refl (omega arith) (of-k (decLt k i)) s
   where
     of-k : Dec (k < i) → getD ws (wordCount * k + t) 0 ≡ getD vs (wordCount * k + t) 0
     of-k (yes l) = s .below (wordCount * k + t) (omega arith)
@@ -32,20 +32,20 @@ row-more vs ws i k t len ht hi s = taken-more vs vs ws (wordCount * i) (wordCoun
 -- row i takes in row k
 pub row-all : (vs ws : List ℕ) (i k t : ℕ) → wordCount ≤ t → t ≤ wordCount → RowTaken vs ws i k t → Joined (rowHas vs) (rowHas ws) i k
 unfolding rowHas
-row-all vs ws i k t l g s a b ha hb = go (ℕ-discrete a i)
+row-all vs ws i k t l g s = record { is = λ a b hb. go a b hb (ℕ-discrete a i) }
   where
-    other : a ≢ i → Dec (a < i) → getD ws (wordCount * a + b / wordBits) 0 ≡ getD vs (wordCount * a + b / wordBits) 0
-    other f (yes h) = s .below (wordCount * a + b / wordBits) (omega arith)
-    other f (no h) = s .above (wordCount * a + b / wordBits) (omega arith)
+    other : (a b : ℕ) → b < maxVariables → a ≢ i → Dec (a < i) → getD ws (wordCount * a + b / wordBits) 0 ≡ getD vs (wordCount * a + b / wordBits) 0
+    other a b hb f (yes h) = s .below (wordCount * a + b / wordBits) (omega arith)
+    other a b hb f (no h) = s .above (wordCount * a + b / wordBits) (omega arith)
 
-    go : Dec (a ≡ i) → rowHas ws a b ≡ (rowHas vs a b || (eqb a i && rowHas vs k b))
-    go (yes e) =
+    go : (a b : ℕ) → b < maxVariables → Dec (a ≡ i) → rowHas ws a b ≡ (rowHas vs a b || (eqb a i && rowHas vs k b))
+    go a b hb (yes e) =
         ap (λ (x : ℕ). rowHas ws x b) e
         ∙ ap (λ (w : ℕ). bit w (b % wordBits)) (s .within (b / wordBits) (omega arith))
         ∙ bit-or (getD vs (wordCount * i + b / wordBits) 0) (getD vs (wordCount * k + b / wordBits) 0) (b % wordBits)
         ∙ ap₂ (λ (x : ℕ) (y : Bool). rowHas vs x b || (y && rowHas vs k b)) (sym e) (sym (eq-eqb a i e))
-    go (no f) =
-        ap (λ (w : ℕ). bit w (b % wordBits)) (other f (decLt a i))
+    go a b hb (no f) =
+        ap (λ (w : ℕ). bit w (b % wordBits)) (other a b hb f (decLt a i))
         ∙ sym (or-false (rowHas vs a b)) ∙ ap (λ (y : Bool). rowHas vs a b || (y && rowHas vs k b)) (sym (ne-eqb a i f))
 
 -- the number of v of row i where all rows are one set
@@ -74,9 +74,10 @@ marked ws i v = set ws (wordCount * i + v / wordBits) (bitOr (getD ws (wordCount
 -- row i takes in v
 pub mark-law : (ws : List ℕ) (i v : ℕ) → length ws ≡ rowsLength → i < maxVariables → v < maxVariables
     → Marked (rowHas ws) (rowHas (marked ws i v)) i v
-mark-law ws i v len hi hv a b ha hb =
-    let e = flat-word i v hv in
-    let f = flat-bit i v hv in
-    let one : (x : ℕ) → has (marked ws i v) x ≡ (eqb x (flat i v) || has ws x) = rw (e, f) at (has-insert ws (flat i v) (omega arith)) in
-    sym (row-is _ a b hb) ∙ one (flat a b)
-    ∙ ap₂ _||_ (flat-eq a b i v hb hv (ℕ-discrete a i) (ℕ-discrete b v)) (row-is ws a b hb)
+mark-law ws i v len hi hv = record {
+  is = λ a b ha hb. sym (row-is _ a b hb) ∙ one (flat a b)
+      ∙ ap₂ _||_ (flat-eq a b i v hb hv (ℕ-discrete a i) (ℕ-discrete b v)) (row-is ws a b hb);
+}
+  where
+    one : (x : ℕ) → has (marked ws i v) x ≡ (eqb x (flat i v) || has ws x)
+    one = let e = flat-word i v hv in let f = flat-bit i v hv in rw (e, f) at (has-insert ws (flat i v) (omega arith))

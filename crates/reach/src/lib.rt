@@ -1,13 +1,16 @@
-// A set for each variable, as rows of one lent array, and what is reached over them.
+// A set for each variable, as rows of lent words, and what is reached over edges, round by round.
 use format::Format;
 use sets::Set;
 use words::Words;
 ghost use mathlib.Core.Path.{_≡_};
-ghost use Prim.Native.Nat.{_<_, _≤_};
+ghost use mathlib.Core.Bool.{true};
+ghost use Prim.Native.Nat.{_+_, _*_, _<_, _≤_};
 ghost use lib.ListN.{length};
 ghost use Rattle.format.specs.Limits.{maxVariables};
+ghost use Rattle.words.specs.Bit.{wordCount};
 ghost use Rattle.reach.specs.Rows.{rowsLength, rowHas, Marked, Joined};
-ghost use Rattle.walks.specs.Walk.{Rounded, Reached};
+ghost use Rattle.reach.specs.Stepping.{Lent, TakenIn, Steps};
+ghost use Rattle.walks.specs.Walk.{Round, Rounds};
 
 pub struct Rows {}
 
@@ -22,8 +25,9 @@ impl Rows {
 }
 
 // Whether row i has v.
-pub fn row_has(rows: &[u64; Rows::LENGTH], i: usize, v: usize) -> bool
+pub fn row_has(rows: &[u64], i: usize, v: usize) -> bool
     requires { ⌜ (i < maxVariables) × (v < maxVariables) ⌝ }
+    requires { ⌜ wordCount * (i + 1) ≤ length (now rows) ⌝ }
     ensures { λ r. ⌜ r ≡ rowHas (now (rows .entry)) i v ⌝ }
 {
     let w = rows[Set::WORDS * i + v / Words::BITS];
@@ -42,10 +46,10 @@ pub fn mark(rows: &mut [u64; Rows::LENGTH], i: usize, v: usize)
 }
 
 // Row i takes in row k.
-pub fn join(rows: &mut [u64; Rows::LENGTH], i: usize, k: usize)
+fn join(rows: &mut [u64], i: usize, k: usize)
     requires { ⌜ (i < maxVariables) × (k < maxVariables) ⌝ }
-    requires { ⌜ length (now rows) ≡ rowsLength ⌝ }
-    ensures { λ _. ⌜ length (now (rows .exit)) ≡ rowsLength ⌝ }
+    requires { ⌜ (wordCount * (i + 1) ≤ length (now rows)) × (wordCount * (k + 1) ≤ length (now rows)) ⌝ }
+    ensures { λ _. ⌜ length (now (rows .exit)) ≡ length (now (rows .entry)) ⌝ }
     ensures { λ _. ⌜ Joined (rowHas (now (rows .entry))) (rowHas (now (rows .exit))) i k ⌝ }
 {
     let p = Set::WORDS * i;
@@ -56,12 +60,10 @@ pub fn join(rows: &mut [u64; Rows::LENGTH], i: usize, k: usize)
     }
 }
 
-// The round of k, among n variables: each row that has k takes in row k.
-pub fn round(rows: &mut [u64; Rows::LENGTH], k: usize, n: usize)
-    requires { ⌜ (k < n) × (n ≤ maxVariables) ⌝ }
-    requires { ⌜ length (now rows) ≡ rowsLength ⌝ }
-    ensures { λ _. ⌜ length (now (rows .exit)) ≡ rowsLength ⌝ }
-    ensures { λ _. ⌜ Rounded (rowHas (now (rows .entry))) (rowHas (now (rows .exit))) n k ⌝ }
+// Each row of n variables that has k takes in row k.
+fn round(rows: &mut [u64], k: usize, n: usize)
+    requires { ⌜ Lent (now rows) n × (k < n) ⌝ }
+    ensures { λ _. ⌜ TakenIn (now (rows .entry)) (now (rows .exit)) n k ⌝ }
 {
     for i in 0..n {
         if row_has(rows, i, k) {
@@ -70,15 +72,32 @@ pub fn round(rows: &mut [u64; Rows::LENGTH], k: usize, n: usize)
     }
 }
 
-// What n variables reach over one edge or more. After the round of variable k each variable's set holds exactly those reached over one
-// edge or more with every stop between at most k.
-pub fn close(rows: &mut [u64; Rows::LENGTH], n: usize)
-    requires { ⌜ n ≤ maxVariables ⌝ }
-    requires { ⌜ length (now rows) ≡ rowsLength ⌝ }
-    ensures { λ _. ⌜ length (now (rows .exit)) ≡ rowsLength ⌝ }
-    ensures { λ _. ⌜ Reached (rowHas (now (rows .entry))) (rowHas (now (rows .exit))) n n ⌝ }
+// Variable k's round: if the sets were those after the round of the variable before, or the edges for variable 0, then each set now holds exactly
+// those reached over one edge or more with every stop between at most k. It answers whether k is one of so many variables that have sets.
+pub fn step(sets: &mut [u64], variables: usize, k: usize) -> bool
+    ensures { λ r. ⌜ Steps (now (sets .entry)) variables k r (now (sets .exit)) ⌝ }
+    ensures { λ r. ⌜ (r ≡ true → Round (rowHas (now (sets .entry))) (rowHas (now (sets .exit))) variables k) ⌝ }
 {
-    for k in 0..n {
-        round(rows, k, n);
+    if Format::MAX_VARIABLES < variables {
+        return false;
+    }
+    if sets.len() < Set::WORDS * variables {
+        return false;
+    }
+    if variables <= k {
+        return false;
+    }
+    round(sets, k, variables);
+    true
+}
+
+// What so many variables reach over one edge or more: a step for each of them, in ascending order.
+pub fn close(sets: &mut [u64], variables: usize)
+    requires { ⌜ Lent (now sets) variables ⌝ }
+    ensures { λ _. ⌜ length (now (sets .exit)) ≡ length (now (sets .entry)) ⌝ }
+    ensures { λ _. ⌜ Rounds (rowHas (now (sets .entry))) (rowHas (now (sets .exit))) variables ⌝ }
+{
+    for k in 0..variables {
+        step(sets, variables, k);
     }
 }

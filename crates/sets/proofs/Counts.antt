@@ -3,7 +3,7 @@ use mathlib.Core.Path.{_≡_, refl, sym, ap, ap₂, _∙_, subst}
 use mathlib.Core.Bool.{Bool, true, false, _&&_, not, true≢false}
 use mathlib.Core.List.{List}
 use Prim.Native.Nat.{ℕ, zero, suc, _+_, _*_, _/_, _%_, _^_, _≤_, _<_}
-use native.Mathlib.Nat.{add-zero, zero-add, suc-add, mod-lt}
+use native.Mathlib.Nat.{add-zero, zero-add, suc-add}
 use native.Mathlib.Numerals.{add-one, one-add}
 use native.Mathlib.Decide.{ℕ-discrete}
 use native.Mathlib.Omega.{arith}
@@ -15,7 +15,8 @@ use lib.ListN.{getD}
 use borrow.Author.Tests.{eq-eqb}
 use Rattle.format.specs.Limits.{maxVariables}
 use Rattle.words.specs.Bit.{wordBits, bit, has, one-if, countFrom, sizeBelow}
-use Rattle.words.proofs.Bits.{bit-suc, no-two}
+use Rattle.words.proofs.Bits.{bit-suc}
+use Rattle.words.proofs.WordBits.{lowest-is}
 
 move : (x i : ℕ) → suc x + i ≡ x + suc i
 move x i = omega arith
@@ -42,25 +43,13 @@ count-split p (suc m) n a =
     group : (x y z : ℕ) → x + (y + z) ≡ x + y + z
     group x y z = omega arith
 
-low-bit : (w : ℕ) → w % 2 ≡ one-if (bit w 0)
-unfolding bit
-low-bit w = ap (λ (x : ℕ). x % 2) (div-one w) ∙ pick (w / 1 % 2) (mod-lt (w / 1) (omega arith))
-  where
-    div-one : (w : ℕ) → w ≡ w / 1
-    div-one w = omega arith
-
-    pick : (x : ℕ) → x < 2 → x ≡ one-if (eqb x 1)
-    pick zero h = refl
-    pick (suc zero) h = refl
-    pick (suc (suc x)) h = absurd (no-two x h)
-
 -- the set bits of a number of n digits
 count-bits : (n w : ℕ) → w < 2 ^ n → ones w ≡ countFrom (bit w) 0 n
 unfolding countFrom ones
 count-bits zero w h = ap ones (lt-one h)
 count-bits (suc n) w h =
     ones-step w
-    ∙ ap₂ _+_ (low-bit w)
+    ∙ ap₂ _+_ (lowest-is w)
     (count-bits n (w / 2) (shr-lt n 1 (subst (λ (k : ℕ). w < 2 ^ k) (sym (add-one n)) h)) ∙ sym (count-ext (bit w) (bit (w / 2)) n 1 0 shifted))
   where
     shifted : (i : ℕ) → i < n → bit w (1 + i) ≡ bit (w / 2) (0 + i)

@@ -12,6 +12,7 @@ use telling::say;
 use telling::tell;
 use telling::tell_line;
 use telling::text;
+use telling::unpacked;
 ghost use Prim.Native.Nat.{_≤_};
 ghost use lib.ListN.{length};
 
@@ -28,6 +29,7 @@ fn announce(letter: u8, name: &[u8], number: usize) {
         b'l' => head(b"least of ", name),
         b'c' => head(b"check of ", name),
         b'n' => head(b"normalize of ", name),
+        b'b' => head(b"begin of ", name),
         b'p' | b's' => head(b"print of ", name),
         b'w' | b'#' => {}
         _ => {
@@ -57,16 +59,6 @@ pub fn opened(
     let colon = line.colon;
     announce(line.letter, &table[start..colon], number);
     line
-}
-
-// The word and the numbers of an answer that is packed as include/founded.h says.
-fn unpacked(answer: u64) -> Parts {
-    Parts {
-        word: (answer % 256) as usize,
-        first: (answer / 256 % 65536) as usize,
-        second: (answer / 16777216 % 65536) as usize,
-        third: (answer / 1099511627776 % 65536) as usize,
-    }
 }
 
 // How many bytes are written with an answer: the values of `found`, or the entries of `unfounded`, of which no report has 1,024.

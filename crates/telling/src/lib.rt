@@ -24,6 +24,16 @@ fn say_two(word: &[u8], n: usize, k: usize) {
     say(b"", k);
 }
 
+// The word and the numbers of an answer that is packed as include/founded.h says.
+pub fn unpacked(answer: u64) -> Parts {
+    Parts {
+        word: (answer % 256) as usize,
+        first: (answer / 256 % 65536) as usize,
+        second: (answer / 16777216 % 65536) as usize,
+        third: (answer / 1099511627776 % 65536) as usize,
+    }
+}
+
 // The length that the word `written` goes with: its low half is the first number, its high half the second.
 pub fn length_told(answer: Parts) -> usize {
     answer.first % 65536 + answer.second % 65536 * 65536
@@ -46,6 +56,7 @@ pub fn tell(answer: Parts) {
         Word::FOUND => text(b": found"),
         Word::NONE => text(b": none"),
         Word::WRITTEN => say(b": written", length_told(answer)),
+        Word::BEGUN => say(b": begun", answer.first),
         _ => text(b": no such word"),
     }
 }

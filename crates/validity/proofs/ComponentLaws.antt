@@ -1,36 +1,38 @@
--- Components, and what rows that are closed say of them.
+-- Components, and what the rows after the last round say of them.
 use Prim.Native.Nat.{ℕ, zero, suc, _+_, _*_, _/_, _%_, _<_}
 use mathlib.Core.Path.{_≡_, refl, sym, ap, ap₂, _∙_, subst}
-use mathlib.Core.Logic.{inl, inr}
+use mathlib.Core.Logic.{_↔_, inl, inr}
 use mathlib.Core.List.{List}
 use mathlib.Core.Bool.{Bool, true, false, not, _||_, _&&_}
 use native.Mathlib.Omega.{arith}
 use lib.ListN.{length, getD, replicate}
 use lib.Dec.{eqb}
 use lib.IntN.{pos}
-use borrow.Author.Tests.{eq-eqb, eqb-true, not-true}
+use borrow.Author.Tests.{eqb-true, not-true}
 use Rattle.format.specs.Limits.{maxVariables}
 use Rattle.words.specs.Bit.{wordBits, wordCount, bit}
 use Rattle.reach.specs.Rows.{rowHas}
-use Rattle.walks.specs.Walk.{Walk, Reached}
-use Rattle.walks.specs.Walk as walk
+use Rattle.walks.specs.Walk.{edges, AfterLast, Rounds}
 use Rattle.words.proofs.Bits.{bit-zero}
-use Rattle.walks.proofs.Walks.{stops-below}
+use Rattle.walks.proofs.Walks.{StopsBelow, before-walk, walk-before}
 use Rattle.program.specs.Tables.{anyBelow}
 use Rattle.program.specs.Program.{Rule, Program, program, ruleIn, termIn, variablesAt}
 use Rattle.program.specs.Idle.{isIdle}
 use Rattle.program.specs.Evaluable.{Small}
 use Rattle.program.specs.Components as components
-use Rattle.program.specs.Components.{draws, edge, Reaches, Share, Offends}
+use Rattle.program.specs.Components.{draws, edge, Share, Offends}
 use Rattle.program.specs.Reading.{Whole}
 use Rattle.program.specs.declared.Counts.{Counts}
 use Rattle.program.proofs.Conditions.{never, both, some-below, below-some, none-below, any-same}
 use Rattle.program.proofs.Places.{variables-length}
 use Rattle.program.proofs.Promises.{Promises, passed-promises}
+use Rattle.program.proofs.Unique.{whole-unique}
 use Rattle.program.proofs.IdleRules.{passed-acts, passed-not-idle}
 use Rattle.fields.specs.Scanning.{Counted}
 use Rattle.validity.specs.Judging.{Judges}
-use Rattle.edges.specs.Edges.{Grown, anyMixed, drawsAt, drawsIn, shareIn, offendsAt, offendsIn}
+use Rattle.sharing.specs.Sharing.{shareIn}
+use Rattle.sharing.proofs.Firsts.{SharesIn, shares-told, shares-tested}
+use Rattle.edges.specs.Edges.{Grown, anyMixed, drawsAt, drawsIn, offendsAt, offendsIn}
 use Rattle.validity.specs.Marks.{drawsBy, ruleAt, mixedRule, edgeIn, offendsRule, JudgedBy}
 use Rattle.validity.specs.declared.Outcome.{Outcome}
 use Rattle.validity.specs.declared.Outcome.the-variants.{Valid, Offending}
@@ -66,12 +68,6 @@ edges-below {P} p x y e =
     let q : termIn (r .terms) (j .0) .variable ≡ y = eqb-true _ y (v .0) in
     rw q at (p .rules (i .0) (i .1) .body .terms (j .0) (j .1) .declared)
 
--- a walk among the first n variables, over edges that agree there
-pub walk-within : {e e′ : ℕ → ℕ → Bool} (n : ℕ) → ((a b : ℕ) → a < n → b < n → e a b ≡ e′ a b)
-    → {i j : ℕ} → i < n → j < n → Walk e n i j → Walk e′ n i j
-walk-within n s hi hj (walk.edge {i = i} {j = j} p) = walk.edge (sym (s i j hi hj) ∙ p)
-walk-within n s hi hj (walk.step {i = i} {m = m} p l w) = walk.step (sym (s i m hi l) ∙ p) l (walk-within n s l hj w)
-
 -- an array of one value, read with that value past its end
 everywhere : {A : Type 0} (a : A) (m i : ℕ) → getD (replicate m a) i a ≡ a
 everywhere a zero i = refl
@@ -88,15 +84,27 @@ rows-none m a b = ap (λ (w : ℕ). bit w (b % wordBits)) (everywhere 0 m (wordC
 pub values-none : (m : ℕ) → Small (replicate m (pos 0))
 values-none m v = rw (everywhere (pos 0) m v) (omega arith)
 
--- ---- one count of fields
-
-not-before : {s : List ℕ} {a b : ℕ} → Whole s a → Whole s b → a < b → ⊥
-not-before {a = a} v w h = let l = w .passed .stands a h in omega (arith, v .ended)
-
-pub whole-unique : {s : List ℕ} {a b : ℕ} → Whole s a → Whole s b → a ≡ b
-whole-unique {s} {a} {b} v w = omega (arith, not-before v w, not-before w v)
-
 -- ---- a file whose fields passed
+
+module _ {s : List ℕ} {n : ℕ} (w : Whole s n) where
+  -- every stop between is a variable
+  pub stops-declared : StopsBelow (edge (program s n)) (length (program s n .variables))
+  stops-declared i m j p q = edges-below (passed-promises (w .passed)) i m p
+
+  -- the sets after the last round say which variables share a component
+  pub shared : {t : ℕ → ℕ → Bool} → AfterLast (edge (program s n)) t (length (program s n .variables)) → (x y : ℕ) → x < length (program s n .variables)
+      → y < length (program s n .variables) → (shareIn t x y ≡ true) ↔ Share (program s n) x y
+  shared {t} last x y hx hy = (λ e. told (shares-told t x y e), λ c. shares-tested t x y (tested c))
+    where
+      told : SharesIn t x y → Share (program s n) x y
+      told (inl e) = inl e
+      told (inr r) = inr (before-walk last x y hx hy (r .0), before-walk last y x hy hx (r .1))
+
+      tested : Share (program s n) x y → SharesIn t x y
+      tested (inl e) = inl e
+      tested (inr r) = inr (walk-before last stops-declared x y hx hy (r .0 .1), walk-before last stops-declared y x hy hx (r .1 .1))
+
+-- with its counts
 
 module _ {s : List ℕ} {k : Counts} (c : Counted s k) where
   abbrev P : Program
@@ -119,36 +127,12 @@ module _ {s : List ℕ} {k : Counts} (c : Counted s k) where
       let m = rw (rule-is c i l, c .describes .variables-are) at (o .pushes) in
       never m (none-below _ _ z (o .at) h)
 
-  -- rows that hold the edges, and those rows closed
-  module _ {t₀ t : ℕ → ℕ → Bool} (g : (a b : ℕ) → a < maxVariables → b < maxVariables → t₀ a b ≡ edgeIn s k a b)
-      (closed : Reached t₀ t (k .variables) (k .variables)) where
-    same : (a b : ℕ) → a < k .variables → b < k .variables → t₀ a b ≡ edge P a b
-    same a b ha hb = let f = variables-few c in g a b (omega arith) (omega arith) ∙ sym (edge-is a b)
-
-    pub row-reaches : (x y : ℕ) → x < k .variables → y < k .variables → t x y ≡ true → Reaches P x y
-    row-reaches x y hx hy e = (k .variables, walk-within (k .variables) same hx hy (closed .sound x y hx hy e))
-
-    pub reaches-row : (x y : ℕ) → x < k .variables → y < k .variables → Reaches P x y → t x y ≡ true
-    reaches-row x y hx hy r =
-        let w = stops-below (k .variables) (λ a b e. rw (counted-variables c) at (edges-below (passed-promises (c .whole .passed)) a b e)) (r .1) in
-        closed .whole x y hx hy (walk-within (k .variables) (λ a b ha hb. sym (same a b ha hb)) hx hy w)
-
-    pub row-share : (x y : ℕ) → x < k .variables → y < k .variables → shareIn t x y ≡ true → Share P x y
-    unfolding shareIn
-    row-share x y hx hy e = go (eqb x y) refl e
-      where
-        go : (b : Bool) → eqb x y ≡ b → (b || (t x y && t y x)) ≡ true → Share P x y
-        go true q h = inl (eqb-true x y q)
-        go false q h = let r = both (t x y) (t y x) h in inr (row-reaches x y hx hy (r .0), row-reaches y x hy hx (r .1))
-
-    pub share-row : (x y : ℕ) → x < k .variables → y < k .variables → Share P x y → shareIn t x y ≡ true
-    unfolding shareIn
-    share-row x y hx hy (inl e) = rw (eq-eqb x y e)
-    share-row x y hx hy (inr r) = go (eqb x y)
-      where
-        go : (b : Bool) → (b || (t x y && t y x)) ≡ true
-        go true = refl
-        go false = rw (reaches-row x y hx hy (r .0), reaches-row y x hy hx (r .1))
+  -- rows that hold what is reached
+  module _ {t : ℕ → ℕ → Bool} (last : AfterLast (edge P) t (k .variables)) where
+    row-share : (x y : ℕ) → x < k .variables → y < k .variables → (shareIn t x y ≡ true) ↔ Share P x y
+    row-share x y hx hy =
+        let e = counted-variables c in
+        shared (c .whole) (subst (AfterLast (edge P) t) (sym e) last) x y (omega arith) (omega arith)
 
     -- a rule offends where the test says so
     pub row-offends : (i : ℕ) → i < k .rules → offendsRule t s k i ≡ true → Offends P i
@@ -166,7 +150,7 @@ module _ {s : List ℕ} {k : Counts} (c : Counted s k) where
           at = j .0;
           inside = rw (rule-is c i l) (j .1);
           pushes = rw (rule-is c i l, c .describes .variables-are) (d .0);
-          shares = rw (rule-is c i l) (row-share _ _ h v (d .1));
+          shares = rw (rule-is c i l) (row-share _ _ h v .0 (d .1));
         }
 
     pub offends-row : (i : ℕ) → i < k .rules → offendsRule t s k i ≡ false → Offends P i → ⊥
@@ -177,7 +161,7 @@ module _ {s : List ℕ} {k : Counts} (c : Counted s k) where
         let m = rw (rule-is c i l, c .describes .variables-are) at (o .pushes) in
         let h = rw n at (rule-promise c i l .head-declared) in
         let v = rw n at (rule-promise c i l .body .terms (o .at) inside .declared) in
-        let r = share-row _ _ h v (rw (rule-is c i l) at (o .shares)) in
+        let r = row-share _ _ h v .1 (rw (rule-is c i l) at (o .shares)) in
         never (ap₂ _&&_ (below-some _ _ (o .at) inside (ap₂ _&&_ m r)) (ap not (acts i l o))) e
       where
         -- the test, too, says that it is not idle
@@ -204,8 +188,15 @@ module _ {s : List ℕ} {k : Counts} (c : Counted s k) where
   pub outcome-is-none : mixedRule s k ≡ false → (n : ℕ) → Whole s n → Judges s n Valid
   outcome-is-none e n w = subst (λ (n : ℕ). Judges s n Valid) (whole-unique (c .whole) w) (none-mixed e)
 
+  -- no row has anything, then the edges are marked
+  pub marked-edges : {t₀ t : ℕ → ℕ → Bool} → ((a b : ℕ) → t₀ a b ≡ false) → Grown t₀ t (edgeIn s k) → (a b : ℕ) → a < maxVariables → b < maxVariables
+      → t a b ≡ edge P a b
+  marked-edges z g a b ha hb = g .is a b ha hb ∙ ap (λ (x : Bool). x || edgeIn s k a b) (z a b) ∙ sym (edge-is a b)
+
   pub outcome-is : {t₀ t₁ t : ℕ → ℕ → Bool} (r : Outcome) → ((a b : ℕ) → t₀ a b ≡ false) → Grown t₀ t₁ (edgeIn s k)
-      → Reached t₁ t (k .variables) (k .variables) → JudgedBy t s k r → (n : ℕ) → Whole s n → Judges s n r
-  outcome-is r z g closed h n w =
-      subst (λ (n : ℕ). Judges s n r) (whole-unique (c .whole) w)
-      (outcome-is-by (λ a b ha hb. g .is a b ha hb ∙ ap (λ (x : Bool). x || edgeIn s k a b) (z a b)) closed r h)
+      → Rounds t₁ t (k .variables) → JudgedBy t s k r → (n : ℕ) → Whole s n → Judges s n r
+  outcome-is {t₁ = t₁} r z g h j n w =
+      subst (λ (n : ℕ). Judges s n r) (whole-unique (c .whole) w) (outcome-is-by (h .turn (edge P) (edges start)) r j)
+    where
+      start : (a b : ℕ) → a < k .variables → b < k .variables → t₁ a b ≡ edge P a b
+      start a b ha hb = let f = variables-few c in marked-edges z g a b (omega arith) (omega arith)

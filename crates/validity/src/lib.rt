@@ -1,5 +1,5 @@
 // Whether a file is valid: no rule that is not idle has a mixed variable in its head's component.
-mod rules;
+pub mod rules;
 
 use format::Format;
 use program::Counts;

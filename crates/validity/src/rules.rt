@@ -5,6 +5,7 @@ ghost use Rattle.format.specs.Limits.{maxVariables};
 ghost use Rattle.program.specs.Program.{ruleOf, variablesAt};
 ghost use Rattle.program.specs.Evaluable.{Small};
 ghost use Rattle.reach.specs.Rows.{rowsLength, rowHas};
+ghost use Rattle.reach.specs.Stepping.{Lent};
 ghost use Rattle.fields.specs.Scanning.{Counted};
 ghost use Rattle.edges.specs.Edges.{Grown};
 ghost use Rattle.idleness.specs.Most.{Ready};
@@ -86,12 +87,13 @@ pub fn mark_edges(
 
 // Whether the rule in a field's value offends by the rows. One that shares its component with no mixed position is not asked whether it is idle.
 fn offends(
-    rows: &[u64; Rows::LENGTH],
+    rows: &[u64],
     values: &mut [i64; Format::MAX_VARIABLES],
     file: &[u8],
     variables: usize,
     value: &[u8],
 ) -> bool
+    requires { ⌜ Lent (now rows) variables ⌝ }
     requires { ⌜ Ready (now file) variables (now value) ⌝ }
     requires { ⌜ (length (now values) ≡ maxVariables) × Small (now values) ⌝ }
     ensures { λ _. ⌜ (length (now (values .exit)) ≡ maxVariables) × Small (now (values .exit)) ⌝ }
@@ -105,12 +107,13 @@ fn offends(
 
 // The first rule that offends by the rows.
 pub fn first_offending(
-    rows: &[u64; Rows::LENGTH],
+    rows: &[u64],
     values: &mut [i64; Format::MAX_VARIABLES],
     file: &[u8],
     counts: Counts,
 ) -> Outcome
     requires { ⌜ Counted (now file) counts ⌝ }
+    requires { ⌜ Lent (now rows) (counts .variables) ⌝ }
     requires { ⌜ (length (now values) ≡ maxVariables) × Small (now values) ⌝ }
     ensures { λ r. ⌜ JudgedBy (rowHas (now (rows .entry))) (now (file .entry)) counts r ⌝ }
 {

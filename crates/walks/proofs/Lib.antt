@@ -1,1 +1,3 @@
 pub mod Walks
+pub mod Joined
+pub mod Examples

@@ -1,46 +1,64 @@
 -- Laws of walks, and of what is reached where one more stop is allowed.
-use mathlib.Core.Path.{_≡_, refl, sym, _∙_, subst}
+use mathlib.Core.Path.{_≡_, refl, sym, _∙_}
 use mathlib.Core.Logic.{_⊎_, inl, inr, ⊎-elim}
 use mathlib.Core.Bool.{Bool, true, false, _||_, _&&_}
-use Prim.Native.Nat.{ℕ, zero, suc, _+_, _≤_, _<_}
+use Prim.Native.Nat.{ℕ, zero, suc, _≤_, _<_}
 use native.Mathlib.Nat.{eq-or-lt-of-le, not-suc-le-zero}
-use native.Mathlib.Numerals.{add-one}
 use native.Mathlib.Omega.{arith}
-use Rattle.walks.specs.Walk.{Walk, edge, step, Reached, Rounded, closed}
+use Rattle.walks.specs.Walk.{Walk, edge, step, AfterRound, BeforeRound, edges, after, Round, closed}
+
+-- over more edges
+pub over : {e e′ : ℕ → ℕ → Bool} → ((i j : ℕ) → e i j ≡ true → e′ i j ≡ true) → {k i j : ℕ} → Walk e k i j → Walk e′ k i j
+over h (edge {i = i} {j = j} p) = edge (h i j p)
+over h (step {i = i} {m = m} p l w) = step (h i m p) l (over h w)
+
+-- ---- walks by a limit that every stop between is below: 0 allows none
+
+data Short (e : ℕ → ℕ → Bool) (n : ℕ) : ℕ → ℕ → Type 0 where
+  one : {i j : ℕ} → e i j ≡ true → Short e n i j
+  more : {i m j : ℕ} → e i m ≡ true → m < n → Short e n m j → Short e n i j
 
 module _ {e : ℕ → ℕ → Bool} where
+  short : {k i j : ℕ} → Walk e k i j → Short e (suc k) i j
+  short (edge p) = one p
+  short (step p l w) = more p (omega arith) (short w)
+
+  long : {k i j : ℕ} → Short e (suc k) i j → Walk e k i j
+  long (one p) = edge p
+  long (more p l w) = step p (omega arith) (long w)
+
   -- more stops may be allowed
-  pub more : {n m i j : ℕ} → n ≤ m → Walk e n i j → Walk e m i j
-  more h (edge p) = edge p
-  more h (step p l w) = step p (omega arith) (more h w)
+  higher : {n m i j : ℕ} → n ≤ m → Short e n i j → Short e m i j
+  higher h (one p) = one p
+  higher h (more p l w) = more p (omega arith) (higher h w)
 
   -- one walk after another
-  pub append : {n i k j : ℕ} → k < n → Walk e n i k → Walk e n k j → Walk e n i j
-  append h (edge p) v = step p h v
-  append h (step p l w) v = step p l (append h w v)
-
-  -- where every edge lands below a limit, so does every stop
-  pub stops-below : (limit : ℕ) → ((i j : ℕ) → e i j ≡ true → j < limit) → {m i j : ℕ} → Walk e m i j → Walk e limit i j
-  stops-below limit h (edge p) = edge p
-  stops-below limit h (step {i = i} {m = m} p l w) = step p (h i m p) (stops-below limit h w)
-
-  -- over more edges
-  pub over : {e′ : ℕ → ℕ → Bool} → ((i j : ℕ) → e i j ≡ true → e′ i j ≡ true) → {n i j : ℕ} → Walk e n i j → Walk e′ n i j
-  over h (edge {i = i} {j = j} p) = edge (h i j p)
-  over h (step {i = i} {m = m} p l w) = step (h i m p) l (over h w)
+  append : {n i k j : ℕ} → k < n → Short e n i k → Short e n k j → Short e n i j
+  append h (one p) v = more p h v
+  append h (more p l w) v = more p l (append h w v)
 
   -- a walk that may stop at k too is one that does not, or goes by k
-  part : {k i j : ℕ} → Walk e (k + 1) i j → Walk e k i j ⊎ (Walk e k i k × Walk e k k j)
-  part (edge p) = inl (edge p)
-  part {k} {i} {j} (step {m = m} p l w) = go (eq-or-lt-of-le (omega arith)) (part w)
+  part : {k i j : ℕ} → Short e (suc k) i j → Short e k i j ⊎ (Short e k i k × Short e k k j)
+  part (one p) = inl (one p)
+  part {k} {i} {j} (more {m = m} p l w) = go (eq-or-lt-of-le (omega arith)) (part w)
     where
-      go : (m ≡ k) ⊎ (m < k) → Walk e k m j ⊎ (Walk e k m k × Walk e k k j) → Walk e k i j ⊎ (Walk e k i k × Walk e k k j)
-      go (inl q) (inl v) = inr (edge (rw q at p), rw q at v)
-      go (inl q) (inr v) = inr (edge (rw q at p), v .1)
-      go (inr q) (inl v) = inl (step p q v)
-      go (inr q) (inr v) = inr (step p q (v .0), v .1)
+      go : (m ≡ k) ⊎ (m < k) → Short e k m j ⊎ (Short e k m k × Short e k k j) → Short e k i j ⊎ (Short e k i k × Short e k k j)
+      go (inl q) (inl v) = inr (one (rw q at p), rw q at v)
+      go (inl q) (inr v) = inr (one (rw q at p), v .1)
+      go (inr q) (inl v) = inl (more p q v)
+      go (inr q) (inr v) = inr (more p q (v .0), v .1)
 
-or-cases : (x y : Bool) → (x || y) ≡ true → (x ≡ true) ⊎ (y ≡ true)
+-- ---- what is reached, by such a limit
+
+record Reached (e r : ℕ → ℕ → Bool) (variables n : ℕ) : Type 0 where
+  pub sound : (i j : ℕ) → i < variables → j < variables → r i j ≡ true → Short e n i j
+  pub whole : (i j : ℕ) → i < variables → j < variables → Short e n i j → r i j ≡ true
+
+-- each set that has k takes in that of k
+abbrev pub Rounded : (ℕ → ℕ → Bool) → (ℕ → ℕ → Bool) → ℕ → ℕ → Type 0
+Rounded r r′ variables k = (a b : ℕ) → a < variables → b < variables → r′ a b ≡ (r a b || (r a k && r k b))
+
+pub or-cases : (x y : Bool) → (x || y) ≡ true → (x ≡ true) ⊎ (y ≡ true)
 or-cases true y p = inl refl
 or-cases false y p = inr p
 
@@ -59,35 +77,67 @@ or-right true y z p q = refl
 or-right false true z p q = q
 or-right false false z p q = p
 
--- no stop allowed: the edges themselves
-pub none-yet : (e : ℕ → ℕ → Bool) (variables : ℕ) → Reached e e variables 0
-none-yet e variables = record { sound = λ i j hi hj p. edge p; whole = λ i j hi hj w. first w }
-  where
-    first : {i j : ℕ} → Walk e 0 i j → e i j ≡ true
-    first (edge p) = p
-    first (step p l w) = absurd (not-suc-le-zero l)
-
 -- the round of k
-pub one-more : (e r r′ : ℕ → ℕ → Bool) (variables k : ℕ) → k < variables → Rounded r r′ variables k
-    → Reached e r variables k → Reached e r′ variables (k + 1)
-one-more e r r′ variables k hk law h = record { sound = sound; whole = whole }
+one-more : {e r r′ : ℕ → ℕ → Bool} {variables k : ℕ} → k < variables → Rounded r r′ variables k → Reached e r variables k → Reached e r′ variables (suc k)
+one-more {e} {r} {r′} {variables} {k} hk law h = record { sound = sound; whole = whole }
   where
-    sound : (i j : ℕ) → i < variables → j < variables → r′ i j ≡ true → Walk e (k + 1) i j
+    sound : (i j : ℕ) → i < variables → j < variables → r′ i j ≡ true → Short e (suc k) i j
     sound i j hi hj p =
-        ⊎-elim (λ q. more (omega arith) (h .sound i j hi hj q))
+        ⊎-elim (λ q. higher (omega arith) (h .sound i j hi hj q))
         (λ q. let q2 = and-parts (r i k) (r k j) q in
-        append (omega arith) (more (omega arith) (h .sound i k hi hk (q2 .0))) (more (omega arith) (h .sound k j hk hj (q2 .1))))
+        append (omega arith) (higher (omega arith) (h .sound i k hi hk (q2 .0))) (higher (omega arith) (h .sound k j hk hj (q2 .1))))
         (or-cases (r i j) (r i k && r k j) (sym (law i j hi hj) ∙ p))
 
-    whole : (i j : ℕ) → i < variables → j < variables → Walk e (k + 1) i j → r′ i j ≡ true
+    whole : (i j : ℕ) → i < variables → j < variables → Short e (suc k) i j → r′ i j ≡ true
     whole i j hi hj w =
         law i j hi hj ∙ ⊎-elim (λ v. or-left (r i j) (r i k && r k j) (h .whole i j hi hj v))
         (λ v. or-right (r i j) (r i k) (r k j) (h .whole i k hi hk (v .0)) (h .whole k j hk hj (v .1))) (part w)
 
--- `closed` holds exactly what is reached
-pub closed-reached : (e : ℕ → ℕ → Bool) (variables n : ℕ) → n ≤ variables → Reached e (closed e n) variables n
+module _ {e r : ℕ → ℕ → Bool} {variables : ℕ} where
+  -- the sets before a round, by the limit
+  before-reached : {k : ℕ} → BeforeRound e r variables k → Reached e r variables k
+  before-reached (edges is) = record { sound = λ i j hi hj p. one (sym (is i j hi hj) ∙ p); whole = λ i j hi hj w. is i j hi hj ∙ first w }
+    where
+      first : {i j : ℕ} → Short e 0 i j → e i j ≡ true
+      first (one p) = p
+      first (more p l w) = absurd (not-suc-le-zero l)
+  before-reached (after h) = record { sound = λ i j hi hj p. short (h .sound i j hi hj p); whole = λ i j hi hj w. h .whole i j hi hj (long w) }
+
+  reached-after : {k : ℕ} → Reached e r variables (suc k) → AfterRound e r variables k
+  reached-after h = record { sound = λ i j hi hj p. long (h .sound i j hi hj p); whole = λ i j hi hj w. h .whole i j hi hj (short w) }
+
+-- ---- the rounds
+
+-- where each set that has k takes in that of k, this is variable k's round
+pub rounded : {r r′ : ℕ → ℕ → Bool} {variables k : ℕ} → k < variables → Rounded r r′ variables k → Round r r′ variables k
+rounded hk law = record { turns = λ e h. reached-after (one-more hk law (before-reached h)) }
+
+-- `closed` holds the sets before each round
+pub closed-before : (e : ℕ → ℕ → Bool) (variables k : ℕ) → k ≤ variables → BeforeRound e (closed e k) variables k
 unfolding closed
-closed-reached e variables zero h = none-yet e variables
-closed-reached e variables (suc k) h =
-    subst (λ (n : ℕ). Reached e (closed e (suc k)) variables n) (add-one k)
-    (one-more e (closed e k) (closed e (suc k)) variables k (omega arith) (λ a b ha hb. refl) (closed-reached e variables k (omega arith)))
+closed-before e variables zero h = edges (λ i j hi hj. refl)
+closed-before e variables (suc k) h =
+    let l : k < variables = omega arith in
+    after (rounded {r = closed e k} {r′ = closed e (suc k)} l (λ a b ha hb. refl) .turns e (closed-before e variables k (omega arith)))
+
+-- ---- what any walk reaches
+
+-- a stop between has an edge to it and an edge from it
+abbrev pub StopsBelow : (ℕ → ℕ → Bool) → ℕ → Type 0
+StopsBelow e limit = (i m j : ℕ) → e i m ≡ true → e m j ≡ true → m < limit
+
+module _ {e r : ℕ → ℕ → Bool} {variables k : ℕ} (h : BeforeRound e r variables k) where
+  pub before-walk : (i j : ℕ) → i < variables → j < variables → r i j ≡ true → (n : ℕ) × Walk e n i j
+  before-walk i j hi hj p = (k, long (higher (omega arith) (before-reached h .sound i j hi hj p)))
+
+  -- where every stop had its round
+  pub walk-before : StopsBelow e k → (i j : ℕ) → i < variables → j < variables → {n : ℕ} → Walk e n i j → r i j ≡ true
+  walk-before stops i j hi hj w = before-reached h .whole i j hi hj (limited w)
+    where
+      next : {n i j : ℕ} → Walk e n i j → (m : ℕ) × (e i m ≡ true)
+      next (edge {j = j} p) = (j, p)
+      next (step {m = m} p l w) = (m, p)
+
+      limited : {n i j : ℕ} → Walk e n i j → Short e k i j
+      limited (edge p) = one p
+      limited (step {i = i} {m = m} p l w) = more p (stops i m _ p (next w .1)) (limited w)

@@ -1,4 +1,5 @@
 pub mod Bits
+pub mod WordBits
 pub mod Joins
 pub mod Nexts
 pub mod Examples

@@ -180,6 +180,21 @@ pub fn followers(name: &str, n: usize, reverse: bool) -> Plan {
     b.plan(name)
 }
 
+/// Each reads the next and many others, in up to three rules of 16 terms: one component of many edges.
+pub fn dense(name: &str, n: usize) -> Plan {
+    let mut b = Builder::new();
+    for _ in 0..n {
+        b.variable(1, 0, 100, 0);
+    }
+    for v in 0..n {
+        for part in 0..(n / 16).min(3) {
+            let body: Vec<Term> = (0..16).map(|i| ((v + 1 + i * n / 16 + 5 * part) % n, 0, 1)).collect();
+            b.rule(1, v, 0, &body);
+        }
+    }
+    b.plan(name)
+}
+
 /// Followers in reverse order, and the one that gains follows the last: one circle, in which every lap lifts each by one.
 pub fn led(name: &str, n: usize) -> Plan {
     let Plan { file, assignment, .. } = followers(name, n, true);

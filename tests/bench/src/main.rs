@@ -1,12 +1,13 @@
 //! How long the proved calls take, beside (1) Rust written for speed alone, (2) a port of the proved code, statement by statement, and (3) naive
 //! iteration, the second checker. Rows of one kind double in size, so that the table shows how the time grows. Before anything is timed, the first
 //! two are held to the proved calls: every answer, and every byte of the lent buffer and around it, on the rows, on seeded inputs, on the same
-//! inputs with variables founded from above and on seeded files to be written anew.
+//! inputs with variables founded from above, on seeded files to be written anew and, of the search of components, on seeded sets.
 //!
 //! bench: the table. bench hold [seeded inputs] [first seed]: no table.
 mod fast;
 mod files;
 mod port;
+mod search;
 mod turned;
 
 use files::orders;
@@ -174,23 +175,35 @@ fn hold_written(first: u64, inputs: u64) {
 const ROUNDS: usize = 25;
 const SLOW: usize = 3;
 
-/// The median of each call's times, and of the first one's ratios to it, over rounds in which every call has its turn.
-fn medians(calls: &[Call], p: &Plan) -> Vec<(Duration, f64)> {
+/// A program's turn: it does so often what is timed.
+type Turn<'a> = Box<dyn FnMut(u32) + 'a>;
+
+fn repeated<'a>(mut once: impl FnMut() + 'a) -> Turn<'a> {
+    Box::new(move |times| (0..times).for_each(|_| once()))
+}
+
+/// A call on this plan.
+fn turn(call: Call, p: &Plan) -> Turn<'_> {
     let mut buffer = vec![0u8; port::MAX_FILE];
-    let mut turn = |call: Call, times: u32| {
+    repeated(move || {
+        black_box(call(black_box(&p.file), black_box(&p.assignment), black_box(&mut buffer)));
+    })
+}
+
+/// The median of each program's times, and of the first one's ratios to it, over rounds in which every program has its turn.
+fn medians(turns: &mut [Turn]) -> Vec<(Duration, f64)> {
+    let timed = |turn: &mut Turn, times: u32| {
         let start = Instant::now();
-        for _ in 0..times {
-            black_box(call(black_box(&p.file), black_box(&p.assignment), black_box(&mut buffer)));
-        }
+        turn(times);
         start.elapsed() / times
     };
-    let once: Vec<Duration> = calls.iter().map(|&call| turn(call, 1).min(turn(call, 1))).collect();
+    let once: Vec<Duration> = turns.iter_mut().map(|turn| timed(turn, 1).min(timed(turn, 1))).collect();
     let slow = once.iter().any(|t| *t > Duration::from_millis(20));
-    let mut rounds = vec![Vec::new(); calls.len()];
+    let mut rounds = vec![Vec::new(); turns.len()];
     for _ in 0..if slow { SLOW } else { ROUNDS } {
-        for (i, &call) in calls.iter().enumerate() {
+        for (i, turn) in turns.iter_mut().enumerate() {
             let times = (1_000_000 / once[i].as_nanos().max(1)).clamp(1, 20_000) as u32;
-            rounds[i].push(turn(call, times));
+            rounds[i].push(timed(turn, times));
         }
     }
     let one = |r: &Vec<Duration>| {
@@ -209,9 +222,14 @@ fn middle<T: Copy + PartialOrd>(mut all: Vec<T>) -> T {
 fn line(p: &Plan, row: &Row) {
     let accepts = matches!(second::read(&p.file), second::Reading::Accepted { .. });
     let naive = accepts == port::read(&p.file).is_ok() && (row.name != "least" || !p.name.contains("reverse"));
-    let times = medians(&row.calls[..if naive { 4 } else { 3 }], p);
+    let calls = &row.calls[..if naive { 4 } else { 3 }];
+    print_line((&p.name, row.name), calls.iter().map(|&call| turn(call, p)).collect());
+}
+
+fn print_line((input, call): (&str, &str), mut turns: Vec<Turn>) {
+    let times = medians(&mut turns);
     let ratio = |i: usize| times.get(i).map_or("-".to_string(), |t| format!("{:.2}", t.1));
-    print!("{:<38} {:<9} {:>10}", p.name, row.name, shown(times[0].0));
+    print!("{input:<38} {call:<10} {:>10}", shown(times[0].0));
     println!(" {:>10} {:>7} {:>10} {:>7} {:>7}", shown(times[1].0), ratio(1), shown(times[2].0), ratio(2), ratio(3));
 }
 
@@ -323,24 +341,29 @@ fn idle_plans() -> [Plan; 3] {
 fn main() {
     let given: Vec<String> = std::env::args().skip(1).collect();
     let amount = |i: usize, usual: u64| given.get(i).map_or(usual, |a| a.parse().expect("a number"));
-    let (plans, orders) = (plans(), orders::plans());
+    let (plans, orders, searches) = (plans(), orders::plans(), search::rows());
     let (first, inputs) = (amount(2, 0), amount(1, 50_000));
     hold_rows(&plans);
     hold_rows(&orders);
     hold(first, inputs);
     hold_written(first, inputs);
+    search::hold(first, inputs);
     if given.first().is_some_and(|word| word == "hold") {
         return;
     }
     println!("Times and ratios (the proved call's time by the other's) are medians of {ROUNDS} rounds of one run, {SLOW} for calls over 20 ms; in a");
     println!("round every program has its turn, about 1 ms.");
-    println!("fast: Rust for speed alone, by its own algorithms; port: the proved code in Rust, statement by statement; naive: the second checker.\n");
-    print!("{:<38} {:<9} {:>10}", "input", "call", "proved");
+    println!("fast: Rust for speed alone, by its own algorithms; port: the proved code in Rust, statement by statement; naive: the second checker.");
+    println!("search: begin and every step; step: one step and then the next, on sets that no step changes.\n");
+    print!("{:<38} {:<10} {:>10}", "input", "call", "proved");
     println!(" {:>10} {:>7} {:>10} {:>7} {:>7}", "fast", "/ fast", "port", "/ port", "/ naive");
     for p in &plans {
         ASSIGNED.iter().for_each(|row| line(p, row));
     }
     for p in &orders {
         [READ, NORMALIZE].iter().for_each(|row| line(p, row));
+    }
+    for row in &searches {
+        print_line(row.names(), row.turns());
     }
 }

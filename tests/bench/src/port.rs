@@ -2,8 +2,11 @@
 //! of rules still to look at and, for each variable, the set of rules that read it at a kept position.
 
 mod normal;
+mod search;
 
 pub use normal::normalize_call;
+pub use search::{begin_call, components_call, step_call};
+use search::{close, mark_edges, share, WORDS};
 
 pub const MAX_FILE: usize = 60_000;
 pub const VARIABLES: usize = 256;
@@ -441,44 +444,10 @@ fn is_idle(values: &mut Values, file: &[u8], v: &[u8]) -> bool {
     is_no_more(file, head, most)
 }
 
-// ---- validity: for each variable a row of those that it reaches
-
-type Rows = [[u64; 4]; VARIABLES];
-
-/// The edges that a rule draws: an idle one draws none.
-fn mark_rule(rows: &mut Rows, values: &mut Values, file: &[u8], v: &[u8]) {
-    if is_idle(values, file, v) {
-        return;
-    }
-    for i in 0..positions(v) {
-        let x = body(v)[4 * i] as usize;
-        let d = direction(file, v, i);
-        if is_kept(file, x, d) | (d == Direction::Mixed) {
-            rows[v[1] as usize][x / 64] |= 1 << (x % 64);
-        }
-    }
-}
-
-/// What the variables reach over one edge or more.
-fn close(rows: &mut Rows, n: usize) {
-    for m in 0..n {
-        let row = rows[m];
-        for i in 0..n {
-            if bit(&rows[i], m) {
-                for w in 0..4 {
-                    rows[i][w] |= row[w];
-                }
-            }
-        }
-    }
-}
-
-fn share(rows: &Rows, x: usize, y: usize) -> bool {
-    x == y || bit(&rows[x], y) & bit(&rows[y], x)
-}
+// ---- validity
 
 /// Whether a rule offends by the rows; only one with a mixed variable in its head's component is asked whether it is idle.
-fn offends(rows: &Rows, values: &mut Values, file: &[u8], v: &[u8]) -> bool {
+fn offends(rows: &[u64], values: &mut Values, file: &[u8], v: &[u8]) -> bool {
     let mixed = |i: usize| direction(file, v, i) == Direction::Mixed && share(rows, v[1] as usize, body(v)[4 * i] as usize);
     if !(0..positions(v)).fold(false, |found, i| found | mixed(i)) {
         return false;
@@ -507,14 +476,15 @@ fn first_offending(file: &[u8], k: Counts) -> Option<usize> {
     if !any_mixed(file, k) {
         return None;
     }
-    let mut rows = [[0u64; 4]; VARIABLES];
+    let mut rows = [0; WORDS * VARIABLES];
     let mut values = [0; VARIABLES];
-    rules(file, k).for_each(|(_, v)| mark_rule(&mut rows, &mut values, file, v));
+    mark_edges(&mut rows, &mut values, file, k);
     close(&mut rows, k.variables);
     rules(file, k).find(|(_, v)| offends(&rows, &mut values, file, v)).map(|(at, _)| at)
 }
 
-pub fn read(file: &[u8]) -> Result<Counts, (usize, usize)> {
+/// The fields alone: the refusals up to 12.
+fn scan(file: &[u8]) -> Result<Counts, (usize, usize)> {
     if file.len() > MAX_FILE {
         return Err((1, 0));
     }
@@ -533,6 +503,11 @@ pub fn read(file: &[u8]) -> Result<Counts, (usize, usize)> {
         }
         at += 3 + word(file, at + 1);
     }
+    Ok(k)
+}
+
+pub fn read(file: &[u8]) -> Result<Counts, (usize, usize)> {
+    let k = scan(file)?;
     match first_offending(file, k) {
         Some(at) => Err((13, at)),
         None => Ok(k),

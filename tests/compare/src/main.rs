@@ -1,8 +1,10 @@
 //! Compares the proved calls, through libfounded.a, with the second checker on seeded inputs: every answer and every byte of the lent buffers and
 //! around them. Small programs are tried by brute force, and a smaller number of inputs goes through the two programs. A twentieth of the inputs
-//! more are files to be written anew.
+//! more are files to be written anew, and a fiftieth are walks over edges.
 //!
 //! compare [first seed] [inputs] [small programs] [inputs of each program] [path of the printing one] [path of the one that writes anew]
+
+mod walk;
 
 use second::anew::{self, Normalize};
 use second::brute::{self, Anew, Calls, Tried};
@@ -120,9 +122,7 @@ fn calls(first: u64, inputs: u64, failures: &mut Vec<String>) {
             }
         }
     }
-    for (name, count) in &tally.counts {
-        println!("{count:>8}  {name}");
-    }
+    tally.print();
     for (number, places) in &tally.places {
         println!("refusal {number:02} at {} places", places.len());
     }
@@ -165,9 +165,7 @@ fn normal_forms(first: u64, cases: u64, failures: &mut Vec<String>) {
             failures.push(format!("normal form {seed}, {}: {what}", case.label));
         }
     }
-    for (name, count) in &tally.counts {
-        println!("{count:>8}  {name}");
-    }
+    tally.print();
     failures.extend(tally.missing_of(anew::required(), (cases / 200).max(1) as usize));
     println!("{cases} files written anew by the library, {compared} buffers");
 }
@@ -249,6 +247,8 @@ fn main() {
     calls(first, inputs, &mut failures);
     normal_forms(first, inputs / 20, &mut failures);
     brute_force(first, small, &mut failures);
+    walk::walks(first, inputs / 50, &mut failures);
+    walk::brute_force(first, small, &mut failures);
     if prints > 0 {
         program(given.get(4).expect("the printing program's path"), first, prints, &mut failures);
         normal_program(given.get(5).expect("the path of the program that writes anew"), first, prints, &mut failures);

@@ -1,7 +1,7 @@
 //! The dependency graph and the search for a rule that makes a file invalid.
 
 use crate::meaning::Direction;
-use crate::program::{Kind, Program, Rule, QUOTIENT};
+use crate::program::{Kind, Program, Rule, QUOTIENT, TERMS};
 use crate::wrong::Wrong;
 
 /// For each variable, the variables an edge runs to.
@@ -19,12 +19,17 @@ fn edges_of(program: &Program, idle: &[bool]) -> Vec<Vec<usize>> {
         if idle && program.wrong != Wrong::IdleDraws {
             continue;
         }
-        if rule.form == QUOTIENT && program.wrong == Wrong::DivisorDrawsEdge {
-            edges[rule.head].push(0);
+        let from = &mut edges[rule.head];
+        match program.wrong {
+            Wrong::DivisorDrawsEdge if rule.form == QUOTIENT => from.push(0),
+            Wrong::LastRuleDraws => from.clear(),
+            _ => {}
         }
-        for (position, term) in rule.terms.iter().enumerate() {
-            if draws(program, rule, position) && !edges[rule.head].contains(&term.variable) {
-                edges[rule.head].push(term.variable);
+        let most = if program.wrong == Wrong::FirstEdgeOnly { 1 } else { TERMS };
+        let drawn = (0..rule.terms.len()).filter(|&i| draws(program, rule, i)).take(most);
+        for to in drawn.map(|i| rule.terms[i].variable) {
+            if !from.contains(&to) {
+                from.push(to);
             }
         }
     }
@@ -43,6 +48,10 @@ fn draws(program: &Program, rule: &Rule, position: usize) -> bool {
         Wrong::EdgeToRisingAbove if kind == Kind::Above => true,
         Wrong::EdgeToFallingBelow if kind == Kind::Below && head == Kind::Above => true,
         Wrong::EdgesToKeptOnly => pulls,
+        Wrong::KeptLeftOut => mixed,
+        Wrong::StandardDrawn if kind == Kind::Standard => direction != Direction::Falling,
+        Wrong::StandardNeverDrawn if kind == Kind::Standard => false,
+        Wrong::EveryVariableDrawn => true,
         Wrong::AboveDrawsNone if head == Kind::Above => false,
         _ => pulls || mixed,
     }
@@ -50,14 +59,20 @@ fn draws(program: &Program, rule: &Rule, position: usize) -> bool {
 
 /// All variables that a path of at least one edge leads to.
 pub fn reached(edges: &[Vec<usize>], from: usize) -> Vec<bool> {
+    reached_by(edges, from, |_| true)
+}
+
+/// All variables that a path of at least one edge leads to on which every stop
+/// between is allowed. The ends are no stops between.
+pub fn reached_by(edges: &[Vec<usize>], from: usize, allowed: impl Fn(usize) -> bool) -> Vec<bool> {
     let mut seen = vec![false; edges.len()];
     let mut open = vec![from];
     while let Some(variable) = open.pop() {
         for &next in &edges[variable] {
-            if !seen[next] {
-                seen[next] = true;
+            if !seen[next] && allowed(next) {
                 open.push(next);
             }
+            seen[next] = true;
         }
     }
     seen
@@ -93,6 +108,8 @@ pub fn offending_rules(program: &Program, idle: &[bool]) -> Vec<usize> {
 fn mixed_rules(program: &Program, edges: &[Vec<usize>]) -> Vec<usize> {
     let reach_from = |v: usize| match program.wrong {
         Wrong::ShortCircles => (0..edges.len()).map(|to| edges[v].contains(&to)).collect(),
+        Wrong::LastRoundOut => reached_by(edges, v, |stop| stop + 1 < edges.len()),
+        Wrong::FirstRoundOut => reached_by(edges, v, |stop| stop > 0),
         _ => reached(edges, v),
     };
     let reach: Vec<Vec<bool>> = (0..edges.len()).map(reach_from).collect();
@@ -100,6 +117,7 @@ fn mixed_rules(program: &Program, edges: &[Vec<usize>]) -> Vec<usize> {
     let together = |a: usize, b: usize| match program.wrong {
         Wrong::LoopPasses if a == b => false,
         Wrong::ComponentOfOneKind if kind(a) != kind(b) => false,
+        Wrong::MixedOffends => true,
         _ => a == b || reach[a][b] && reach[b][a],
     };
     let mixed = |rule: &usize| {

@@ -2,8 +2,8 @@
 //! the papers and the settled points alone. Clarity comes before speed: plain
 //! structures, plain searches, naive iteration.
 //!
-//! The calls are `read`, `least`, `check` and `normalize`, and `print` and
-//! `print_normal` for the programs. Each has a twin ending in `_with` that takes
+//! The calls are `read`, `least`, `check` and `normalize`, `begin`, `step` and
+//! `components`, and `print` and `print_normal` for the programs. Each has a twin ending in `_with` that takes
 //! a [`Wrong`]: a deliberate mistake, used to see whether the generator would
 //! notice it. `Wrong::Nothing` is the checker.
 
@@ -16,6 +16,7 @@ pub mod graph;
 pub mod idle;
 mod idle_above;
 pub mod idling;
+pub mod lent;
 pub mod meaning;
 pub mod mirror;
 pub mod normal;
@@ -24,11 +25,14 @@ pub mod printing;
 pub mod program;
 pub mod reader;
 pub mod refused;
+pub mod stepped;
 pub mod tally;
+pub mod walk;
 pub mod wrong;
 
 pub use calls::{Reading, Solved, Verdict};
 pub use normal::Normal;
+pub use walk::Begun;
 pub use wrong::Wrong;
 
 /// Reads a file: its three counts, or the first refusal.
@@ -59,4 +63,20 @@ pub fn normalize(file: &[u8], buffer: &mut [u8]) -> Normal {
 /// What the program of the normal form prints for this standard input.
 pub fn print_normal(input: &[u8]) -> Vec<u8> {
     normal::print_normal_with(input, Wrong::Nothing)
+}
+
+/// The sets of reached variables before the first round: the edges of a file
+/// whose fields pass. A refusal writes nothing.
+pub fn begin(file: &[u8], sets: &mut [u64]) -> Begun {
+    walk::begin_with(file, sets, Wrong::Nothing)
+}
+
+/// The round of variable k among so many; `false` writes nothing.
+pub fn step(sets: &mut [u64], variables: usize, k: usize) -> bool {
+    walk::step_with(sets, variables, k, Wrong::Nothing)
+}
+
+/// The component of each variable, read off sets; `false` writes nothing.
+pub fn components(sets: &[u64], variables: usize, buffer: &mut [u8]) -> bool {
+    walk::components_with(sets, variables, buffer, Wrong::Nothing)
 }

@@ -216,6 +216,10 @@ impl Tally {
         }
     }
 
+    pub fn print(&self) {
+        self.counts.iter().for_each(|(name, count)| println!("{count:>8}  {name}"));
+    }
+
     /// Names hit less often than they should be.
     pub fn missing(&self, least: usize) -> Vec<String> {
         self.missing_of(required(), least)

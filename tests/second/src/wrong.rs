@@ -2,12 +2,17 @@
 //! on which each of them answers differently from the checker.
 
 macro_rules! mistakes {
-    ($($(#[$says:meta])* $name:ident,)*; $($(#[$tells:meta])* $normal:ident,)*) => {
+    (
+        $($(#[$says:meta])* $name:ident,)*;
+        $($(#[$tells:meta])* $normal:ident,)*;
+        $($(#[$shows:meta])* $walk:ident,)*
+    ) => {
         #[derive(Clone, Copy, Debug, PartialEq, Eq)]
         pub enum Wrong {
             Nothing,
             $($(#[$says])* $name,)*
             $($(#[$tells])* $normal,)*
+            $($(#[$shows])* $walk,)*
         }
 
         impl Wrong {
@@ -15,6 +20,8 @@ macro_rules! mistakes {
             pub const ALL: &'static [Wrong] = &[$(Wrong::$name,)*];
             /// Mistakes of the normal form alone.
             pub const NORMAL: &'static [Wrong] = &[$(Wrong::$normal,)*];
+            /// Mistakes of the walk over edges.
+            pub const WALK: &'static [Wrong] = &[$(Wrong::$walk,)*];
         }
     };
 }
@@ -508,4 +515,171 @@ mistakes! {
     OneIsSum,
     /// Idle rules are left out.
     IdleLeftOut,
+    ;
+    // The sets before the first round.
+    /// Begin refuses with 13.
+    BeginThirteen,
+    /// 15 is tried before the file's own refusals.
+    FifteenBeforeOwn,
+    /// The place of 15 is the number of words.
+    FifteenHasPlace,
+    /// Sets one word short are good enough.
+    BeginOneShort,
+    /// Sets just long enough are too short.
+    BeginMustBeLonger,
+    /// No word is too short for a file without variables.
+    BeginNoneRefused,
+    /// Words are asked for all 256 numbers.
+    BeginAsksAll,
+    /// Four bytes are asked for each variable, and not four words.
+    BeginAsksBytes,
+    /// What fits is written though the sets are too short.
+    BeginShortWrites,
+    /// A refusal of the file clears the words.
+    BeginRefusedClears,
+    /// Words after the sets are cleared.
+    BeginClearsAfter,
+    /// Edges are put to what the words had.
+    BeginAdds,
+    /// Bits of numbers that are no variable keep what they had.
+    BeginKeepsHigh,
+    /// Words are answered, and not variables.
+    BegunWords,
+    /// The founded variables are counted.
+    BegunFounded,
+    /// The sets are those after the last round.
+    BeginAfterRounds,
+    /// No edge is drawn where no position is mixed.
+    BeginUnmixedEmpty,
+    /// No edge is drawn where the file is refused with 13.
+    BeginInvalidEmpty,
+    /// Edges run from the body to the head.
+    EdgesBackwards,
+    /// Edges run both ways.
+    EdgesBothWays,
+    /// An edge runs to every rising standard variable.
+    StandardDrawn,
+    /// An edge runs to no standard variable, mixed or not.
+    StandardNeverDrawn,
+    /// No edge runs to a kept variable.
+    KeptLeftOut,
+    /// An edge runs to every body variable.
+    EveryVariableDrawn,
+    /// A rule draws its first edge alone.
+    FirstEdgeOnly,
+    /// Of the rules for a head the last one draws.
+    LastRuleDraws,
+    /// Each variable is in its own set: a walk of no edge counts.
+    SelfReached,
+    /// No variable has an edge to itself.
+    SelfLeftOut,
+    /// Bit 63 stands for the first variable of a word.
+    BitsTurned,
+    /// The first word of a set has the last numbers.
+    WordsTurned,
+    /// The first words of all sets stand first, then the second ones.
+    WordsFirst,
+    // A round.
+    /// The last variable has the first round.
+    RoundsDescending,
+    /// The round is that of the variable before.
+    RoundBefore,
+    /// The round is that of the next variable.
+    RoundNext,
+    /// The set of k takes in the sets that have k.
+    JoinsIntoK,
+    /// The set of k takes in the sets of those it has.
+    KTakesIn,
+    /// A set takes in the set of k where k has its variable, too.
+    JoinsBothWays,
+    /// Every set takes in the set of k.
+    EverySetJoins,
+    /// The last set is left out.
+    LastSetOut,
+    /// The first set is left out.
+    FirstSetOut,
+    /// Only sets after that of k take it in.
+    LaterSetsJoin,
+    /// Only sets before that of k take it in.
+    EarlierSetsJoin,
+    /// Sets after those of the variables take in the set of k.
+    SetsAfterJoin,
+    /// A set that has k becomes the set of k.
+    StepReplaces,
+    /// The first word alone is taken in.
+    FirstWordJoins,
+    /// The last word is not taken in.
+    LastWordOut,
+    /// Only variables are taken in.
+    VariablesJoin,
+    /// A variable is not taken into its own set.
+    StepSelfLeftOut,
+    /// Rounds go on until nothing moves.
+    StepToTheEnd,
+    /// k may be the number of variables.
+    StepAtVariables,
+    /// Of k the last byte is read.
+    StepShortK,
+    /// 257 variables are stepped.
+    StepTakes257,
+    /// 256 variables are too many for a step.
+    StepRefuses256,
+    /// A step takes sets one word short.
+    StepOneShort,
+    /// A step refuses sets just long enough.
+    StepMustBeLonger,
+    /// A step asks for so many words as four times the variables have in 64 bits.
+    StepWraps,
+    /// A refused step is made where there are words.
+    StepRefusedWrites,
+    /// A step answers whether something has moved.
+    StepAnswersMoved,
+    // The components.
+    /// The byte is the last variable of the component.
+    ComponentLast,
+    /// The byte is the variable itself.
+    ComponentOwn,
+    /// The byte is the first variable that is reached.
+    ComponentOneWay,
+    /// The byte is the first variable that reaches this one.
+    ComponentComesFrom,
+    /// Reaching one way is enough.
+    ComponentEither,
+    /// A variable on no circle has byte 0.
+    ComponentNeedsCircle,
+    /// Components are numbered from 0.
+    ComponentNumbered,
+    /// The byte is that of the first variable found.
+    ComponentPassedOn,
+    /// Only variables below 64 are looked at.
+    ComponentFirstWord,
+    /// The sets of the next variable are looked at.
+    ComponentOneOff,
+    /// Bytes after the last variable are cleared.
+    ComponentsClearAfter,
+    /// A buffer one byte short is good enough for the components.
+    ComponentsByteShort,
+    /// A buffer just long enough is too short for the components.
+    ComponentsByteMore,
+    /// 0 variables are refused.
+    ComponentsNoneRefused,
+    /// The components of 257 variables are written.
+    ComponentsTake257,
+    /// 256 variables are too many for the components.
+    ComponentsRefuse256,
+    /// The components take sets one word short.
+    ComponentsOneShort,
+    /// The components refuse sets just long enough.
+    ComponentsMustBeLonger,
+    /// The components ask for so many words as four times the variables have in 64 bits.
+    ComponentsWrap,
+    /// Refused components are written where there is room.
+    ComponentsRefusedWrite,
+    // Refusal 13.
+    /// Refusal 13 is decided before the last round.
+    LastRoundOut,
+    /// Refusal 13 is decided without the first round.
+    FirstRoundOut,
+    /// A mixed variable offends wherever it stands.
+    MixedOffends,
 }

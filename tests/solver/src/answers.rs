@@ -9,12 +9,30 @@ const NONE_FOUND: i32 = 20;
 
 /// One assignment for every answer set of the text.
 pub fn answers(text: &str, variables: usize) -> Result<Vec<Vec<i64>>, String> {
+    listed(text)?.iter().map(|atoms| assignment(atoms, variables)).collect()
+}
+
+/// The atoms of the only answer set of the text, each with its numbers.
+pub fn only(text: &str) -> Result<Vec<(String, Vec<usize>)>, String> {
+    let sets = listed(text)?;
+    let [atoms] = sets.as_slice() else { return Err(format!("{} answer sets", sets.len())) };
+    let numbers = |list: &str| list.split(',').map(|n| n.parse().ok()).collect::<Option<Vec<usize>>>();
+    let atom = |atom: &str| {
+        let (name, rest) = atom.split_once('(')?;
+        Some((name.to_string(), numbers(rest.strip_suffix(')')?)?))
+    };
+    let read = |text: &str| atom(text).ok_or(format!("atom {text}"));
+    atoms.split_whitespace().map(read).collect()
+}
+
+/// The atoms of every answer set of the text.
+fn listed(text: &str) -> Result<Vec<String>, String> {
     let output = solve(text).map_err(|e| format!("gringo | clasp: {e}"))??;
     let mut lines = output.lines();
     let mut found = Vec::new();
     while let Some(line) = lines.next() {
         if line.starts_with("Answer:") {
-            found.push(assignment(lines.next().unwrap_or(""), variables)?);
+            found.push(lines.next().unwrap_or("").to_string());
         }
     }
     let said = output.lines().find_map(|l| l.strip_prefix("Models")?.split(':').nth(1));

@@ -1,6 +1,7 @@
 //! Compares the proved check with an answer set solver: for each small
 //! program, the assignments called stable against the answer sets of its
-//! translation. The same on the file written anew.
+//! translation. The same on the file written anew. The rounds of the walk over
+//! edges against the answer set of a program that says what a walk is.
 //!
 //! solver [first seed] [programs]                  compares, then tries the wrong readings
 //! solver --reading NAME [first seed] [programs]   compares under another reading
@@ -16,6 +17,7 @@ mod reading;
 mod show;
 mod tally;
 mod translate;
+mod walk;
 
 use proved::Word;
 use reading::Reading;
@@ -274,6 +276,7 @@ fn main() {
         let mut failures = sharp(&cases);
         failures.extend(anew::sharp(&cases));
         failures.extend(count(&cases));
+        failures.extend(walk::compare(amount(0, 0), amount(1, 400)));
         for failure in &failures {
             println!("failed: {failure}");
         }

@@ -1,5 +1,5 @@
 //! The proved calls, through libfounded.a: the check on every assignment in the
-//! ranges, and a file written anew.
+//! ranges, a file written anew, and the walk over its edges.
 
 use second::program::Program;
 
@@ -13,9 +13,21 @@ extern "C" {
         room: usize,
     ) -> u64;
     fn founded_normalize(file: *const u8, length: usize, buffer: *mut u8, room: usize) -> u64;
+    fn founded_read(file: *const u8, length: usize) -> u64;
+    fn founded_begin(file: *const u8, length: usize, sets: *mut u64, words: usize) -> u64;
+    fn founded_step(sets: *mut u64, words: usize, variables: usize, k: usize) -> bool;
+    fn founded_components(
+        sets: *const u64,
+        words: usize,
+        variables: usize,
+        buffer: *mut u8,
+        room: usize,
+    ) -> bool;
 }
 
+const REFUSED: u64 = 6;
 const WRITTEN: u64 = 10;
+const BEGUN: u64 = 11;
 
 #[derive(Clone, Debug, PartialEq, Eq)]
 pub enum Word {
@@ -56,6 +68,45 @@ pub fn normalize(file: &[u8]) -> Option<Vec<u8>> {
         unsafe { founded_normalize(file.as_ptr(), file.len(), buffer.as_mut_ptr(), buffer.len()) };
     let length = (packed >> 8) as usize;
     (packed & 0xFF == WRITTEN && length <= file.len()).then(|| buffer[..length].to_vec())
+}
+
+/// The walk over the edges of a file, stepped through.
+pub struct Walked {
+    /// All sets before the first round and after each.
+    pub sets: Vec<Vec<u64>>,
+    /// The component of each variable.
+    pub firsts: Vec<u8>,
+    /// The place of refusal 13.
+    pub refused: Option<usize>,
+}
+
+/// Nothing where a call answers what is not due for a file whose fields pass.
+pub fn walked(file: &[u8], variables: usize) -> Option<Walked> {
+    let mut sets = vec![!0; 4 * variables];
+    let words = sets.len();
+    // SAFETY: each pointer is lent with the length of its buffer.
+    let begun = unsafe { founded_begin(file.as_ptr(), file.len(), sets.as_mut_ptr(), words) };
+    if begun != BEGUN + ((variables as u64) << 8) {
+        return None;
+    }
+    let mut all = vec![sets.clone()];
+    for k in 0..variables {
+        // SAFETY: as above.
+        if !unsafe { founded_step(sets.as_mut_ptr(), words, variables, k) } {
+            return None;
+        }
+        all.push(sets.clone());
+    }
+    let mut firsts = vec![0; variables];
+    // SAFETY: as above.
+    let written = unsafe {
+        founded_components(sets.as_ptr(), words, variables, firsts.as_mut_ptr(), firsts.len())
+    };
+    // SAFETY: as above.
+    let read = unsafe { founded_read(file.as_ptr(), file.len()) };
+    let refused = (read & 0xFF == REFUSED).then_some((read >> 24 & 0xFFFF) as usize);
+    let other = refused.is_some() && read >> 8 & 0xFFFF != 13;
+    (written && !other).then_some(Walked { sets: all, firsts, refused })
 }
 
 /// Every assignment in the ranges of a program, with the check's word on a file.

@@ -199,8 +199,13 @@ impl Tally {
 
     /// Names met in fewer programs than they should be.
     pub fn missing(&self, programs: usize) -> Vec<String> {
+        self.missing_of(required(), programs)
+    }
+
+    /// Those of these names.
+    pub fn missing_of(&self, names: Vec<(String, usize)>, programs: usize) -> Vec<String> {
         let mut missing = Vec::new();
-        for (name, per_hundred) in required() {
+        for (name, per_hundred) in names {
             let wanted = (programs * per_hundred / 100).max(1);
             let count = self.programs.get(&name).copied().unwrap_or(0);
             if count < wanted {

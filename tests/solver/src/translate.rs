@@ -32,6 +32,13 @@ pub fn translate(program: &Program, reading: Reading) -> String {
     out + "#show ge/2.\n#show le/2.\n#show is/2.\n"
 }
 
+/// Says of each rule that is not idle that it can, the rules numbered from this on.
+pub fn not_idle(program: &Program, from: usize) -> String {
+    let translation = Translation { program, reading: Reading::IdleLeftOut };
+    let says = |(r, rule): (usize, &Rule)| translation.idle(from + r, rule).0;
+    program.rules.iter().enumerate().map(says).collect()
+}
+
 struct Translation<'a> {
     program: &'a Program,
     reading: Reading,

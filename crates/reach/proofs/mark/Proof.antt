@@ -8,8 +8,6 @@ use Rattle.reach.proofs.RowLaws.{mark-law}
 use borrow.Author.Needs.{needs}
 use Rattle.reach.proofs.mark.Statement.{statement}
 use Rattle.reach.proofs.mark.Tie as tie
-use Rattle.reach.proofs.mark.Reads as reads
-use Rattle.reach.proofs.mark.Lts as lts
 
 mul-at : tie.Need-mul-at
 mul-at c = search needs

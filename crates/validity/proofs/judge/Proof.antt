@@ -19,19 +19,29 @@ returns c = outcome-is-none (c .before .before .before .pre) (sym (c .before .an
 mark-edges-requires : tie.Need-mark-edges-requires
 mark-edges-requires c κs = (c .before .before .before .before .before .pre, (omega arith, (omega arith, values-none maxVariables)))
 
+slice-aggregate-close : tie.Need-slice-aggregate-close
+slice-aggregate-close c = sym (c .before .mark-edges .ensures .0)
+
 close-requires : tie.Need-close-requires
-close-requires c κs = (omega (arith, variables-few (c .before .before .before .before .before .before .before .pre)), c .before .mark-edges .ensures .0)
+close-requires c κs =
+    let f = variables-few (c .before .before .before .before .before .before .before .pre) in
+    record { few = f; room = omega (arith, f, c .before .mark-edges .ensures .0) }
+
+slice-aggregate-first-offending : tie.Need-slice-aggregate-first-offending
+slice-aggregate-first-offending c = sym (c .before .before .close .ensures .0 ∙ c .before .before .before .before .mark-edges .ensures .0)
 
 first-offending-requires : tie.Need-first-offending-requires
 first-offending-requires c κs =
-    let m = c .before .before .before .before in
-    (m .before .before .before .before .before .before .pre, m .mark-edges .ensures .1 .0)
+    let m = c .before .before .before .before .before in
+    let p = m .before .before .before .before .before .before .pre in
+    let f = variables-few p in
+    (p, (record { few = f; room = omega (arith, f, c .before .before .before .close .ensures .0, m .mark-edges .ensures .0) }, m .mark-edges .ensures .1 .0))
 
 returns-2 : tie.Need-returns-2
 returns-2 c =
-    let m = c .before .before .before .before .before in
-    outcome-is (c .before .before .before .before .before .before .before .before .before .before .before .pre) (c .first-offending .result) (rows-none rowsLength)
-    (m .mark-edges .ensures .1 .1) (c .before .before .before .close .ensures .1) (c .first-offending .ensures)
+    let m = c .before .before .before .before .before .before in
+    outcome-is (m .before .before .before .before .before .before .pre) (c .first-offending .result) (rows-none rowsLength)
+    (m .mark-edges .ensures .1 .1) (c .before .before .before .before .close .ensures .1) (c .first-offending .ensures)
 
 pub judge-spec : {M : Type 1} → statement M
 judge-spec =
@@ -40,6 +50,8 @@ judge-spec =
     any-mixed-requires
     returns
     mark-edges-requires
+    slice-aggregate-close
     close-requires
+    slice-aggregate-first-offending
     first-offending-requires
     returns-2)

@@ -15,9 +15,9 @@ impl Graph {
         to.for_each(|x| self.rows[x as usize].put(from));
     }
 
-    /// An edge to each variable with which `true` stands, without a branch.
-    pub fn edges_where(&mut self, from: u8, to: impl Iterator<Item = (u8, bool)>) {
-        to.for_each(|(x, drawn)| self.rows[x as usize].put_where(from, drawn));
+    /// An edge where `drawn` says so, without a branch.
+    pub fn edge_where(&mut self, from: u8, to: u8, drawn: bool) {
+        self.rows[to as usize].put_where(from, drawn);
     }
 
     /// The component of each variable, and its turn. Edges run within a component or to one with a lower number, and mostly to an earlier turn.

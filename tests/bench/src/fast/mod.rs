@@ -4,12 +4,14 @@ mod graph;
 mod normal;
 mod read;
 mod run;
+mod search;
 mod set;
 
 use crate::port::pack;
 pub use normal::normalize_call;
 use read::{Program, Refusal, Skip};
 use run::Values;
+pub use search::{begin_call, components_call, step_call};
 use set::Set;
 
 fn refused(r: Refusal) -> u64 {

@@ -47,8 +47,9 @@ pub struct Program<'a> {
     pub constraints: Vec<Constraint<'a>>,
 }
 
-/// Where rules and constraints go as they are read.
+/// Where variables, rules and constraints go as they are read.
 pub trait Sink<'a> {
+    fn variables(&mut self, _variables: &'a [Variable]) {}
     /// So many bytes are left for rules, and then for constraints.
     fn room(&mut self, _rules: usize, _constraints: usize) {}
     fn rule(&mut self, _rule: Rule<'a>) {}
@@ -61,6 +62,10 @@ pub struct Skip;
 impl<'a> Sink<'a> for Skip {}
 
 impl<'a> Sink<'a> for Program<'a> {
+    fn variables(&mut self, variables: &'a [Variable]) {
+        self.variables = variables;
+    }
+
     fn room(&mut self, rules: usize, constraints: usize) {
         self.rules.reserve((rules / 11).min(RULES));
         self.constraints.reserve((constraints / 10).min(CONSTRAINTS));
@@ -78,7 +83,7 @@ impl<'a> Sink<'a> for Program<'a> {
 impl<'a> Program<'a> {
     pub fn read(file: &'a [u8]) -> Result<Program<'a>, Refusal> {
         let mut program = Program { variables: &[], rules: Vec::new(), constraints: Vec::new() };
-        program.variables = read(file, &mut program)?.variables;
+        read(file, &mut program)?;
         Ok(program)
     }
 }
@@ -135,14 +140,16 @@ fn value(rest: &[u8], tag: u8, before_terms: usize, most: usize) -> Option<(&[u8
     over.is_empty().then_some((start, terms, after))
 }
 
+/// A mixed place that may offend: the number of bytes from the rule's field on, its head and its variable. Those of idle rules and of standard
+/// variables, which head no rule, are left out.
+type Mixed = (usize, u8, u8);
+
 struct Bodies<'a> {
     variables: &'a [Variable],
     /// The last body in which a variable stood.
     stood: [u16; VARIABLES],
     body: u16,
-    /// The mixed places that may offend: the number of bytes from the rule's field on, its head and its variable. Those of idle rules and of standard
-    /// variables, which head no rule, are left out.
-    mixed: Vec<(usize, u8, u8)>,
+    mixed: Vec<Mixed>,
 }
 
 impl Bodies<'_> {
@@ -216,6 +223,15 @@ fn rule<'a>(variables: &[Variable], start: &[u8], terms: &'a [Term]) -> Rule<'a>
 }
 
 pub fn read<'a>(file: &'a [u8], to: &mut impl Sink<'a>) -> Result<Counted<'a>, Refusal> {
+    let (n, mixed) = fields(file, to)?;
+    match first_offending(file, &n, &mixed) {
+        Some(left) => Err(Refusal { number: 13, place: file.len() - left }),
+        None => Ok(n),
+    }
+}
+
+/// The fields alone: the refusals up to 12.
+pub fn fields<'a>(file: &'a [u8], to: &mut impl Sink<'a>) -> Result<(Counted<'a>, Vec<Mixed>), Refusal> {
     if file.len() > BYTES {
         return Err(Refusal { number: 1, place: 0 });
     }
@@ -225,6 +241,7 @@ pub fn read<'a>(file: &'a [u8], to: &mut impl Sink<'a>) -> Result<Counted<'a>, R
     let mut n = Counted { variables, rules: 0, constraints: 0 };
     let mut bodies = Bodies { variables, stood: [0; VARIABLES], body: 0, mixed: Vec::new() };
     let mut rest = &file[8 * count..];
+    to.variables(variables);
     to.room(rest.len(), 0);
     while let Some((start, terms, after)) = value(rest, 2, 4, TERMS + 1) {
         let mut rule = rule(variables, start, terms);
@@ -248,10 +265,7 @@ pub fn read<'a>(file: &'a [u8], to: &mut impl Sink<'a>) -> Result<Counted<'a>, R
     if !rest.is_empty() {
         return Err(Refusal { number: why(rest, &n), place: file.len() - rest.len() });
     }
-    match first_offending(file, &n, &bodies.mixed) {
-        Some(left) => Err(Refusal { number: 13, place: file.len() - left }),
-        None => Ok(n),
-    }
+    Ok((n, bodies.mixed))
 }
 
 /// Whether a place makes its rule demand more where it is larger, and whether it does where it is smaller. A literal does so whatever the head is.
@@ -288,22 +302,38 @@ fn may_offend(variables: &[Variable], rule: &Rule) -> bool {
     directions(variables, rule, 0) == (true, true) && founded(x) && !idle_size(variables, rule)
 }
 
-/// The lows and the highs.
-fn ends(variables: &[Variable]) -> (Values, Values) {
-    let (mut lows, mut highs) = ([0; VARIABLES], [0; VARIABLES]);
-    for (v, x) in variables.iter().enumerate() {
-        (lows[v], highs[v]) = (low(x), high(x));
+/// The lows and the highs of variables.
+pub struct Ends {
+    lows: Values,
+    highs: Values,
+}
+
+impl Ends {
+    pub fn of(variables: &[Variable]) -> Ends {
+        let mut ends = Ends { lows: [0; VARIABLES], highs: [0; VARIABLES] };
+        for (v, x) in variables.iter().enumerate() {
+            (ends.lows[v], ends.highs[v]) = (low(x), high(x));
+        }
+        ends
     }
-    (lows, highs)
+
+    /// A rule demands most where its rising places have their highs and its falling ones their lows.
+    pub fn idle(&self, variables: &[Variable], rule: &Rule) -> bool {
+        let start = if rule.down { &self.highs } else { &self.lows };
+        match rule.form {
+            5 => idle_size(variables, rule),
+            _ => more(variables, rule, &self.highs, &self.lows, start[rule.head as usize]).is_none(),
+        }
+    }
 }
 
 /// The first rule with a mixed variable in its head's component, by the number of bytes from its field on.
-fn first_offending(file: &[u8], n: &Counted, mixed: &[(usize, u8, u8)]) -> Option<usize> {
+fn first_offending(file: &[u8], n: &Counted, mixed: &[Mixed]) -> Option<usize> {
     if mixed.is_empty() {
         return None;
     }
     let mut graph = Graph::new(n.variables.len());
-    let (lows, highs) = ends(n.variables);
+    let ends = Ends::of(n.variables);
     let mut rest = &file[8 * n.variables.len()..];
     while let Some((start, terms, after)) = value(rest, 2, 4, TERMS + 1) {
         rest = after;
@@ -311,14 +341,8 @@ fn first_offending(file: &[u8], n: &Counted, mixed: &[(usize, u8, u8)]) -> Optio
         if rule.form == 8 {
             (rule.divisor, rule.terms) = (number(&terms[0]), &terms[1..]);
         }
-        // a rule demands most where its rising places have their highs and its falling ones their lows
-        let start = if rule.down { &highs } else { &lows };
-        let idle = match rule.form {
-            5 => idle_size(n.variables, &rule),
-            _ => more(n.variables, &rule, &highs, &lows, start[rule.head as usize]).is_none(),
-        };
-        if !idle {
-            draw(&mut graph, n.variables, &rule);
+        if !ends.idle(n.variables, &rule) {
+            draw(n.variables, &rule, |x, drawn| graph.edge_where(rule.head, x, drawn));
         }
     }
     let places = graph.components();
@@ -326,22 +350,21 @@ fn first_offending(file: &[u8], n: &Counted, mixed: &[(usize, u8, u8)]) -> Optio
     mixed.iter().find(|(_, head, x)| component(*head) == component(*x)).map(|(left, ..)| *left)
 }
 
-/// The edges of a rule that is not idle: to its kept and mixed places. Those to standard variables, which head no rule, do no harm.
-fn draw(graph: &mut Graph, variables: &[Variable], rule: &Rule) {
-    let turned = |t: &Term| from_above(&variables[t[0] as usize]);
-    let plain = |t: &Term| !(rule.down ^ turned(t));
-    let literal = |t: &Term| (t[1] == 1) ^ turned(t);
+/// The edges of a rule that is not idle: each variable of its body, and whether its place is kept or mixed.
+pub fn draw(variables: &[Variable], rule: &Rule, mut to: impl FnMut(u8, bool)) {
+    // whether a place is kept that demands more where it is lower
+    let kept = |t: &Term, lower: bool| variables[t[0] as usize][3] == 1 + u8::from(lower);
+    let literal = |t: &Term| kept(t, t[1] == 2);
     let terms = rule.terms.iter();
     match rule.form {
-        1 | 8 => graph.edges_where(rule.head, terms.map(|t| (t[0], (number(t) < 0) ^ plain(t)))),
+        1 | 8 => terms.for_each(|t| to(t[0], kept(t, rule.down ^ (number(t) < 0)))),
         5 => {
-            let t = &rule.terms[0];
-            let (up, down) = directions(variables, rule, 0);
-            graph.edges_where(rule.head, [(t[0], if turned(t) { down } else { up })].into_iter());
+            let (rises, falls) = directions(variables, rule, 0);
+            terms.for_each(|t| to(t[0], rises & falls | kept(t, falls)));
         }
-        6 => graph.edges_where(rule.head, terms.map(|t| (t[0], literal(t)))),
-        7 => graph.edges_where(rule.head, terms.map(|t| (t[0], if t[1] == 0 { plain(t) } else { literal(t) }))),
-        _ => graph.edges_where(rule.head, terms.map(|t| (t[0], plain(t)))),
+        6 => terms.for_each(|t| to(t[0], literal(t))),
+        7 => terms.for_each(|t| to(t[0], if t[1] == 0 { kept(t, rule.down) } else { literal(t) })),
+        _ => terms.for_each(|t| to(t[0], kept(t, rule.down))),
     }
 }
 

@@ -5,6 +5,7 @@ mod names;
 
 use crate::brute::Calls;
 use crate::gen::anew::Case;
+use crate::lent;
 use crate::normal::Normal;
 use crate::plan::Plan;
 use crate::tally::Tally;
@@ -13,9 +14,8 @@ pub use names::required;
 
 pub type Normalize<'a> = &'a dyn Fn(&[u8], &mut [u8]) -> Normal;
 
-/// What buffers hold before, and how many such bytes stand on each side.
+/// What buffers hold before, and what stands on each side.
 const FILL: u8 = 0xA5;
-const GUARD: usize = 64;
 
 /// Makes a call with a buffer of this length, full of one byte.
 pub fn lend<A>(length: usize, call: impl FnOnce(&mut [u8]) -> A) -> (A, Option<Vec<u8>>) {
@@ -26,11 +26,7 @@ pub fn lend<A>(length: usize, call: impl FnOnce(&mut [u8]) -> A) -> (A, Option<V
 /// a larger one. Answers its bytes too, or nothing where one around it has
 /// changed.
 pub fn lend_from<A>(before: &[u8], call: impl FnOnce(&mut [u8]) -> A) -> (A, Option<Vec<u8>>) {
-    let mut room = [&[FILL; GUARD], before, &[FILL; GUARD]].concat();
-    let lent = GUARD..GUARD + before.len();
-    let answer = call(&mut room[lent.clone()]);
-    let around = room[..lent.start].iter().chain(&room[lent.end..]).all(|&b| b == FILL);
-    (answer, around.then(|| room[lent].to_vec()))
+    lent::lend_from(FILL, before, call)
 }
 
 /// The answer and the buffer's bytes that are due for a buffer of this length.

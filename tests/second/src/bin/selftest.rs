@@ -5,9 +5,11 @@
 
 use second::anew::{self, lend};
 use second::brute::{self, Anew, Tried};
+use second::gen::walks::Case;
 use second::mirror::{self, Turned};
 use second::normal::normalize_with;
 use second::printing::print_with;
+use second::stepped::{self, Walk, OWN};
 use second::tally::{see, Tally};
 use second::{gen, Reading, Solved, Verdict, Wrong};
 use std::collections::BTreeMap;
@@ -24,7 +26,10 @@ fn main() {
     normal_force(amount(1, 12_000), &mut failures);
     variants(amount(2, 20_000), &mut failures);
     normal_variants(amount(2, 20_000), &mut failures);
-    println!("wrong variants: {}", Wrong::ALL.len() + Wrong::NORMAL.len());
+    walks(amount(0, 60_000) / 20, &mut failures);
+    walk_force(amount(1, 12_000), &mut failures);
+    walk_variants(amount(2, 20_000), &mut failures);
+    println!("wrong variants: {}", Wrong::ALL.len() + Wrong::NORMAL.len() + Wrong::WALK.len());
     for failure in failures.iter().take(40) {
         println!("FAILED {failure}");
     }
@@ -63,9 +68,7 @@ fn tallies(seeds: u64, failures: &mut Vec<String>) {
         }
     }
     println!("inputs {seeds}, answers due and given {due_met}");
-    for (name, count) in &tally.counts {
-        println!("{count:>8}  {name}");
-    }
+    tally.print();
     for (number, places) in &tally.places {
         println!("refusal {number:02} at {} places", places.len());
     }
@@ -126,22 +129,40 @@ fn prints_alike(input: &gen::Input, wrong: Wrong) -> bool {
     wrong != Wrong::PrintsMost || print_with(&framed(), wrong) == second::print(&framed())
 }
 
-fn variants(bound: u64, failures: &mut Vec<String>) {
-    let mut unseen = Wrong::ALL.to_vec();
+/// Looks for a seed on which each of these mistakes shows. `at` says of a seed and a
+/// mistake whether the answers stay the same.
+fn find<F: Fn(Wrong) -> bool>(
+    list: &[Wrong],
+    bound: u64,
+    what: &str,
+    at: impl Fn(u64) -> F,
+    failures: &mut Vec<String>,
+) {
+    let mut unseen = list.to_vec();
     for seed in 0..bound {
-        let input = gen::input(seed);
-        let right = see(&input, 0xA5, Wrong::Nothing);
+        if unseen.is_empty() {
+            break;
+        }
+        let stays = at(seed);
         unseen.retain(|&wrong| {
-            let same = see(&input, 0xA5, wrong) == right && prints_alike(&input, wrong);
+            let same = stays(wrong);
             if !same {
-                println!("wrong variant {wrong:?}: first differs on input {seed}");
+                println!("wrong variant {wrong:?}: first differs on {what} {seed}");
             }
             same
         });
     }
-    for wrong in unseen {
-        failures.push(format!("wrong variant {wrong:?} not found in {bound} inputs"));
-    }
+    let missed = |wrong: &Wrong| format!("wrong variant {wrong:?} not found in {bound}, {what}");
+    failures.extend(unseen.iter().map(missed));
+}
+
+fn variants(bound: u64, failures: &mut Vec<String>) {
+    let at = |seed: u64| {
+        let input = gen::input(seed);
+        let right = see(&input, 0xA5, Wrong::Nothing);
+        move |wrong| see(&input, 0xA5, wrong) == right && prints_alike(&input, wrong)
+    };
+    find(Wrong::ALL, bound, "input", at, failures);
 }
 
 /// The sentences about the normal form.
@@ -154,12 +175,15 @@ fn normal_forms(cases: u64, failures: &mut Vec<String>) {
         }
     }
     println!("normal forms {cases}");
-    for (name, count) in &tally.counts {
-        println!("{count:>8}  {name}");
-    }
-    let missing = tally.missing_of(anew::required(), (cases / 200).max(1) as usize);
+    failures.extend(counted(&tally, anew::required(), cases));
+}
+
+/// Prints the counts of a tally, and answers the names hit less than wanted.
+fn counted(tally: &Tally, required: Vec<(String, usize)>, cases: u64) -> Vec<String> {
+    tally.print();
+    let missing = tally.missing_of(required, (cases / 200).max(1) as usize);
     println!("names hit less than wanted: {}", missing.len());
-    failures.extend(missing);
+    missing
 }
 
 /// The stable assignments of small files and of their normal forms.
@@ -180,23 +204,49 @@ fn normal_force(programs: u64, failures: &mut Vec<String>) {
 }
 
 fn normal_variants(bound: u64, failures: &mut Vec<String>) {
-    let mut unseen = Wrong::NORMAL.to_vec();
-    for seed in 0..bound {
-        if unseen.is_empty() {
-            break;
-        }
+    let at = |seed: u64| {
         let case = gen::anew::case(seed);
-        let see = |wrong| lend(case.buffer, |buffer| normalize_with(&case.file, buffer, wrong));
+        let see = move |wrong| lend(case.buffer, |buffer| normalize_with(&case.file, buffer, wrong));
         let right = see(Wrong::Nothing);
-        unseen.retain(|&wrong| {
-            let same = see(wrong) == right;
-            if !same {
-                println!("wrong variant {wrong:?}: first differs on normal form {seed}");
-            }
-            same
-        });
+        move |wrong| see(wrong) == right
+    };
+    find(Wrong::NORMAL, bound, "normal form", at, failures);
+}
+
+/// The sentences about the walk over edges.
+fn walks(cases: u64, failures: &mut Vec<String>) {
+    let mut tally = Tally::default();
+    for (seed, (name, case)) in (0..cases).flat_map(|seed| gen::walks::cases(seed).map(|c| (seed, c))) {
+        if let Err(what) = stepped::try_seen(&case, &stepped::see(&OWN, &case), &mut tally) {
+            failures.push(format!("{name} {seed}, {}: {what}", case.label));
+        }
     }
-    for wrong in unseen {
-        failures.push(format!("wrong variant {wrong:?} not found in {bound} normal forms"));
+    println!("walks {cases}, and those of {cases} inputs");
+    failures.extend(counted(&tally, stepped::required(), cases));
+}
+
+/// Every walk of small files, stop by stop, and every graph of up to four variables.
+fn walk_force(programs: u64, failures: &mut Vec<String>) {
+    let (tried, graphs, failed) = brute::try_walks(&OWN, 0..programs);
+    println!("brute force, walks {tried:?}, {graphs} graphs");
+    failures.extend(failed);
+    for (name, count) in tried.each() {
+        if programs >= 1_000 && count < 50 {
+            failures.push(format!("brute force tried too little: walks, {name} {count}"));
+        }
     }
+}
+
+/// Mistakes of the walk, and those of reading that the sets before the first
+/// round show.
+fn walk_variants(bound: u64, failures: &mut Vec<String>) {
+    find(Wrong::WALK, bound, "walk", |seed| stays(seed, stepped::see), failures);
+    find(stepped::DRAWN, bound, "walk", |seed| stays(seed, stepped::begins), failures);
+}
+
+/// Does a mistake change nothing that is seen of this walk?
+fn stays<S: PartialEq>(seed: u64, see: fn(&Walk, &Case) -> S) -> impl Fn(Wrong) -> bool {
+    let case = gen::walks::case(seed);
+    let right = see(&OWN, &case);
+    move |wrong| stepped::with(wrong, |walk| see(walk, &case) == right)
 }

@@ -309,6 +309,25 @@ impl Small {
         path
     }
 
+    /// The edges when these rules are idle: from a head to each kept or mixed
+    /// variable.
+    pub fn edges(&self, idle: &[bool]) -> Vec<Vec<bool>> {
+        let n = self.program.variables.len();
+        let mut edges = vec![vec![false; n]; n];
+        for (r, rule) in self.rules().filter(|(r, _)| !idle[*r]) {
+            for (i, term) in rule.terms.iter().enumerate() {
+                edges[rule.head][term.variable] |= self.kept(r, i) || self.ways[r][i] == 0;
+            }
+        }
+        edges
+    }
+
+    /// The mixed variables of a rule.
+    pub fn mixed(&self, r: usize) -> impl Iterator<Item = usize> + '_ {
+        let terms = self.program.rules[r].terms.iter().zip(&self.ways[r]);
+        terms.filter(|(_, way)| **way == 0).map(|(term, _)| term.variable)
+    }
+
     /// Of the rules that are not idle, the first one with a mixed variable in
     /// its component.
     pub fn invalid(&self, idle: &[bool]) -> Option<&Rule> {

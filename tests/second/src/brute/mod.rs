@@ -4,6 +4,7 @@
 
 mod defs;
 mod tried;
+mod walks;
 
 use crate::anew::{written, Normalize};
 use crate::program::{signed, Kind};
@@ -11,7 +12,8 @@ use crate::reader::{parse_fields, Refusal};
 use crate::wrong::Wrong;
 use crate::{Reading, Solved, Verdict};
 use defs::{choices, constraint_met, Small, OUT};
-pub use tried::{Anew, Tried};
+pub use tried::{Anew, Stepped, Tried};
+pub use walks::{try_walk, try_walks, walks};
 
 /// The calls that are tried.
 pub struct Calls {

@@ -82,3 +82,25 @@ counts! {
     several,
     without,
 }
+
+// Of the walk over edges.
+counts! {
+    Stepped, programs;
+    /// Edges, those that an idle rule would draw, and those to a standard
+    /// variable.
+    edges,
+    left_out,
+    to_standard,
+    /// Rounds in which something is taken in, and others.
+    moved,
+    unmoved,
+    /// Programs with a component of several variables, and with two of them
+    /// joined one way.
+    shared,
+    one_way,
+    /// Programs that are refused, those with a mixed position in a rule that is
+    /// not idle, and those with one inside a component in one that is.
+    invalid,
+    mixed_outside,
+    mixed_idle,
+}

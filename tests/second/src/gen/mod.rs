@@ -16,6 +16,7 @@ pub mod programs;
 pub mod slack;
 pub mod spoil;
 pub mod vary;
+pub mod walks;
 pub mod whole;
 
 use fields::Field;

@@ -30,7 +30,10 @@ loop-holds : tie.Need-loop-holds Inv-loop μ-loop
 loop-holds c = (omega arith, omega arith, any-none _)
 
 offends-position-requires : tie.Need-offends-position-requires Inv-loop μ-loop
-offends-position-requires c κs = let o = c .before .before .before in (o .before .before .before .pre, (o .open-rule .ensures, omega arith))
+offends-position-requires c κs =
+    let o = c .before .before .before in
+    let p = o .before .before .before .before .pre in
+    (p .0, (p .1, (o .open-rule .ensures, omega arith)))
 
 add-i : tie.Need-add-i Inv-loop μ-loop
 add-i c = search needs

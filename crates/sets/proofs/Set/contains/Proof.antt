@@ -4,8 +4,6 @@ use Rattle.words.specs.Bit.{bit, has}
 use borrow.Author.Needs.{needs}
 use Rattle.sets.proofs.Set.contains.Statement.{statement}
 use Rattle.sets.proofs.Set.contains.Tie as tie
-use Rattle.sets.proofs.Set.contains.Reads as reads
-use Rattle.sets.proofs.Set.contains.Lts as lts
 
 mul-w : tie.Need-mul-w
 mul-w c = search needs

@@ -10,8 +10,6 @@ use Rattle.sets.proofs.Counts.{count-set}
 use borrow.Author.Needs.{needs}
 use Rattle.sets.proofs.Set.count.Statement.{statement}
 use Rattle.sets.proofs.Set.count.Tie as tie
-use Rattle.sets.proofs.Set.count.Reads as reads
-use Rattle.sets.proofs.Set.count.Lts as lts
 
 element-copy-out-a : tie.Need-element-copy-out-a
 element-copy-out-a c = search needs

@@ -3,8 +3,6 @@ use Rattle.words.specs.Bit.{wordCount}
 use Rattle.words.proofs.Bits.{none-in}
 use Rattle.sets.proofs.Set.empty.Statement.{statement}
 use Rattle.sets.proofs.Set.empty.Tie as tie
-use Rattle.sets.proofs.Set.empty.Reads as reads
-use Rattle.sets.proofs.Set.empty.Lts as lts
 
 returns : tie.Need-returns
 returns c = none-in wordCount

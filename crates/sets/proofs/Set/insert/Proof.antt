@@ -8,8 +8,6 @@ use Rattle.words.proofs.Bits.{has-insert, one-shl}
 use borrow.Author.Needs.{needs}
 use Rattle.sets.proofs.Set.insert.Statement.{statement}
 use Rattle.sets.proofs.Set.insert.Tie as tie
-use Rattle.sets.proofs.Set.insert.Reads as reads
-use Rattle.sets.proofs.Set.insert.Lts as lts
 
 shl-one : tie.Need-shl-one
 shl-one c = search needs

@@ -3,8 +3,6 @@ use Rattle.words.proofs.Bits.{has-union}
 use borrow.Author.Needs.{needs}
 use Rattle.sets.proofs.Set.union.Statement.{statement}
 use Rattle.sets.proofs.Set.union.Tie as tie
-use Rattle.sets.proofs.Set.union.Reads as reads
-use Rattle.sets.proofs.Set.union.Lts as lts
 
 element-copy-out-a : tie.Need-element-copy-out-a
 element-copy-out-a c = search needs

@@ -24,18 +24,19 @@ abbrev μ-loop : tie.MeasureT-loop
 μ-loop rows values₀ file n rules at₀ rule₀ values at rule = rules - rule
 
 mul-at : tie.Need-mul-at Inv-loop μ-loop
-mul-at c = omega (arith, variables-inside (c .before .pre .0))
+mul-at c = omega (arith, variables-inside (c .before .before .pre .0))
 
 loop-holds : tie.Need-loop-holds Inv-loop μ-loop
-loop-holds c = (omega arith, first-rule (c .before .pre .0), c .before .pre .1, λ j l. absurd (omega arith))
+loop-holds c = let p = c .before .before .pre in (omega arith, first-rule (p .0), p .1 .1, λ j l. absurd (omega arith))
 
 value-at-requires : tie.Need-value-at-requires Inv-loop μ-loop
-value-at-requires c κs = rule-inside (c .before .before .before .pre .0) _ (omega arith) (c .before .loop .inv .1)
+value-at-requires c κs = rule-inside (c .before .before .before .before .pre .0) _ (omega arith) (c .before .loop .inv .1)
 
 offends-requires : tie.Need-offends-requires Inv-loop μ-loop
 offends-requires c κs =
     let l = c .before .before .before .loop .inv in
-    (ready-at (c .before .before .before .before .before .pre .0) _ (omega arith) (l .1) (c .before .value-at .ensures), l .2)
+    let p = c .before .before .before .before .before .before .pre in
+    (p .1 .0, (ready-at (p .0) _ (omega arith) (l .1) (c .before .value-at .ensures), l .2))
 
 returns : tie.Need-returns Inv-loop μ-loop
 returns c =
@@ -50,7 +51,9 @@ returns c =
     }
 
 next-at-requires : tie.Need-next-at-requires Inv-loop μ-loop
-next-at-requires c κs = rule-inside (c .before .before .before .before .before .before .before .pre .0) _ (omega arith) (c .before .before .before .before .before .loop .inv .1)
+next-at-requires c κs =
+    let l = c .before .before .before .before .before in
+    rule-inside (l .before .before .before .pre .0) _ (omega arith) (l .loop .inv .1)
 
 add-rule : tie.Need-add-rule Inv-loop μ-loop
 add-rule c = search needs

@@ -9,7 +9,7 @@ offends-requires : tie.Need-offends-requires
 offends-requires c κs = search needs
 
 returns : tie.Need-returns
-returns c = (c .before .before .before .before .pre .1, none-offends _ _ _ (c .before .offends .ensures) (not-true _ (c .if1 .taken)))
+returns c = (c .before .before .before .before .before .pre .1 .1, none-offends _ _ _ (c .before .offends .ensures) (not-true _ (c .if1 .taken)))
 
 is-idle-requires : tie.Need-is-idle-requires
 is-idle-requires c κs = search needs

@@ -1,9 +1,9 @@
--- Equal numbers are one variable; else the rows say whether each reaches the other.
+-- Equal numbers are one variable; else the sets say whether each has the other.
 use native.Mathlib.Omega.{arith}
-use Rattle.edges.proofs.PositionLaws.{share-same, share-other}
+use Rattle.sharing.proofs.Sharings.{share-same, share-other}
 use borrow.Author.Needs.{needs}
-use Rattle.edges.proofs.mixed.share.Statement.{statement}
-use Rattle.edges.proofs.mixed.share.Tie as tie
+use Rattle.sharing.proofs.share.Statement.{statement}
+use Rattle.sharing.proofs.share.Tie as tie
 
 returns : tie.Need-returns
 returns c = share-same _ _ _ (omega arith)

@@ -1,0 +1,4 @@
+pub mod BeginLaws
+pub mod BeginDetermined
+pub mod SearchSentences
+pub mod SearchTotal

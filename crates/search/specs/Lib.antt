@@ -1,0 +1,4 @@
+pub mod BeginCall
+pub mod BeginDemands
+pub mod Copying
+pub mod Sentences

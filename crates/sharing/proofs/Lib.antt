@@ -1,0 +1,3 @@
+pub mod Sharings
+pub mod Firsts
+pub mod NamesDetermined
