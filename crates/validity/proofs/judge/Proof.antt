@@ -25,7 +25,7 @@ slice-aggregate-close c = sym (c .before .mark-edges .ensures .0)
 close-requires : tie.Need-close-requires
 close-requires c κs =
     let f = variables-few (c .before .before .before .before .before .before .before .pre) in
-    record { few = f; room = omega (arith, f, c .before .mark-edges .ensures .0) }
+    record { few = omega (arith, f); room = omega (arith, f, c .before .mark-edges .ensures .0) }
 
 slice-aggregate-first-offending : tie.Need-slice-aggregate-first-offending
 slice-aggregate-first-offending c = sym (c .before .before .close .ensures .0 ∙ c .before .before .before .before .mark-edges .ensures .0)
