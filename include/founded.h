@@ -1,8 +1,8 @@
 /*
  * Founded cover for C: reads a rule file, finds the least model for an assignment, checks an assignment, writes a file in its normal form, steps
- * through the search of a file's components. Link with libfounded.a (x86-64 Linux); it needs memset and memcpy of the C library and nothing
- * else. The calls are proved: each returns, for every input that is passed as said here, and answers and writes what document 01 and document
- * 02's first five wishes define (crates/founded).
+ * through the search of a file's components, flattens a nested file. Link with libfounded.a (x86-64 Linux); it needs memset and memcpy of the C
+ * library and nothing else. The calls are proved: each returns, for every input that is passed as said here, and answers and writes what document
+ * 01 and document 02's first six wishes define (crates/founded).
  *
  * What a caller passes:
  * - Each buffer is a pointer and its length: in words of 64 bits for `sets`, which is aligned as a uint64_t, in bytes for every other. So much can
@@ -37,6 +37,12 @@ extern "C" {
 #define FOUNDED_MAX_COEFFICIENT 1000
 #define FOUNDED_MAX_DIVISOR 1000 /* of rule form 8; the least is 1 */
 
+/* ---- limits of a tree, in a field of a nested file with this tag */
+
+#define FOUNDED_TREE_TAG 5u
+#define FOUNDED_MAX_LEVELS 8u    /* the root's and that of the deepest leaf included */
+#define FOUNDED_MAX_CHILDREN 16u /* of a node; the least is 1 */
+
 /* ---- bytes for each variable of the file */
 
 #define FOUNDED_ASSIGNMENT_BYTES 2u /* exactly */
@@ -49,7 +55,7 @@ extern "C" {
 
 /*
  * ---- stack of a thread that makes the call and little else. In the tests the calls, in this order, touched at most 11,000, 105,200, 105,500,
- * 81,400, 21,100, 100 and 100 bytes; the rest is for the thread's own start and a margin.
+ * 81,400, 10,800, 100, 100 and 17,500 bytes; the rest is for the thread's own start and a margin.
  */
 
 #define FOUNDED_READ_STACK 32768u
@@ -59,6 +65,7 @@ extern "C" {
 #define FOUNDED_BEGIN_STACK 65536u
 #define FOUNDED_STEP_STACK 32768u
 #define FOUNDED_COMPONENTS_STACK 32768u
+#define FOUNDED_FLATTEN_STACK 65536u
 
 /* ---- the calls */
 
@@ -116,6 +123,29 @@ bool founded_step(uint64_t *sets, size_t sets_len, size_t variables, size_t k);
 bool founded_components(const uint64_t *sets, size_t sets_len, size_t variables, uint8_t *buffer, size_t buffer_len);
 
 /*
+ * Converts a nested file to a plain one. A nested file has fields of tag 5 after its constraints: a head (1 byte) and one tree, to the field's last
+ * byte. A node has 2 bytes: a leaf is byte 0 and a variable of the file; a sum, max or min is byte 1, 2 or 3 and the count of its children, which
+ * follow. Such a field is one more rule, which gives its root's value, the leaves being plain terms. Every other call that takes a file refuses tag
+ * 5 with number 3.
+ *
+ * REFUSED, by the first of these:
+ * - 1, place 0: the nested file is over 60,000 bytes.
+ * - The first refusal of a field, with its place. A variable, rule or constraint is refused as by founded_read, after a tree with 4. A tree is refused
+ *   with 2; 18, the value is not a head and one tree within the limits; 5, with what it adds there are too many variables or rules; 9, its head or a
+ *   leaf is not declared, or the head not founded; 11, a variable is at two leaves; 19, the range of an added variable passes -30,000..30,000.
+ * - 13: the plain file is not valid. The place is that of the first offending rule in the nested file.
+ * - 17, place 0: the plain file is over 60,000 bytes or longer than the buffer.
+ *
+ * Else WRITTEN with the length of the plain file, which is no shorter than the nested one. Only WRITTEN writes: the plain file, which founded_read
+ * accepts. Each inner node but a root becomes a variable of the head's kind, with the exact range of the node's values. These follow the file's own,
+ * trees in file order, a node before its children and a child's whole subtree before the next child. The trees' rules follow the file's own, in the
+ * same order: the root's for the head, then one for each added variable, the sum, max or min of the children as they stand. A root that is a leaf is
+ * a sum of one. The constraints come last. A file without trees is written as it is. Each stable assignment of the nested file extends in just one way
+ * to one of the plain file, which has no others; examples/nested_plan.c checks plans so.
+ */
+uint64_t founded_flatten(const uint8_t *nested, size_t nested_len, uint8_t *buffer, size_t buffer_len);
+
+/*
  * ---- answers that are a uint64_t: a word and up to three numbers, 0 where there is none, or a word and a length, which takes the place of the
  * first two. No such answer is 0.
  */
@@ -126,7 +156,7 @@ enum {
     FOUNDED_CONSTRAINT = 3, /* constraint */
     FOUNDED_RULE = 4,       /* rule */
     FOUNDED_RANGE = 5,      /* variable */
-    FOUNDED_REFUSED = 6,    /* refusal's number 1 to 15 or 17, place in the file */
+    FOUNDED_REFUSED = 6,    /* refusal's number 1 to 15 or 17 to 19, place in the file */
     FOUNDED_ACCEPTED = 7,   /* variables, rules, constraints */
     FOUNDED_FOUND = 8,
     FOUNDED_NONE = 9,

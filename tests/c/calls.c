@@ -17,11 +17,11 @@
 
 enum { PAINT = 0xA5, MARK = 0xEE, WORD = 8 };
 
-enum which { READ, LEAST, CHECK, NORMALIZE, BEGIN, STEP, COMPONENTS, COUNT };
+enum which { READ, LEAST, CHECK, NORMALIZE, BEGIN, STEP, COMPONENTS, FLATTEN, COUNT };
 
-static const char *const CALLS[] = {"read", "least", "check", "normalize", "begin", "step", "components"};
-static const size_t STACKS[] = {FOUNDED_READ_STACK,  FOUNDED_LEAST_STACK, FOUNDED_CHECK_STACK,     FOUNDED_NORMALIZE_STACK,
-                                FOUNDED_BEGIN_STACK, FOUNDED_STEP_STACK,  FOUNDED_COMPONENTS_STACK};
+static const char *const CALLS[] = {"read", "least", "check", "normalize", "begin", "step", "components", "flatten"};
+static const size_t STACKS[] = {FOUNDED_READ_STACK,  FOUNDED_LEAST_STACK, FOUNDED_CHECK_STACK,      FOUNDED_NORMALIZE_STACK,
+                                FOUNDED_BEGIN_STACK, FOUNDED_STEP_STACK,  FOUNDED_COMPONENTS_STACK, FOUNDED_FLATTEN_STACK};
 
 /* beside is the assignment, or the sets that components are read off; every length is in bytes */
 struct call {
@@ -81,6 +81,7 @@ static void answer(struct call *c)
     case BEGIN: c->answer = founded_begin(c->file, c->file_len, c->lent, c->lent_len / WORD); break;
     case STEP: c->answer = founded_step(c->lent, c->lent_len / WORD, c->variables, c->k); break;
     case COMPONENTS: c->answer = founded_components(c->beside, c->beside_len / WORD, c->variables, c->lent, c->lent_len); break;
+    case FLATTEN: c->answer = founded_flatten(c->file, c->file_len, c->lent, c->lent_len); break;
     case COUNT: break;
     }
 }
@@ -148,15 +149,18 @@ static void say_entry(const uint8_t *report, size_t i)
     printf("; %u %s %d", founded_entry_variable(report, i), mark < 4 ? MARKS[mark] : "?", founded_entry_number(report, i));
 }
 
-/* the counts of a file that was written, and the rules and constraints of a short one. Written again, the file is the same */
-static void say_file(const uint8_t *bytes, size_t n)
+/* the counts of a file that was written, and the fields of a short one, of a normal form without variables. Written again, it is the same */
+static void say_file(enum which which, const uint8_t *bytes, size_t n)
 {
     static uint8_t again[ROOM];
-    uint64_t read = founded_read(bytes, n), answer = founded_normalize(bytes, n, again, n);
+    const bool flat = which == FLATTEN;
+    uint64_t read = founded_read(bytes, n), answer = flat ? founded_flatten(bytes, n, again, n) : founded_normalize(bytes, n, again, n);
+    if (founded_word(read) != FOUNDED_ACCEPTED)
+        fail(CALLS[which], "a file that is refused");
     if (founded_word(answer) != FOUNDED_WRITTEN || founded_length(answer) != n || memcmp(bytes, again, n) != 0)
-        fail("normalize", "another file when written again");
+        fail(CALLS[which], "another file when written again");
     printf("; %u %u %u", founded_first(read), founded_second(read), founded_third(read));
-    for (size_t i = 8 * founded_first(read), end; i < n && n <= 100; i = end) {
+    for (size_t i = flat ? 0 : 8 * founded_first(read), end; i < n && n <= 200; i = end) {
         end = i + 3 + (size_t)founded_number(bytes + i + 1);
         for (size_t j = i; j < end; j++)
             printf("%s%02x", j == i ? "; " : " ", bytes[j]);
@@ -182,7 +186,7 @@ static void say_sets(const uint64_t *sets, size_t n)
 }
 
 /* what a call wrote; it answers how many bytes */
-static size_t say_written(uint64_t a, const void *bytes, size_t values)
+static size_t say_written(enum which which, uint64_t a, const void *bytes, size_t values)
 {
     size_t entries = founded_first(a) + founded_second(a);
     switch (founded_word(a)) {
@@ -196,7 +200,7 @@ static size_t say_written(uint64_t a, const void *bytes, size_t values)
             if (said(i, entries))
                 say_entry(bytes, i);
         return 4 * entries;
-    case FOUNDED_WRITTEN: say_file(bytes, founded_length(a)); return founded_length(a);
+    case FOUNDED_WRITTEN: say_file(which, bytes, founded_length(a)); return founded_length(a);
     case FOUNDED_BEGUN: say_sets(bytes, founded_first(a)); return WORD * FOUNDED_SET_WORDS * founded_first(a);
     default: return 0;
     }
@@ -248,7 +252,7 @@ static uint64_t try(const char *name, enum which which, const uint8_t *file, siz
     struct call c = {which, file, assignment, marks, n, m, lent, 0, 0, 0, 0};
     uint64_t answer = twice(name, c);
     say(answer);
-    size_t written = say_written(answer, left, m / 2);
+    size_t written = say_written(which, answer, left, m / 2);
     unwritten_from(name, written, lent);
     printf("\n");
     return answer;
@@ -301,17 +305,40 @@ static void constraint(unsigned form, int c)
     put_number(c);
 }
 
+/* the last field gets so many bytes more */
+static void lengthen(int n)
+{
+    uint8_t *length = built.bytes + built.field + 1;
+    founded_assign(length, 0, founded_number(length) + n);
+}
+
 /* one term more in the last field */
 static void term(unsigned v, unsigned op, int n)
 {
-    uint8_t *length = built.bytes + built.field + 1;
-    founded_assign(length, 0, founded_number(length) + 4);
+    lengthen(4);
     put(v);
     put(op);
     put_number(n);
 }
 
-enum { STANDARD, FOUNDED, FROM_ABOVE, SUM = 1, MAX, MIN, PRODUCT, SIZE, IF, CARRY, DIVIDED };
+/* a tree for this head with these nodes, 2 bytes each: a leaf and its variable, or an inner node and its count of children */
+static void tree(unsigned head, const uint8_t *nodes, size_t n)
+{
+    begin(FOUNDED_TREE_TAG, 1 + (int)n);
+    put(head);
+    for (size_t i = 0; i < n; i++)
+        put(nodes[i]);
+}
+
+/* one node more in the last field */
+static void node(unsigned byte, unsigned second)
+{
+    lengthen(2);
+    put(byte);
+    put(second);
+}
+
+enum { STANDARD, FOUNDED, FROM_ABOVE, LEAF = 0, SUM, MAX, MIN, PRODUCT, SIZE, IF, CARRY, DIVIDED };
 enum { PLAIN, OVER, UNDER, DIVISOR };
 
 static void variables(size_t n, unsigned kind, int low, int high)
@@ -328,6 +355,8 @@ static uint64_t try_begin(const char *name, size_t words) { return try(name, BEG
 
 static void try_normalize(const char *name, size_t lent) { try(name, NORMALIZE, built.bytes, built.len, NULL, 0, lent); }
 
+static void try_flatten(const char *name, size_t lent) { try(name, FLATTEN, built.bytes, built.len, NULL, 0, lent); }
+
 /* values of the built file, and so many lent bytes */
 static void try_on(const char *name, enum which which, const int *values, size_t n, size_t lent)
 {
@@ -341,11 +370,12 @@ static void try_on(const char *name, enum which which, const int *values, size_t
 
 enum { SETS = FOUNDED_SET_WORDS * FOUNDED_MAX_VARIABLES };
 
-/* a file that is read, and whose search is begun with words for every variable that there can be */
+/* a file that is read, whose search is begun with words for every variable that there can be, and that is flattened */
 static void row(const char *name, const uint8_t *bytes, size_t n)
 {
     try(name, READ, bytes, n, NULL, 0, 0);
     try(name, BEGIN, bytes, n, NULL, 0, WORD * SETS);
+    try(name, FLATTEN, bytes, n, NULL, 0, FOUNDED_MAX_FILE);
 }
 
 static void row_built(const char *name) { row(name, built.bytes, built.len); }
@@ -1012,7 +1042,377 @@ static void huge_numbers(void)
     }
 }
 
-/* ---- threads at the same time, over one file and one assignment */
+/* ---- nested files converted to plain ones */
+
+/* a in 0..100, standard r in 0..60, d and e in 0..30, a >= r + max(d, e) */
+static void reach(void)
+{
+    fresh();
+    variable(FOUNDED, 0, 100);
+    variable(STANDARD, 0, 60);
+    variables(2, STANDARD, 0, 30);
+    tree(0, BYTES(SUM, 2, LEAF, 1, MAX, 2, LEAF, 2, LEAF, 3));
+}
+
+/*
+ * a in 0..50, b from above in 0..50, standard s in -5..12, d in 1..9, standard e in 2..3, d >= 4, s <= 7, and three trees:
+ * a >= max(s, min(d, b)) + e + sum(a), b <= min(d + s, b), d >= s
+ */
+static void three_trees(void)
+{
+    fresh();
+    variable(FOUNDED, 0, 50);
+    variable(FROM_ABOVE, 0, 50);
+    variable(STANDARD, -5, 12);
+    variable(FOUNDED, 1, 9);
+    variable(STANDARD, 2, 3);
+    rule(SUM, 3, 4);
+    constraint(1, -7);
+    term(2, PLAIN, 1);
+    tree(0, BYTES(SUM, 3, MAX, 2, LEAF, 2, MIN, 2, LEAF, 3, LEAF, 1, LEAF, 4, SUM, 1, LEAF, 0));
+    tree(1, BYTES(MIN, 2, SUM, 2, LEAF, 3, LEAF, 2, LEAF, 1));
+    tree(3, BYTES(LEAF, 2));
+}
+
+/* a tree of so many levels, for a variable that is also its leaf */
+static void deep(unsigned v, size_t levels)
+{
+    tree(v, NULL, 0);
+    for (size_t i = 1; i < levels; i++)
+        node(SUM, 1);
+    node(LEAF, v);
+}
+
+/* trees of all levels, which add 126 variables, beside a size of a mixed variable */
+static void deep_trees(void)
+{
+    fresh();
+    variables(130, FOUNDED, -10, 10);
+    rule(SIZE, 0, 0);
+    term(129, PLAIN, 0);
+    for (unsigned v = 0; v < 21; v++)
+        deep(v, FOUNDED_MAX_LEVELS);
+}
+
+/* the built file has no tree, and comes out as it is */
+static void try_unchanged(const char *name, size_t lent)
+{
+    try_flatten(name, lent);
+    if (memcmp(left, built.bytes, built.len) != 0)
+        fail(name, "a file without trees is changed");
+}
+
+static void flattened(void)
+{
+    fresh();
+    try_unchanged("empty", 0);
+    try_unchanged("empty, more lent", 5);
+    printing_example();
+    try_unchanged("printing example", 57);
+    one_plan();
+    try_unchanged("one plan, more lent", 70);
+    longest();
+    try_unchanged("longest file", FOUNDED_MAX_FILE);
+    reach();
+    try_flatten("reach", 70);
+    try_flatten("reach, more lent", 75);
+    three_trees();
+    try_flatten("three trees", 190);
+    deep_trees();
+    try_flatten("21 trees of 8 levels", FOUNDED_MAX_FILE);
+}
+
+static void plain_readers(void)
+{
+    reach();
+    try_read("reach");
+    both("reach 42 30 5 12", VALUES(42, 30, 5, 12), 8, 48);
+    try_normalize("reach", 46);
+    try_begin("reach", 16);
+}
+
+/* ---- refusals of nested files */
+
+/* reach with these bytes after it */
+static void after(const char *name, const uint8_t *bytes, size_t n)
+{
+    reach();
+    for (size_t i = 0; i < n; i++)
+        put(bytes[i]);
+    try_flatten(name, 200);
+}
+
+static void after_a_tree(void)
+{
+    after("row 2 after a tree, a byte", BYTES(5));
+    after("row 2 after a tree, a length short", BYTES(5, 0));
+    after("row 2 after a tree, a byte short", BYTES(5, 0, 3, 0, 0));
+    after("row 2 before row 3", BYTES(4, 0, 1));
+    after("row 3 after a tree, tag 0", BYTES(0, 0, 0));
+    after("row 3 after a tree, tag 4", BYTES(4, 0, 0));
+    after("row 3 after a tree, tag 6", BYTES(6, 0, 0));
+    after("row 4 after a tree, a variable", BYTES(1, 0, 5, 0, 0, 0, 0, 1));
+    after("row 4 after a tree, a rule", BYTES(2, 0, 4, 1, 0, 0, 0));
+    after("row 4 after a tree, a constraint", BYTES(3, 0, 3, 1, 0, 0));
+    after("row 4 before row 6", BYTES(3, 0, 0));
+    after("row 18 after a tree", BYTES(5, 0, 0));
+    reach();
+    built.len--;
+    try_flatten("row 2, a tree", 200);
+    fresh();
+    begin(4, 0);
+    try_flatten("row 3, tag 4", 200);
+}
+
+/* a in 0..9 and this tree for a variable */
+static void a_tree(const char *name, unsigned head, const uint8_t *nodes, size_t n)
+{
+    fresh();
+    variable(FOUNDED, 0, 9);
+    tree(head, nodes, n);
+    try_flatten(name, 200);
+}
+
+static void some_levels(size_t n, const char *name)
+{
+    fresh();
+    variable(FOUNDED, 0, 9);
+    deep(0, n);
+    try_flatten(name, 200);
+}
+
+static void some_children(unsigned n, const char *name)
+{
+    fresh();
+    variables(20, FOUNDED, 0, 9);
+    tree(0, BYTES(MAX, (uint8_t)n));
+    for (unsigned i = 0; i < n; i++)
+        node(LEAF, i);
+    try_flatten(name, 300);
+}
+
+/* 16 children on each of three levels: 4,096 leaves, and 272 inner nodes besides the root */
+static void thousands(void)
+{
+    fresh();
+    variable(FOUNDED, 0, 9);
+    tree(0, BYTES(SUM, 16));
+    for (int i = 0; i < 4096; i++) {
+        if (i % 256 == 0)
+            node(SUM, 16);
+        if (i % 16 == 0)
+            node(SUM, 16);
+        node(LEAF, 0);
+    }
+}
+
+static void malformed(void)
+{
+    a_tree("a leaf", 0, BYTES(LEAF, 0));
+    fresh();
+    begin(FOUNDED_TREE_TAG, 0);
+    try_flatten("row 18, no head", 200);
+    a_tree("row 18, no tree", 0, NULL, 0);
+    a_tree("row 18, no tree for no variable", 1, NULL, 0);
+    a_tree("row 18, a leaf without its variable", 0, BYTES(LEAF));
+    a_tree("row 18, a sum without its count", 0, BYTES(SUM));
+    a_tree("row 18, a sum without its child", 0, BYTES(SUM, 1));
+    a_tree("row 18, the second child missing", 0, BYTES(SUM, 2, LEAF, 0));
+    a_tree("row 18, half a child missing", 0, BYTES(SUM, 2, LEAF, 0, LEAF));
+    a_tree("row 18, a byte over", 0, BYTES(LEAF, 0, 0));
+    a_tree("row 18, a leaf over", 0, BYTES(SUM, 1, LEAF, 0, LEAF, 0));
+    a_tree("row 18, a tree over", 0, BYTES(LEAF, 0, SUM, 1, LEAF, 0));
+    a_tree("row 18, node byte 4", 0, BYTES(4, 1, LEAF, 0));
+    a_tree("row 18, node byte 255 of a child", 0, BYTES(SUM, 1, 255, 0));
+    a_tree("row 18, no children", 0, BYTES(SUM, 0));
+    a_tree("row 18, a child without children", 0, BYTES(SUM, 1, MAX, 0));
+    some_children(FOUNDED_MAX_CHILDREN, "most children");
+    some_children(FOUNDED_MAX_CHILDREN + 1, "row 18, a child too many");
+    some_levels(FOUNDED_MAX_LEVELS, "most levels");
+    some_levels(FOUNDED_MAX_LEVELS + 1, "row 18, a level too many");
+    some_levels(1000, "row 18, 1000 levels");
+    a_tree("row 18, a level too many in a second child", 0,
+           BYTES(SUM, 2, LEAF, 0, SUM, 1, SUM, 1, SUM, 1, SUM, 1, SUM, 1, SUM, 1, SUM, 1, LEAF, 0));
+    thousands();
+    try_flatten("row 5, thousands of nodes", FOUNDED_MAX_FILE);
+    node(LEAF, 0);
+    try_flatten("row 18 before row 5, thousands of nodes and one over", FOUNDED_MAX_FILE);
+}
+
+/* so many variables in 0..10 and rules, then trees for variable 0: so many leaves, and so many that add a variable and two rules */
+static void many(size_t n, size_t rules, size_t leaves, size_t trees, const char *name)
+{
+    fresh();
+    variables(n, FOUNDED, 0, 10);
+    for (size_t i = 0; i < rules; i++)
+        rule(SUM, 0, 0);
+    for (size_t i = 0; i < leaves; i++)
+        tree(0, BYTES(LEAF, 0));
+    for (size_t i = 0; i < trees; i++)
+        tree(0, BYTES(SUM, 1, MAX, 1, LEAF, 0));
+    try_flatten(name, FOUNDED_MAX_FILE);
+}
+
+/* a in 0..10, all rules, and this tree */
+static void full(unsigned head, const uint8_t *nodes, size_t n, const char *name)
+{
+    fresh();
+    variable(FOUNDED, 0, 10);
+    for (size_t i = 0; i < FOUNDED_MAX_RULES; i++)
+        rule(SUM, 0, 0);
+    tree(head, nodes, n);
+    try_flatten(name, FOUNDED_MAX_FILE);
+}
+
+static void too_many(void)
+{
+    many(255, 0, 0, 1, "255 variables and one added");
+    many(255, 0, 0, 2, "row 5, 255 variables and two added");
+    many(256, 0, 1, 0, "256 variables and none added");
+    many(256, 0, 0, 1, "row 5, 256 variables and one added");
+    many(1, 2047, 1, 0, "2047 rules and one added");
+    many(1, 2048, 1, 0, "row 5, 2048 rules and one added");
+    many(1, 2046, 0, 1, "2046 rules and two added");
+    many(1, 2047, 0, 1, "row 5, 2047 rules and two added");
+    many(1, 0, 2048, 0, "2048 trees");
+    many(1, 0, 2049, 0, "row 5, 2049 trees");
+    fresh();
+    variables(255, FOUNDED, 0, 10);
+    tree(0, BYTES(SUM, 2, MAX, 1, LEAF, 0, MAX, 1, LEAF, 1));
+    try_flatten("row 5, 255 variables and two added by one tree", FOUNDED_MAX_FILE);
+    fresh();
+    variables(256, FOUNDED, 0, 10);
+    tree(0, BYTES(SUM, 2, MAX, 1, LEAF, 0, LEAF, 0));
+    try_flatten("row 5 before row 11", FOUNDED_MAX_FILE);
+    full(1, BYTES(LEAF, 0), "row 5 before row 9");
+    full(0, NULL, 0, "row 18 before row 5");
+}
+
+/* a and standard s in 0..9, a tree that adds variable 2, and this one */
+static void second_tree(const char *name, unsigned head, const uint8_t *nodes, size_t n)
+{
+    fresh();
+    variable(FOUNDED, 0, 9);
+    variable(STANDARD, 0, 9);
+    tree(0, BYTES(SUM, 1, MAX, 1, LEAF, 0));
+    tree(head, nodes, n);
+    try_flatten(name, 200);
+}
+
+static void named(void)
+{
+    second_tree("the head is a leaf, of both trees", 0, BYTES(LEAF, 0));
+    second_tree("a standard leaf", 0, BYTES(LEAF, 1));
+    second_tree("row 9, a leaf has the number of an added variable", 0, BYTES(LEAF, 2));
+    second_tree("row 9, a leaf is not declared", 0, BYTES(SUM, 2, LEAF, 0, LEAF, 255));
+    second_tree("row 9, a head has the number of an added variable", 2, BYTES(LEAF, 0));
+    second_tree("row 9, a standard head", 1, BYTES(LEAF, 0));
+    second_tree("row 9 before row 11", 0, BYTES(SUM, 3, LEAF, 0, LEAF, 0, LEAF, 2));
+    second_tree("row 11, in one node", 0, BYTES(SUM, 2, LEAF, 1, LEAF, 1));
+    second_tree("row 11, in two nodes", 0, BYTES(SUM, 2, MAX, 2, LEAF, 0, LEAF, 1, MIN, 1, LEAF, 1));
+    fresh();
+    tree(0, BYTES(LEAF, 0));
+    try_flatten("row 9, no variables", 200);
+}
+
+/*
+ * a in 0..9, standard variables 1 to 3 in 0..20000, 0..10000, 0..1, 4 to 6 in -20000..0, -10000..0, -1..0, 7 to 9 in 0..30000, 0..30000,
+ * 0..5536, and this tree for a
+ */
+static void ranged(const char *name, const uint8_t *nodes, size_t n)
+{
+    static const int lows[] = {0, 0, 0, -20000, -10000, -1, 0, 0, 0}, highs[] = {20000, 10000, 1, 0, 0, 0, 30000, 30000, 5536};
+    fresh();
+    variable(FOUNDED, 0, 9);
+    for (int i = 0; i < 9; i++)
+        variable(STANDARD, lows[i], highs[i]);
+    tree(0, nodes, n);
+    try_flatten(name, 200);
+}
+
+static void ranges(void)
+{
+    ranged("a range to 30000", BYTES(SUM, 1, SUM, 2, LEAF, 1, LEAF, 2));
+    ranged("row 19, a range to 30001", BYTES(SUM, 1, SUM, 3, LEAF, 1, LEAF, 2, LEAF, 3));
+    ranged("a range from -30000", BYTES(SUM, 1, SUM, 2, LEAF, 4, LEAF, 5));
+    ranged("row 19, a range from -30001", BYTES(SUM, 1, SUM, 3, LEAF, 4, LEAF, 5, LEAF, 6));
+    ranged("a root's values to 30001", BYTES(SUM, 3, LEAF, 1, LEAF, 2, LEAF, 3));
+    ranged("row 19, a range to 30001 above one to 30000", BYTES(SUM, 1, SUM, 2, LEAF, 3, SUM, 2, LEAF, 1, LEAF, 2));
+    ranged("row 19, a range to 65536", BYTES(SUM, 1, SUM, 3, LEAF, 7, LEAF, 8, LEAF, 9));
+    ranged("row 19, under a smaller min", BYTES(SUM, 1, MIN, 2, LEAF, 6, SUM, 3, LEAF, 1, LEAF, 2, LEAF, 3));
+    ranged("row 11 before row 19", BYTES(SUM, 1, SUM, 3, LEAF, 1, LEAF, 2, LEAF, 1));
+}
+
+/* a of this kind in low..high, b in -10..10, standard s in -30..most, a by the rule |b|, and this tree for b */
+static void circle(const char *name, unsigned kind, int low, int high, int most, const uint8_t *nodes, size_t n)
+{
+    fresh();
+    variable(kind, low, high);
+    variable(FOUNDED, -10, 10);
+    variable(STANDARD, -30, most);
+    rule(SIZE, 0, 0);
+    term(1, PLAIN, 0);
+    tree(1, nodes, n);
+    try_flatten(name, 200);
+}
+
+/*
+ * 20 variables in low..10, 0 >= |19|, 1 >= 0, 842 rules of 16 terms, then a constraint, or a rule, which has a byte more, and the tree
+ * 19 >= sum(max(0)). The plain file has 60,000 bytes, or one more.
+ */
+static void filled(int low, bool one_more)
+{
+    fresh();
+    variables(20, FOUNDED, low, 10);
+    rule(SIZE, 0, 0);
+    term(19, PLAIN, 0);
+    rule(SUM, 1, 0);
+    term(0, PLAIN, 1);
+    for (int i = 0; i < 842; i++) {
+        rule(SUM, 2, -1000);
+        for (unsigned v = 3; v < 19; v++)
+            term(v, PLAIN, 1);
+    }
+    if (one_more)
+        rule(SUM, 2, 0);
+    else
+        constraint(1, 0);
+    tree(19, BYTES(SUM, 1, MAX, 1, LEAF, 0));
+}
+
+static void circles(void)
+{
+    circle("b >= s + max(a), s to -20", FOUNDED, 0, 10, -20, BYTES(SUM, 2, LEAF, 2, MAX, 1, LEAF, 0));
+    circle("row 13, b >= s + max(a), s to -19", FOUNDED, 0, 10, -19, BYTES(SUM, 2, LEAF, 2, MAX, 1, LEAF, 0));
+    circle("b >= s + max(a), a is 3", FOUNDED, 3, 3, 0, BYTES(SUM, 2, LEAF, 2, MAX, 1, LEAF, 0));
+    circle("row 13, b >= s + a, a is 3", FOUNDED, 3, 3, 0, BYTES(SUM, 2, LEAF, 2, LEAF, 0));
+    circle("b >= s + max(a), a from above", FROM_ABOVE, 0, 10, 0, BYTES(SUM, 2, LEAF, 2, MAX, 1, LEAF, 0));
+    filled(-10, false);
+    try_flatten("row 13, 60000 bytes, nothing lent", 0);
+    filled(-10, true);
+    try_flatten("row 13, 60001 bytes", FOUNDED_MAX_FILE);
+}
+
+static void room(void)
+{
+    reach();
+    try_flatten("reach, row 17", 69);
+    try_flatten("reach, as much lent as is read", 46);
+    try_flatten("reach, nothing lent", 0);
+    printing_example();
+    try_flatten("printing example, row 17", 56);
+    filled(0, false);
+    try_flatten("60000 bytes", FOUNDED_MAX_FILE);
+    try_flatten("60000 bytes, more lent", FOUNDED_MAX_FILE + 1);
+    try_flatten("60000 bytes, row 17", FOUNDED_MAX_FILE - 1);
+    filled(0, true);
+    try_flatten("60001 bytes", FOUNDED_MAX_FILE + 1);
+    longest();
+    tree(0, BYTES(LEAF, 0));
+    try_flatten("a tree more than the longest file", FOUNDED_MAX_FILE);
+}
+
+/* ---- threads at the same time, over the same files and one assignment */
 
 struct worker {
     pthread_t thread;
@@ -1032,6 +1432,17 @@ static bool searches_right(void)
     return right && firsts[0] == 0 && firsts[1] == 1 && firsts[2] == 1;
 }
 
+/* reach, and its plain file */
+static struct file nested;
+static uint8_t plain[70];
+
+static bool flattens_right(void)
+{
+    uint8_t again[sizeof plain];
+    uint64_t flatten = founded_flatten(nested.bytes, nested.len, again, sizeof again);
+    return founded_word(flatten) == FOUNDED_WRITTEN && founded_length(flatten) == sizeof plain && memcmp(again, plain, sizeof plain) == 0;
+}
+
 static void *works(void *p)
 {
     struct worker *w = p;
@@ -1047,7 +1458,7 @@ static void *works(void *p)
         uint64_t normalize = founded_normalize(built.bytes, built.len, normal, sizeof normal);
         w->right &= founded_word(normalize) == FOUNDED_WRITTEN && founded_length(normalize) == 57 && normal[56] == 1;
         w->right &= founded_entry_variable(report, 1) == 2 && founded_entry_mark(report, 2) == FOUNDED_AT_MOST;
-        w->right &= searches_right();
+        w->right &= searches_right() && flattens_right();
     }
     return NULL;
 }
@@ -1056,6 +1467,9 @@ static void at_once(void)
 {
     static const uint8_t assignment[] = {0, 0, 0, 1, 0, 1};
     struct worker workers[4];
+    reach();
+    nested = built;
+    founded_flatten(nested.bytes, nested.len, plain, sizeof plain);
     printing_example();
     for (int i = 0; i < 4; i++) {
         workers[i].assignment = assignment;
@@ -1089,6 +1503,15 @@ int main(int argc, char **argv)
     steps();
     components();
     huge_numbers();
+    flattened();
+    plain_readers();
+    after_a_tree();
+    malformed();
+    too_many();
+    named();
+    ranges();
+    circles();
+    room();
     at_once();
     for (int i = 0; i < COUNT; i++)
         if (deepest[i] + MARGIN > STACKS[i])

@@ -17,6 +17,15 @@ static void search()
     std::printf("%d %d %d %d\n", founded_has(bits, 1, 0), founded_has(bits, 1, 255), founded_has(bits, 1, 254), founded_has(bits, 0, 0));
 }
 
+// variable 0 is at least itself, by a tree that is a leaf
+static void flatten()
+{
+    const uint8_t nested[] = {1, 0, 5, 1, 0, 0, 0, 1, FOUNDED_TREE_TAG, 0, 3, 0, 0, 0};
+    uint8_t plain[19];
+    uint64_t flatten = founded_flatten(nested, sizeof nested, plain, sizeof plain);
+    std::printf("%u %u %u\n", founded_word(flatten), (unsigned)founded_length(flatten), plain[18]);
+}
+
 int main()
 {
     const uint8_t file[] = {1, 0, 5, 1, 0xff, 0xff, 0, 1};
@@ -33,5 +42,6 @@ int main()
     std::printf("%u %u %u\n", founded_word(normalize), (unsigned)founded_length(normalize), normal[7]);
     std::printf("%x\n", (unsigned)founded_length((uint64_t)0x89abcdef << 8 | FOUNDED_WRITTEN));
     search();
+    flatten();
     return 0;
 }

@@ -21,6 +21,8 @@ pub fn denial_number(why: Denied) -> usize
         Denied::Assignment => 14,
         Denied::Buffer => 15,
         Denied::Room => 17,
+        Denied::Tree(_) => 18,
+        Denied::Added(_) => 19,
     }
 }
 
@@ -32,6 +34,8 @@ pub fn denial_place(why: Denied) -> usize
         Denied::Assignment => 0,
         Denied::Buffer => 0,
         Denied::Room => 0,
+        Denied::Tree(at) => at,
+        Denied::Added(at) => at,
     }
 }
 

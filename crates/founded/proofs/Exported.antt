@@ -13,14 +13,17 @@ use Rattle.verdict.specs.Demands.{Demands}
 use Rattle.normal.specs.Normalizes.{Normalizes}
 use Rattle.normal.specs.Normalizes as normalize
 use Rattle.normal.proofs.Calls.{normalize-demands}
+use Rattle.nested.specs.FlattenCall.{FlattenCall}
+use Rattle.nested.proofs.FlattenDemanded.{flatten-demanded}
+use Rattle.nested.proofs.Sentences.{flattened-sentence}
 use Rattle.search.specs.BeginCall.{BeginCall}
 use Rattle.search.specs.BeginCall as begin
 use Rattle.search.proofs.BeginDetermined.{begin-demands}
 use Rattle.packing.specs.declared.Parts.{Parts}
 use Rattle.packing.specs.Packing.{packed, unpacked, lengthIn, readParts, leastParts, checkParts, normalizeParts, beginParts}
-use Rattle.founded.specs.Exports.{ExportedRead, ExportedLeast, ExportedCheck, ExportedNormalize, ExportedBegin}
-use Rattle.packing.proofs.Bounds.{length-short}
-use Rattle.packing.proofs.Unpacked.{read-unpacks, least-unpacks, check-unpacks, normalize-unpacks, begin-unpacks, length-back}
+use Rattle.founded.specs.Exports.{ExportedRead, ExportedLeast, ExportedCheck, ExportedNormalize, ExportedFlatten, ExportedBegin}
+use Rattle.packing.proofs.Bounds.{length-short, flat-short}
+use Rattle.packing.proofs.Unpacked.{read-unpacks, least-unpacks, check-unpacks, normalize-unpacks, flatten-unpacks, begin-unpacks, length-back}
 
 module _ {p : Parts} {r : ℕ} (e : r ≡ packed p) where
   pub exported-read : {s : List ℕ} {x : read.Answer} → Reads s x → p ≡ readParts x → ExportedRead s r
@@ -49,6 +52,20 @@ module _ {p : Parts} {r : ℕ} (e : r ≡ packed p) where
         unpacks = ap unpacked d ∙ normalize-unpacks y h;
         length-told = λ n f. ap lengthIn (d ∙ ap (λ (z : normalize.Answer). packed (normalizeParts z)) f)
             ∙ length-back n (length-short y (subst (λ z. Normalizes s b z b′) f h));
+      }
+
+  pub exported-flatten : {s b b′ : List ℕ} {x : normalize.Answer} → Bytes s → FlattenCall s b x b′ → p ≡ normalizeParts x → ExportedFlatten s b r b′
+  exported-flatten {s} {b} {b′} {x} y h q =
+      let d : r ≡ packed (normalizeParts x) = e ∙ ap packed q in
+      record {
+        answer = x;
+        flattens = h;
+        demands = flatten-demanded y h;
+        same-stable = λ n f. flattened-sentence (subst (λ z. FlattenCall s b z b′) f h);
+        is-packed = d;
+        unpacks = ap unpacked d ∙ flatten-unpacks h;
+        length-told = λ n f. ap lengthIn (d ∙ ap (λ (z : normalize.Answer). packed (normalizeParts z)) f)
+            ∙ length-back n (flat-short (subst (λ z. FlattenCall s b z b′) f h));
       }
 
   pub exported-begin : {s w w′ : List ℕ} {x : begin.Answer} → BeginCall s w x w′ → p ≡ beginParts x → ExportedBegin s w r w′

@@ -2,6 +2,7 @@
 use Prim.Native.Nat.{ℕ}
 use mathlib.Core.Path.{_≡_}
 use mathlib.Core.List.{List}
+use lib.ListN.{take}
 use Rattle.program.specs.Reading.{Reads}
 use Rattle.program.specs.Reading as read
 use Rattle.meaning.specs.LeastCall.{LeastCall}
@@ -12,6 +13,9 @@ use Rattle.verdict.specs.Demands.{Demands}
 use Rattle.normal.specs.Normalizes.{Normalizes, written}
 use Rattle.normal.specs.Normalizes as normalize
 use Rattle.normal.specs.NormalizeDemands.{NormalizeDemands}
+use Rattle.nested.specs.FlattenCall.{FlattenCall}
+use Rattle.nested.specs.FlattenDemands.{FlattenDemands}
+use Rattle.nested.specs.Sentences.{Flattened}
 use Rattle.search.specs.BeginCall.{BeginCall}
 use Rattle.search.specs.BeginCall as begin
 use Rattle.search.specs.BeginDemands.{BeginDemands}
@@ -40,6 +44,16 @@ pub record ExportedNormalize (s b : List ℕ) (r : ℕ) (b′ : List ℕ) : Type
   pub answer : normalize.Answer
   pub normalizes : Normalizes s b answer b′
   pub demands : NormalizeDemands s b answer b′
+  pub is-packed : r ≡ packed (normalizeParts answer)
+  pub unpacks : unpacked r ≡ normalizeParts answer
+  pub length-told : (n : ℕ) → answer ≡ written n → lengthIn r ≡ n
+
+pub record ExportedFlatten (s b : List ℕ) (r : ℕ) (b′ : List ℕ) : Type 0 where
+  pub answer : normalize.Answer
+  pub flattens : FlattenCall s b answer b′
+  pub demands : FlattenDemands s b answer b′
+  -- where it is not turned down, its output is an accepted plain file with the nested file's stable assignments
+  pub same-stable : (n : ℕ) → answer ≡ written n → Flattened s (take n b′)
   pub is-packed : r ≡ packed (normalizeParts answer)
   pub unpacks : unpacked r ≡ normalizeParts answer
   pub length-told : (n : ℕ) → answer ≡ written n → lengthIn r ≡ n

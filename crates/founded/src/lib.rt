@@ -6,7 +6,7 @@ ghost use Rattle.walks.specs.Walk.{Round};
 ghost use Rattle.reach.specs.Rows.{rowHas};
 ghost use Rattle.reach.specs.Stepping.{Steps};
 ghost use Rattle.sharing.specs.Sharing.{Names};
-ghost use Rattle.founded.specs.Exports.{ExportedRead, ExportedLeast, ExportedCheck, ExportedNormalize, ExportedBegin};
+ghost use Rattle.founded.specs.Exports.{ExportedRead, ExportedLeast, ExportedCheck, ExportedNormalize, ExportedFlatten, ExportedBegin};
 use packing::of_beginning;
 use packing::of_reading;
 use packing::of_rewriting;
@@ -44,6 +44,14 @@ pub extern "C" fn founded_normalize(file: &[u8], buffer: &mut [u8]) -> u64
     ensures { λ r. ⌜ ExportedNormalize (now (file .entry)) (now (buffer .entry)) r (now (buffer .exit)) ⌝ }
 {
     pack(of_rewriting(rewriting::call::normalize(file, buffer)))
+}
+
+// The plain file of a nested one, written from the buffer's first byte on.
+#[no_mangle]
+pub extern "C" fn founded_flatten(nested: &[u8], buffer: &mut [u8]) -> u64
+    ensures { λ r. ⌜ ExportedFlatten (now (nested .entry)) (now (buffer .entry)) r (now (buffer .exit)) ⌝ }
+{
+    pack(of_rewriting(flattening::flatten(nested, buffer)))
 }
 
 // The sets before the first round of the search of the file's components, written from the first word on.

@@ -3,12 +3,15 @@
 use program::Counts;
 use program::Refusal;
 
-// Why a call is turned down: the file, the assignment's length (14), the lent buffer's, by the variables (15) or by what is written (17).
+// Why a call is turned down: the file, the assignment's length (14), the lent buffer's, by the variables (15) or by what is written (17); a tree that is not
+// well formed (18), or whose added variables' ranges are too wide (19), with the place of its field.
 pub enum Denied {
     File(Refusal, usize),
     Assignment,
     Buffer,
     Room,
+    Tree(usize),
+    Added(usize),
 }
 
 // How a call begins: it is turned down, or its file has these counts.

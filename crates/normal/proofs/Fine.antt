@@ -21,7 +21,7 @@ use Rattle.normal.proofs.Rearranged.{Rearranged}
 use Rattle.normal.proofs.Folds.{some-same, rule-rearranged, constraint-rearranged}
 
 -- where no condition is met, there is no refusal
-fine-item : {vs : List Variable} {it : Item} → ItemFine vs it → itemRefusal vs it ≡ 0
+pub fine-item : {vs : List Variable} {it : Item} → ItemFine vs it → itemRefusal vs it ≡ 0
 unfolding itemRefusal
 fine-item f = rw (f .formed, f .ranged, f .declared, f .counted, f .once, f .product)
 

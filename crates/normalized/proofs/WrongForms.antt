@@ -25,11 +25,11 @@ use Rattle.normalized.proofs.Samples.{samples, repeated-read}
 -- ---- one answer, one output
 
 -- which case an answer is, and its first number
-abbrev word : Answer → ℕ
+abbrev pub word : Answer → ℕ
 word (refusal n at) = 0
 word (written n) = 1
 
-abbrev first : Answer → ℕ
+abbrev pub first : Answer → ℕ
 first (refusal n at) = n
 first (written n) = n
 

@@ -23,6 +23,9 @@ use Rattle.verdict.specs.Checks as check
 use Rattle.normal.specs.Normalizes.{Normalizes, shorter}
 use Rattle.normal.specs.Normalizes as normalize
 use Rattle.normal.proofs.Calls.{normalize-demands}
+use Rattle.nested.specs.FlattenCall.{FlattenCall, flattened}
+use Rattle.nested.specs.FlattenCall as flatten
+use Rattle.nested.proofs.FlattenDemanded.{refused-small}
 use Rattle.search.specs.BeginCall.{TurnedDown, BeginCall, short}
 use Rattle.search.specs.BeginCall as begin
 use Rattle.packing.specs.Packing.{parts, Fits, readParts, leastParts, checkParts, lengthParts, normalizeParts, beginParts}
@@ -116,6 +119,14 @@ module _ {s b : List ℕ} (y : Bytes s) where
   pub normalize-fits : {x : normalize.Answer} {b′ : List ℕ} → Normalizes s b x b′ → Fits (normalizeParts x)
   normalize-fits (normalize.turned-down r) = refuses-fits (shorter-small s b) r
   normalize-fits (normalize.rewritten c n) = length-fits _ (length-short (normalize.rewritten c n))
+
+-- the plain file of a nested one has at most 60,000 bytes
+pub flat-short : {s b b′ : List ℕ} {n : ℕ} → FlattenCall s b (normalize.written n) b′ → n < 4294967296
+flat-short (flattened a h) = omega (arith, h .short)
+
+pub flatten-fits : {s b b′ : List ℕ} {x : normalize.Answer} → FlattenCall s b x b′ → Fits (normalizeParts x)
+flatten-fits (flatten.turned-down r) = let f = refused-small r in two 6 _ _ (omega arith) (omega (arith, f .0)) (omega (arith, f .1))
+flatten-fits (flattened a h) = length-fits _ (flat-short (flattened a h))
 
 short-small : (w : List ℕ) (P : Program) → Every Small (short w P)
 short-small w P = ((omega arith, λ at x. omega (arith, x .1)), tt)

@@ -13,11 +13,12 @@ use Rattle.verdict.specs.Checks.{Checks}
 use Rattle.verdict.specs.Checks as check
 use Rattle.normal.specs.Normalizes.{Normalizes}
 use Rattle.normal.specs.Normalizes as normalize
+use Rattle.nested.specs.FlattenCall.{FlattenCall}
 use Rattle.search.specs.BeginCall.{BeginCall}
 use Rattle.search.specs.BeginCall as begin
 use Rattle.packing.specs.declared.Parts.{Parts}
 use Rattle.packing.specs.Packing.{Fits, packed, unpacked, lengthIn, readParts, leastParts, checkParts, lengthParts, normalizeParts, beginParts}
-use Rattle.packing.proofs.Bounds.{read-fits, least-fits, check-fits, normalize-fits, begin-fits}
+use Rattle.packing.proofs.Bounds.{read-fits, least-fits, check-fits, normalize-fits, flatten-fits, begin-fits}
 
 module _ (p : Parts) (f : Fits p) where
   same-word : packed p % 256 ≡ p .word
@@ -51,6 +52,9 @@ check-unpacks r = unpack _ (check-fits r)
 
 pub normalize-unpacks : {s b b′ : List ℕ} {x : normalize.Answer} → Bytes s → Normalizes s b x b′ → unpacked (packed (normalizeParts x)) ≡ normalizeParts x
 normalize-unpacks y r = unpack _ (normalize-fits y r)
+
+pub flatten-unpacks : {s b b′ : List ℕ} {x : normalize.Answer} → FlattenCall s b x b′ → unpacked (packed (normalizeParts x)) ≡ normalizeParts x
+flatten-unpacks r = unpack _ (flatten-fits r)
 
 pub begin-unpacks : {s w w′ : List ℕ} {x : begin.Answer} → BeginCall s w x w′ → unpacked (packed (beginParts x)) ≡ beginParts x
 begin-unpacks r = unpack _ (begin-fits r)
@@ -132,6 +136,11 @@ pub normalize-injective : {s b b′ t d d′ : List ℕ} {x y : normalize.Answer
     → packed (normalizeParts x) ≡ packed (normalizeParts y) → x ≡ y
 normalize-injective {x = x} {y} h r k q e =
     sym (normalize-back x) ∙ ap normalizeOf (sym (normalize-unpacks h r) ∙ ap unpacked e ∙ normalize-unpacks k q) ∙ normalize-back y
+
+pub flatten-injective : {s b b′ t d d′ : List ℕ} {x y : normalize.Answer} → FlattenCall s b x b′ → FlattenCall t d y d′
+    → packed (normalizeParts x) ≡ packed (normalizeParts y) → x ≡ y
+flatten-injective {x = x} {y} r q e =
+    sym (normalize-back x) ∙ ap normalizeOf (sym (flatten-unpacks r) ∙ ap unpacked e ∙ flatten-unpacks q) ∙ normalize-back y
 
 pub begin-injective : {s w w′ t v v′ : List ℕ} {x y : begin.Answer} → BeginCall s w x w′ → BeginCall t v y v′ → packed (beginParts x) ≡ packed (beginParts y) → x ≡ y
 begin-injective {x = x} {y} r q e =

@@ -26,6 +26,9 @@ const SHORT: usize = 4;
 // The letter of a case that is tried after another: the file that is said to be written is written anew.
 pub const AGAIN: u8 = 1;
 
+// The same where that file is made plain.
+pub const PLAIN: u8 = 2;
+
 // A line's letter, 0 where it is written wrongly, where its name starts and ends, and where its case starts.
 struct Head {
     letter: u8,
@@ -163,7 +166,7 @@ fn filled(bytes: &mut [u8], begun: usize, letter: u8, text: &[u8], room: usize) 
     ensures { λ r. ⌜ r .from ≤ r .to ⌝ }
 {
     match letter {
-        b'l' | b'c' | b'n' | b'b' => called(bytes, begun, letter, text),
+        b'l' | b'c' | b'n' | b'f' | b'b' => called(bytes, begun, letter, text),
         b'w' => alone(appended(bytes, 0, text), 0),
         _ => alone(appended(bytes, begun, text), output(letter, room)),
     }
@@ -231,10 +234,10 @@ pub fn parsed(bytes: &mut [u8], begun: usize, table: &[u8], at: usize, room: usi
 
 // Whether a line says which file is written.
 pub fn is_said(line: Line) -> bool {
-    (line.letter == b'n') & (line.file < line.all)
+    ((line.letter == b'n') | (line.letter == b'f')) & (line.file < line.all)
 }
 
-// The line with the letter `AGAIN`.
+// The line with the letter `AGAIN`, or `PLAIN`.
 pub fn again(line: Line) -> Line
     ensures { λ r. ⌜ r .file ≡ line .file ⌝ }
     ensures { λ r. ⌜ r .all ≡ line .all ⌝ }
@@ -242,7 +245,7 @@ pub fn again(line: Line) -> Line
     ensures { λ r. ⌜ r .to ≡ line .to ⌝ }
 {
     Line {
-        letter: AGAIN,
+        letter: if line.letter == b'f' { PLAIN } else { AGAIN },
         start: line.start,
         colon: line.colon,
         file: line.file,

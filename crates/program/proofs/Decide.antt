@@ -22,8 +22,8 @@ use Rattle.program.specs.Reading.{Passed, Whole, Reads, accepted, refuse
 use Rattle.program.proofs.Conditions.{never, neither, both, none-below, some-below, below-some}
 use Rattle.program.proofs.Tests.{is-it}
 use Rattle.program.proofs.Places.{rule-at}
-use Rattle.program.proofs.Promises.{passed-rule}
-use Rattle.program.proofs.IdleRules.{passed-acts, passed-not-idle}
+use Rattle.program.proofs.Promises.{Promises, passed-promises}
+use Rattle.program.proofs.IdleRules.{promised-acts, promised-not-idle}
 
 -- ---- the test, where all heads are below b
 
@@ -83,11 +83,8 @@ module _ (P : Program) (b : ℕ) (heads : HeadsBelow P b) where
   share-tested x y (inl e) = rw (eq-eqb x y e)
   share-tested x y (inr w) = rw (reaches-test x y (w .0), reaches-test y x (w .1)) (or-true (eqb x y))
 
--- for the rules of a file whose fields passed
-module _ {s : List ℕ} {k : ℕ} (p : Passed s k) (b : ℕ) (heads : HeadsBelow (program s k) b) (i : ℕ) where
-  abbrev P : Program
-  P = program s k
-
+-- for the rules of a program that meets no refusal
+module _ {P : Program} (promises : Promises P) (b : ℕ) (heads : HeadsBelow P b) (i : ℕ) where
   abbrev r : Rule
   r = ruleIn (P .rules) i
 
@@ -99,7 +96,7 @@ module _ {s : List ℕ} {k : ℕ} (p : Passed s k) (b : ℕ) (heads : HeadsBelow
       let g = both (isMixed (direction (P .variables) r (f .0))) _ (f .2) in
       record {
         among = h;
-        not-idle = passed-acts p i h (not-true _ (d .0));
+        not-idle = promised-acts promises i h (not-true _ (d .0));
         at = f .0;
         inside = f .1;
         pushes = g .0;
@@ -109,31 +106,35 @@ module _ {s : List ℕ} {k : ℕ} (p : Passed s k) (b : ℕ) (heads : HeadsBelow
   pub offends-tested : Offends P i → offends-test P b i ≡ true
   unfolding offends-test offends-at
   offends-tested o =
-      rw (passed-not-idle p i (o .among) (o .not-idle))
+      rw (promised-not-idle promises i (o .among) (o .not-idle))
       (below-some (length (r .terms)) (offends-at P b r) (o .at) (o .inside) (rw (o .pushes) (share-tested P b heads (r .head) _ (o .shares))))
 
 -- ---- all heads are declared
 
-module _ {s : List ℕ} {k : ℕ} (p : Passed s k) where
-  declared : HeadsBelow (program s k) (length (program s k .variables))
-  declared i h = passed-rule p i h .head-declared
+module _ {P : Program} (promises : Promises P) where
+  declared : HeadsBelow P (length (P .variables))
+  declared i h = promises .rules i h .head-declared
 
-  pub decide : (i : ℕ) → i < length (program s k .rules) → Dec (Offends (program s k) i)
-  decide i h = go (is-it (offends-test (program s k) (length (program s k .variables)) i))
+  pub decide : (i : ℕ) → i < length (P .rules) → Dec (Offends P i)
+  decide i h = go (is-it (offends-test P (length (P .variables)) i))
     where
-      go : Dec (offends-test (program s k) (length (program s k .variables)) i ≡ true) → Dec (Offends (program s k) i)
-      go (yes e) = yes (offends-told p _ declared i h e)
-      go (no f) = no (λ o. f (offends-tested p _ declared i o))
+      go : Dec (offends-test P (length (P .variables)) i ≡ true) → Dec (Offends P i)
+      go (yes e) = yes (offends-told promises _ declared i h e)
+      go (no f) = no (λ o. f (offends-tested promises _ declared i o))
+
+module _ {s : List ℕ} {k : ℕ} (p : Passed s k) where
+  abbrev promises : Promises (program s k)
+  promises = passed-promises p
 
   none-offends : (n : ℕ) → offends-in (program s k) n ≡ false → (i : ℕ) → i < n → Offends (program s k) i → ⊥
-  none-offends n e i h o = never (offends-tested p _ declared i o) (none-below n _ e i h)
+  none-offends n e i h o = never (offends-tested promises _ (declared promises) i o) (none-below n _ e i h)
 
   pub valid-by : offends-in (program s k) (length (program s k .rules)) ≡ false → Valid (program s k)
   valid-by e i o = none-offends _ e i (o .among) o
 
   pub first-by : (i : ℕ) → i < length (program s k .rules) → offends-test (program s k) (length (program s k .variables)) i ≡ true
       → offends-in (program s k) i ≡ false → FirstOffending (program s k) i
-  first-by i h t e = record { offends = offends-told p _ declared i h t; first = none-offends i e }
+  first-by i h t e = record { offends = offends-told promises _ (declared promises) i h t; first = none-offends i e }
 
 -- ---- reading a small file
 

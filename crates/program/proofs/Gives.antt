@@ -73,7 +73,7 @@ plain-hold ts at (suc n) p = rw (← plain-hold ts at n (λ i l. p i (omega arit
 -- ---- only the readings of a rule's positions count
 
 module _ (f g : ℕ → ℤ) where
-  sum-same : (n : ℕ) → ((i : ℕ) → i < n → f i ≡ g i) → sumBelow f n ≡ sumBelow g n
+  pub sum-same : (n : ℕ) → ((i : ℕ) → i < n → f i ≡ g i) → sumBelow f n ≡ sumBelow g n
   unfolding sumBelow
   sum-same zero h = refl
   sum-same (suc n) h = ap₂ _+ℤ_ (sum-same n (λ i l. h i (omega arith))) (h n (omega arith))

@@ -29,7 +29,7 @@ use Rattle.program.specs.declared.Term.{Term}
 use Rattle.program.proofs.Conditions.{never, last-or}
 use Rattle.program.proofs.Tests.{cases, is-true, is-test, not-it, and-both}
 use Rattle.program.proofs.Variables.{past-trans, between-small}
-use Rattle.program.proofs.Promises.{RulePromise, Promises, plain-position, passed-rule, passed-promises}
+use Rattle.program.proofs.Promises.{RulePromise, Promises, plain-position, passed-promises}
 use Rattle.program.proofs.Gives.{seven, amount-size, plain-hold, given-is, evaluate-same, promised-evaluable}
 use Rattle.program.proofs.Pushes.{plain-sum, plain-rising, plain-carried, term-plain, term-least, term-below, direction-is, away-mixed}
 use Rattle.program.proofs.Monotone.{Moves, Under, Held, Between, in-between, evaluate-up}
@@ -284,20 +284,28 @@ module _ {P : Program} (promises : Promises P) {r : Rule} (p : RulePromise (P .v
       in-range : (x : Variable) (a : ℤ) → Held (x .low) (x .high) a → T (inRange x a)
       in-range x a h = and-both (leZ (x .low) a) (leZ a (x .high)) (h .low .le) (h .high .le)
 
--- for every rule of a file whose fields passed the test is `Idle`
-module _ {s : List ℕ} {k : ℕ} (w : Passed s k) (i : ℕ) (h : i < length (program s k .rules)) where
+-- for every rule of a program that meets no refusal the test is `Idle`
+module _ {P : Program} (promises : Promises P) (i : ℕ) (h : i < length (P .rules)) where
   abbrev tested : Bool
-  tested = isIdle (program s k .variables) (ruleIn (program s k .rules) i)
+  tested = isIdle (P .variables) (ruleIn (P .rules) i)
 
-  pub passed-told : tested ≡ true → Idle (program s k) (ruleIn (program s k .rules) i)
-  passed-told e = idle-told (passed-promises w) (passed-rule w i h) (is-test e)
+  promised-told : tested ≡ true → Idle P (ruleIn (P .rules) i)
+  promised-told e = idle-told promises (promises .rules i h) (is-test e)
 
-  pub passed-test : Idle (program s k) (ruleIn (program s k .rules) i) → tested ≡ true
-  passed-test q = is-true tested (idle-test (passed-promises w) (passed-rule w i h) q)
+  promised-test : Idle P (ruleIn (P .rules) i) → tested ≡ true
+  promised-test q = is-true tested (idle-test promises (promises .rules i h) q)
 
   -- and where the one says no, so does the other
-  pub passed-acts : tested ≡ false → Idle (program s k) (ruleIn (program s k .rules) i) → ⊥
-  passed-acts e q = never (passed-test q) e
+  pub promised-acts : tested ≡ false → Idle P (ruleIn (P .rules) i) → ⊥
+  promised-acts e q = never (promised-test q) e
 
-  pub passed-not-idle : (Idle (program s k) (ruleIn (program s k .rules) i) → ⊥) → tested ≡ false
-  passed-not-idle f = not-it tested (λ e. f (passed-told e))
+  pub promised-not-idle : (Idle P (ruleIn (P .rules) i) → ⊥) → tested ≡ false
+  promised-not-idle f = not-it tested (λ e. f (promised-told e))
+
+-- so for those of a file whose fields passed
+module _ {s : List ℕ} {k : ℕ} (w : Passed s k) (i : ℕ) (h : i < length (program s k .rules)) where
+  pub passed-told : isIdle (program s k .variables) (ruleIn (program s k .rules) i) ≡ true → Idle (program s k) (ruleIn (program s k .rules) i)
+  passed-told = promised-told (passed-promises w) i h
+
+  pub passed-test : Idle (program s k) (ruleIn (program s k .rules) i) → isIdle (program s k .variables) (ruleIn (program s k .rules) i) ≡ true
+  passed-test = promised-test (passed-promises w) i h

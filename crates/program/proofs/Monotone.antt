@@ -98,13 +98,13 @@ picked-up false true h k p q = q tt tt
 picked-up false false h k p q = h
 
 -- the pick of two values that have risen has risen
-abbrev Rises : (ℤ → ℤ → ℤ) → Type 0
+abbrev pub Rises : (ℤ → ℤ → ℤ) → Type 0
 Rises pick = (a b x y : ℤ) → a ≤ℤ b → x ≤ℤ y → pick a x ≤ℤ pick b y
 
-larger-up : Rises larger
+pub larger-up : Rises larger
 larger-up a b x y h k = picked-up (ltZ a x) (ltZ b y) h k (λ t s. omega int) (λ t s. omega int)
 
-smaller-up : Rises smaller
+pub smaller-up : Rises smaller
 smaller-up a b x y h k = picked-up (ltZ x a) (ltZ y b) h k (λ t s. omega int) (λ t s. omega int)
 
 -- x lies from a to b
@@ -129,12 +129,12 @@ size-up v x y bx by = cases (leZ (pos 0) (v .low)) (λ t. Moves (cond t Rising (
 -- ---- sums, extremes and literals over the positions
 
 module _ (f g : ℕ → ℤ) where
-  sum-up : (n : ℕ) → ((i : ℕ) → i < n → f i ≤ℤ g i) → sumBelow f n ≤ℤ sumBelow g n
+  pub sum-up : (n : ℕ) → ((i : ℕ) → i < n → f i ≤ℤ g i) → sumBelow f n ≤ℤ sumBelow g n
   unfolding sumBelow
   sum-up zero h = ≤ℤ-refl (pos 0)
   sum-up (suc n) h = omega (int, sum-is (sumBelow f n) (f n), sum-is (sumBelow g n) (g n), sum-up n (λ i l. h i (omega arith)), h n (omega arith))
 
-  pick-up : {pick : ℤ → ℤ → ℤ} → Rises pick → (n : ℕ) → ((i : ℕ) → i ≤ n → f i ≤ℤ g i) → pickTo pick f n ≤ℤ pickTo pick g n
+  pub pick-up : {pick : ℤ → ℤ → ℤ} → Rises pick → (n : ℕ) → ((i : ℕ) → i ≤ n → f i ≤ℤ g i) → pickTo pick f n ≤ℤ pickTo pick g n
   unfolding pickTo
   pick-up p zero h = h 0 (omega arith)
   pick-up {pick} p (suc n) h = p (pickTo pick f n) (pickTo pick g n) (f (suc n)) (g (suc n)) (pick-up p n (λ i l. h i (omega arith))) (h (suc n) (omega arith))

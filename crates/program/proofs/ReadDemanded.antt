@@ -62,7 +62,7 @@ module _ (s : List ℕ) (k : ℕ) where
   pub field-most : fieldRefusal s k ≤ 12
   field-most = leb→le (fieldRefusal s k) 12 (and-left (leb (fieldRefusal s k) 12) (not (eqb (fieldRefusal s k) 1)) (field-number s k))
 
-  field-not-one : fieldRefusal s k ≡ 1 → ⊥
+  pub field-not-one : fieldRefusal s k ≡ 1 → ⊥
   field-not-one e =
       T-not (eqb (fieldRefusal s k) 1) (and-right (leb (fieldRefusal s k) 12) (not (eqb (fieldRefusal s k) 1)) (field-number s k))
       (is-test (eq-eqb (fieldRefusal s k) 1 e))

@@ -14,6 +14,7 @@ use Rattle.program.specs.Refusals.{fieldRefusal}
 use Rattle.program.specs.Components.{Offends, FirstOffending}
 use Rattle.program.specs.Reading.{Answer, Passed, Whole, Reads, too-long, bad-field, not-valid, whole}
 use Rattle.program.proofs.Conditions.{last-or}
+use Rattle.program.proofs.Promises.{Promises, passed-promises}
 use Rattle.program.proofs.Decide.{decide}
 use Rattle.program.proofs.Places.{place-least, passed-none, passed-more, rule-at}
 
@@ -22,7 +23,7 @@ abbrev pub Answered : List ℕ → Type 0
 Answered s = (a : Answer) × Reads s a
 
 -- the first rule that offends, among the first n
-data Search (P : Program) (n : ℕ) : Type 0 where
+pub data Search (P : Program) (n : ℕ) : Type 0 where
   first-is : {i : ℕ} → FirstOffending P i → Search P n
   no-rule : ((i : ℕ) → i < n → Offends P i → ⊥) → Search P n
 
@@ -39,6 +40,9 @@ search-rules : (P : Program) (n : ℕ) → ((i : ℕ) → i < n → Dec (Offends
 search-rules P zero decides = no-rule (λ i h o. omega arith)
 search-rules P (suc n) decides = search-more (decides n (omega arith)) (search-rules P n (λ i h. decides i (omega arith)))
 
+pub searched : {P : Program} → Promises P → Search P (length (P .rules))
+searched {P} p = search-rules P _ (decide p)
+
 module _ (s : List ℕ) where
   at-end : {k : ℕ} → Whole s k → Search (program s k) (length (program s k .rules)) → Answered s
   at-end w (first-is f) =
@@ -47,7 +51,7 @@ module _ (s : List ℕ) where
   at-end w (no-rule clear) = (_, whole w (λ i o. clear i (o .among) o))
 
   ended : {k : ℕ} → Passed s k → length s ≤ place s k → Answered s
-  ended {k} p h = at-end (record { passed = p; ended = h }) (search-rules (program s k) _ (decide p))
+  ended {k} p h = at-end (record { passed = p; ended = h }) (searched (passed-promises p))
 
   -- enough turns are left: a field takes a byte at least
   from : (turns k : ℕ) → length s ≤ k + turns → Passed s k → Answered s

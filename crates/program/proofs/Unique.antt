@@ -11,7 +11,7 @@ use Rattle.program.specs.Components.{Valid, FirstOffending}
 use Rattle.program.specs.Reading.{Answer, accepted, refused, Passed, Whole, RuleField, Reads, too-long, bad-field, not-valid, whole, Accepts}
 use Rattle.program.proofs.Places.{rule-stands}
 
-same-by : (k m : ℕ) → ¬ (k < m) → ¬ (m < k) → k ≡ m
+pub same-by : (k m : ℕ) → ¬ (k < m) → ¬ (m < k) → k ≡ m
 same-by k m h l = omega arith
 
 -- field k meets a refusal, and is the first that does
@@ -38,7 +38,7 @@ module _ {s : List ℕ} {k m : ℕ} where
   bad-or-whole b w = let e : k ≡ m = same-by k m (not-fine b (w .passed)) (no-more w (b .passed)) in omega (arith, ap (place s) e, b .stands, w .ended)
 
 -- the first rule that offends
-first-offending : {P : Program} {i j : ℕ} → FirstOffending P i → FirstOffending P j → i ≡ j
+pub first-offending : {P : Program} {i j : ℕ} → FirstOffending P i → FirstOffending P j → i ≡ j
 first-offending {i = i} {j} f g = same-by i j (λ h. g .first i h (f .offends)) (λ h. f .first j h (g .offends))
 
 same-rule : {s : List ℕ} {k m i j a b : ℕ} → Whole s k → Whole s m → i < k → RuleField s i a → FirstOffending (program s k) a

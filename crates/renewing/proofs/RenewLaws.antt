@@ -71,52 +71,50 @@ pub told-apart : {s t : List ℕ} → Renews s t → 3 < getD t 0 0 → (n : ℕ
 told-apart (turned-down p) h = (_, _, p, refl)
 told-apart (rewritten {Q = Q} x n) h = let f : ⊥ = omega (arith, file-first Q) in absurd f
 
+-- ---- the first n bytes of an output b are lent to a call
+
+module _ (n : ℕ) (b : List ℕ) (h : n ≤ length b) where
+  pub lent-length : length (take n b) ≡ n
+  lent-length = length-take-le n b h
+
+  -- they come back as they were, and a text is put in
+  pub lent-back : {part t : List ℕ} {k : ℕ} {b′ : List ℕ} → part ≡ take n b → Appends t 0 k (part ++ drop n b) b′ → Holds t k b b′
+  lent-back {part} {t} {k} {b′} c w =
+      let e : part ++ drop n b ≡ b = ap (λ (p : List ℕ). p ++ drop n b) c ∙ take-append-drop n b in
+      subst (λ v. Holds t k v b′) e (w .holds [] (part ++ drop n b) (holds-none (part ++ drop n b)))
+
+  -- they come back with a text, and after it their own bytes
+  pub lent-text : (t : List ℕ) → length t ≤ n → Holds t (length t) b (t ++ drop (length t) (take n b) ++ drop n b)
+  lent-text t k =
+      let m = length t in
+      record {
+        counted = refl;
+        bytes = append-assoc t (drop m (take n b)) (drop n b)
+            ∙ ap (λ (r : List ℕ). t ++ r) (sym (drop-append-le m (take n b) (drop n b) (omega (arith, lent-length))) ∙ ap (drop m) (take-append-drop n b))
+            ∙ ap (λ (l : List ℕ). l ++ drop m b) (sym (take-all (length b) t (omega arith)));
+      }
+
 -- ---- the call's answer
 
--- of the output b as many bytes are lent as the file has; they come back as `part`
-
--- so the refusals are the file's own
+-- as many bytes are lent as the file has, so the refusals are the file's own
 own : {s b : List ℕ} {n at : ℕ} {b₁ : List ℕ} → length s ≤ length b → Normalizes s b (normalize.refusal n at) b₁ → Reads s (refused n at) × (b₁ ≡ b)
 own h (normalize.turned-down (bad-file r)) = (r, refl)
 own h (normalize.turned-down (bad-call x (inl g))) =
     let f : ⊥ = omega (arith, g .1 .0) in absurd f
 own h (normalize.turned-down (bad-call x (inr g))) = absurd (g .1)
 
+-- they come back as `part`
 module _ (s b : List ℕ) (h : length s ≤ length b) where
-  lent-length : length (take (length s) b) ≡ length s
-  lent-length = length-take-le (length s) b h
-
   pub renewed-refused : {n at : ℕ} {part : List ℕ} {k : ℕ} {b′ : List ℕ} → room ≤ length b → Normalizes s (take (length s) b) (normalize.refusal n at) part
       → Appends (answerLine (refusal n at)) 0 k (part ++ drop (length s) b) b′ → k ≤ firstMost → Renewed s b k b′
-  renewed-refused {n} {at} {part} {k} {b′} r c w l =
-      let o = own (omega (arith, lent-length)) c in
-      let e : part ++ drop (length s) b ≡ b = ap (λ (p : List ℕ). p ++ drop (length s) b) (o .1) ∙ take-append-drop (length s) b in
-      record {
-        text = _;
-        renews = turned-down (o .0);
-        holds = subst (λ v. Holds (answerLine (refusal n at)) k v b′) e (w .holds [] (part ++ drop (length s) b) (holds-none (part ++ drop (length s) b)));
-        inside = omega arith;
-      }
-
-  -- what is written, then the rest of what is lent, then the rest of the output
-  rest-kept : (t : List ℕ) → length t ≤ length s → t ++ drop (length t) (take (length s) b) ++ drop (length s) b ≡ t ++ drop (length t) b
-  rest-kept t k =
-      let n = length t in
-      append-assoc t (drop n (take (length s) b)) (drop (length s) b)
-      ∙ ap (λ (r : List ℕ). t ++ r) (sym (drop-append-le n (take (length s) b) (drop (length s) b) (omega (arith, lent-length))) ∙ ap (drop n) (take-append-drop (length s) b))
+  renewed-refused r c w l =
+      let o = own (omega (arith, lent-length (length s) b h)) c in
+      record { text = _; renews = turned-down (o .0); holds = lent-back (length s) b h (o .1) w; inside = omega arith }
 
   pub renewed-written : {n : ℕ} {part : List ℕ} → Normalizes s (take (length s) b) (written n) part → length part ≡ length (take (length s) b)
       → Renewed s b n (part ++ drop (length s) b)
   renewed-written (normalize.rewritten {Q = Q} c m) e =
       let lent = take (length s) b in
-      let k : length (encode Q) ≤ length s = omega (arith, lent-length, length-append (encode Q) (drop (length (encode Q)) lent), length-drop (length (encode Q)) lent) in
-      record {
-        text = encode Q;
-        renews = rewritten (c .accepts) m;
-        holds = record {
-          counted = refl;
-          bytes = rest-kept (encode Q) k
-              ∙ ap (λ (l : List ℕ). l ++ drop (length (encode Q)) b) (sym (take-all (length b) (encode Q) (omega arith)));
-        };
-        inside = omega arith;
-      }
+      let k : length (encode Q) ≤ length s =
+      omega (arith, lent-length (length s) b h, length-append (encode Q) (drop (length (encode Q)) lent), length-drop (length (encode Q)) lent) in
+      record { text = encode Q; renews = rewritten (c .accepts) m; holds = lent-text (length s) b h (encode Q) k; inside = omega arith }

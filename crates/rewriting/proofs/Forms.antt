@@ -27,7 +27,7 @@ use Rattle.rewriting.proofs.Puts.{put-length, put-more}
 
 -- ---- the variables
 
-variables-size : (vs : List Variable) → length (each variableBytes vs) ≡ 8 * length vs
+pub variables-size : (vs : List Variable) → length (each variableBytes vs) ≡ 8 * length vs
 unfolding bytesOf
 variables-size [] = refl
 variables-size (x ∷ vs) = omega (arith, length-append (variableBytes x) (each variableBytes vs), variables-size vs)

@@ -5,6 +5,7 @@ use packing::Parts;
 use packing::Word;
 use parsing::AGAIN;
 use parsing::Line;
+use parsing::PLAIN;
 use parsing::parsed;
 use telling::length_told;
 use telling::printed;
@@ -29,6 +30,7 @@ fn announce(letter: u8, name: &[u8], number: usize) {
         b'l' => head(b"least of ", name),
         b'c' => head(b"check of ", name),
         b'n' => head(b"normalize of ", name),
+        b'f' => head(b"flatten of ", name),
         b'b' => head(b"begin of ", name),
         b'p' | b's' => head(b"print of ", name),
         b'w' | b'#' => {}
@@ -114,8 +116,8 @@ pub fn show(room: &[u8], bytes: &[u8], line: Line, answer: u64)
     match letter {
         b'r' => tell_line(unpacked(answer)),
         b'l' | b'c' => called(room, line, unpacked(answer)),
-        b'n' => renewed(room, &bytes[file..all], line, unpacked(answer)),
-        AGAIN => {
+        b'n' | b'f' => renewed(room, &bytes[file..all], line, unpacked(answer)),
+        AGAIN | PLAIN => {
             text(b"again");
             renewed(room, &bytes[file..all], line, unpacked(answer));
         }

@@ -1,10 +1,12 @@
 // Makes the call for a line's case: those of the C interface by their exported functions, and the printing call.
 use founded::founded_check;
+use founded::founded_flatten;
 use founded::founded_least;
 use founded::founded_normalize;
 use founded::founded_read;
 use parsing::AGAIN;
 use parsing::Line;
+use parsing::PLAIN;
 use printing::print;
 ghost use Prim.Native.Nat.{_≤_};
 ghost use lib.ListN.{length};
@@ -18,6 +20,8 @@ fn answered(letter: u8, file: &[u8], second: &[u8], lent: &mut [u8]) -> u64 {
         b'c' => founded_check(file, second, lent),
         b'n' => founded_normalize(file, lent),
         AGAIN => founded_normalize(second, lent),
+        b'f' => founded_flatten(file, lent),
+        PLAIN => founded_flatten(second, lent),
         b'p' | b's' => print(file, lent) as u64,
         _ => 0,
     }

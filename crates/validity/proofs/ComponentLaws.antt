@@ -16,7 +16,7 @@ use Rattle.walks.specs.Walk.{edges, AfterLast, Rounds}
 use Rattle.words.proofs.Bits.{bit-zero}
 use Rattle.walks.proofs.Walks.{StopsBelow, before-walk, walk-before}
 use Rattle.program.specs.Tables.{anyBelow}
-use Rattle.program.specs.Program.{Rule, Program, program, ruleIn, termIn, variablesAt}
+use Rattle.program.specs.Program.{Rule, Program, program, ruleIn, termIn}
 use Rattle.program.specs.Idle.{isIdle}
 use Rattle.program.specs.Evaluable.{Small}
 use Rattle.program.specs.Components as components
@@ -24,19 +24,18 @@ use Rattle.program.specs.Components.{draws, edge, Share, Offends}
 use Rattle.program.specs.Reading.{Whole}
 use Rattle.program.specs.declared.Counts.{Counts}
 use Rattle.program.proofs.Conditions.{never, both, some-below, below-some, none-below, any-same}
-use Rattle.program.proofs.Places.{variables-length}
-use Rattle.program.proofs.Promises.{Promises, passed-promises}
+use Rattle.program.proofs.Promises.{RulePromise, Promises, passed-promises}
 use Rattle.program.proofs.Unique.{whole-unique}
-use Rattle.program.proofs.IdleRules.{passed-acts, passed-not-idle}
+use Rattle.program.proofs.IdleRules.{promised-acts, promised-not-idle}
 use Rattle.fields.specs.Scanning.{Counted}
 use Rattle.validity.specs.Judging.{Judges}
 use Rattle.sharing.specs.Sharing.{shareIn}
 use Rattle.sharing.proofs.Firsts.{SharesIn, shares-told, shares-tested}
 use Rattle.edges.specs.Edges.{Grown, anyMixed, drawsAt, drawsIn, offendsAt, offendsIn}
-use Rattle.validity.specs.Marks.{drawsBy, ruleAt, mixedRule, edgeIn, offendsRule, JudgedBy}
+use Rattle.validity.specs.Marks.{drawsBy, offendsBy, mixedRule, edgeIn, offendsRule, JudgedBy}
 use Rattle.validity.specs.declared.Outcome.{Outcome}
 use Rattle.validity.specs.declared.Outcome.the-variants.{Valid, Offending}
-use Rattle.validity.proofs.RuleLaws.{counted-variables, variables-few, rule-stands, rule-is, rule-promise}
+use Rattle.validity.proofs.RuleLaws.{counted-variables, variables-few, rule-stands, rule-is}
 use Rattle.program.specs.declared.Variable.{Variable}
 
 -- ---- tests below a number
@@ -84,25 +83,62 @@ rows-none m a b = ap (λ (w : ℕ). bit w (b % wordBits)) (everywhere 0 m (wordC
 pub values-none : (m : ℕ) → Small (replicate m (pos 0))
 values-none m v = rw (everywhere (pos 0) m v) (omega arith)
 
+-- ---- a program that meets no refusal
+
+module _ {P : Program} (promises : Promises P) where
+  -- every stop between is a variable
+  pub promised-stops : StopsBelow (edge P) (length (P .variables))
+  promised-stops i m j p q = edges-below promises i m p
+
+  -- the sets after the last round say which variables share a component
+  module _ {t : ℕ → ℕ → Bool} (last : AfterLast (edge P) t (length (P .variables))) where
+    pub promised-share : (x y : ℕ) → x < length (P .variables) → y < length (P .variables) → (shareIn t x y ≡ true) ↔ Share P x y
+    promised-share x y hx hy = (λ e. told (shares-told t x y e), λ c. shares-tested t x y (tested c))
+      where
+        told : SharesIn t x y → Share P x y
+        told (inl e) = inl e
+        told (inr r) = inr (before-walk last x y hx hy (r .0), before-walk last y x hy hx (r .1))
+
+        tested : Share P x y → SharesIn t x y
+        tested (inl e) = inl e
+        tested (inr r) = inr (walk-before last promised-stops x y hx hy (r .0 .1), walk-before last promised-stops y x hy hx (r .1 .1))
+
+    -- and which rules offend
+    module _ (i : ℕ) (l : i < length (P .rules)) where
+      promise : RulePromise (P .variables) (ruleIn (P .rules) i)
+      promise = promises .rules i l
+
+      pub test-offends : offendsBy t (P .variables) (ruleIn (P .rules) i) ≡ true → Offends P i
+      unfolding offendsIn offendsAt
+      test-offends e =
+          let g = both _ (not (isIdle (P .variables) (ruleIn (P .rules) i))) e in
+          let j = some-below _ _ (g .0) in
+          let d = both _ _ (j .2) in
+          record {
+            among = l;
+            not-idle = promised-acts promises i l (not-true _ (g .1));
+            at = j .0;
+            inside = j .1;
+            pushes = d .0;
+            shares = promised-share _ _ (promise .head-declared) (promise .body .terms (j .0) (j .1) .declared) .0 (d .1);
+          }
+
+      pub offends-test : offendsBy t (P .variables) (ruleIn (P .rules) i) ≡ false → Offends P i → ⊥
+      unfolding offendsIn offendsAt
+      offends-test e o =
+          let s = promised-share _ _ (promise .head-declared) (promise .body .terms (o .at) (o .inside) .declared) .1 (o .shares) in
+          let acts = promised-not-idle promises i l (o .not-idle) in
+          never (ap₂ _&&_ (below-some _ _ (o .at) (o .inside) (ap₂ _&&_ (o .pushes) s)) (ap not acts)) e
+
 -- ---- a file whose fields passed
 
 module _ {s : List ℕ} {n : ℕ} (w : Whole s n) where
-  -- every stop between is a variable
   pub stops-declared : StopsBelow (edge (program s n)) (length (program s n .variables))
-  stops-declared i m j p q = edges-below (passed-promises (w .passed)) i m p
+  stops-declared = promised-stops (passed-promises (w .passed))
 
-  -- the sets after the last round say which variables share a component
   pub shared : {t : ℕ → ℕ → Bool} → AfterLast (edge (program s n)) t (length (program s n .variables)) → (x y : ℕ) → x < length (program s n .variables)
       → y < length (program s n .variables) → (shareIn t x y ≡ true) ↔ Share (program s n) x y
-  shared {t} last x y hx hy = (λ e. told (shares-told t x y e), λ c. shares-tested t x y (tested c))
-    where
-      told : SharesIn t x y → Share (program s n) x y
-      told (inl e) = inl e
-      told (inr r) = inr (before-walk last x y hx hy (r .0), before-walk last y x hy hx (r .1))
-
-      tested : Share (program s n) x y → SharesIn t x y
-      tested (inl e) = inl e
-      tested (inr r) = inr (walk-before last stops-declared x y hx hy (r .0 .1), walk-before last stops-declared y x hy hx (r .1 .1))
+  shared last = promised-share (passed-promises (w .passed)) last
 
 -- with its counts
 
@@ -127,46 +163,23 @@ module _ {s : List ℕ} {k : Counts} (c : Counted s k) where
       let m = rw (rule-is c i l, c .describes .variables-are) at (o .pushes) in
       never m (none-below _ _ z (o .at) h)
 
-  -- rows that hold what is reached
+  -- rows that hold what is reached: a rule offends where the test says so
   module _ {t : ℕ → ℕ → Bool} (last : AfterLast (edge P) t (k .variables)) where
-    row-share : (x y : ℕ) → x < k .variables → y < k .variables → (shareIn t x y ≡ true) ↔ Share P x y
-    row-share x y hx hy =
-        let e = counted-variables c in
-        shared (c .whole) (subst (AfterLast (edge P) t) (sym e) last) x y (omega arith) (omega arith)
+    reached : AfterLast (edge P) t (length (P .variables))
+    reached = subst (AfterLast (edge P) t) (sym (counted-variables c)) last
 
-    -- a rule offends where the test says so
-    pub row-offends : (i : ℕ) → i < k .rules → offendsRule t s k i ≡ true → Offends P i
-    unfolding offendsIn offendsAt
-    row-offends i l e =
-        let g = both _ (not (isIdle (variablesAt s (k .variables)) (ruleAt s (k .variables) i))) e in
-        let j = some-below _ _ (g .0) in
-        let d = both _ _ (j .2) in
-        let n = variables-length s (k .variables) in
-        let h = rw n at (rule-promise c i l .head-declared) in
-        let v = rw n at (rule-promise c i l .body .terms (j .0) (j .1) .declared) in
-        record {
-          among = rw (c .describes .rules-are) l;
-          not-idle = passed-acts (c .whole .passed) i (rw (c .describes .rules-are) l) (rw (rule-is c i l, c .describes .variables-are) (not-true _ (g .1)));
-          at = j .0;
-          inside = rw (rule-is c i l) (j .1);
-          pushes = rw (rule-is c i l, c .describes .variables-are) (d .0);
-          shares = rw (rule-is c i l) (row-share _ _ h v .0 (d .1));
-        }
+    module _ (i : ℕ) (l : i < k .rules) where
+      among : i < length (P .rules)
+      among = rw (c .describes .rules-are) l
 
-    pub offends-row : (i : ℕ) → i < k .rules → offendsRule t s k i ≡ false → Offends P i → ⊥
-    unfolding offendsIn offendsAt
-    offends-row i l e o =
-        let n = variables-length s (k .variables) in
-        let inside = rw (rule-is c i l) at (o .inside) in
-        let m = rw (rule-is c i l, c .describes .variables-are) at (o .pushes) in
-        let h = rw n at (rule-promise c i l .head-declared) in
-        let v = rw n at (rule-promise c i l .body .terms (o .at) inside .declared) in
-        let r = row-share _ _ h v .1 (rw (rule-is c i l) at (o .shares)) in
-        never (ap₂ _&&_ (below-some _ _ (o .at) inside (ap₂ _&&_ m r)) (ap not (acts i l o))) e
-      where
-        -- the test, too, says that it is not idle
-        acts : (i : ℕ) (l : i < k .rules) → Offends P i → isIdle (variablesAt s (k .variables)) (ruleAt s (k .variables) i) ≡ false
-        acts i l o = rw (rule-is c i l, c .describes .variables-are) at (passed-not-idle (c .whole .passed) i (o .among) (o .not-idle))
+      row-test : offendsRule t s k i ≡ offendsBy t (P .variables) (ruleIn (P .rules) i)
+      row-test = sym (ap₂ (offendsBy t) (c .describes .variables-are) (rule-is c i l))
+
+      pub row-offends : offendsRule t s k i ≡ true → Offends P i
+      row-offends e = test-offends (passed-promises (c .whole .passed)) reached i among (sym row-test ∙ e)
+
+      pub offends-row : offendsRule t s k i ≡ false → Offends P i → ⊥
+      offends-row e = offends-test (passed-promises (c .whole .passed)) reached i among (sym row-test ∙ e)
 
     outcome-is-by : (r : Outcome) → JudgedBy t s k r → Judges s (c .fields) r
     outcome-is-by Valid h = λ i o. let l : i < k .rules = rw (c .describes .rules-are) at (o .among) in offends-row i l (h i l) o

@@ -1,5 +1,6 @@
 //! The files that are timed.
 pub mod orders;
+pub mod trees;
 
 pub struct Plan {
     pub name: String,

@@ -1,11 +1,13 @@
 //! How long the proved calls take, beside (1) Rust written for speed alone, (2) a port of the proved code, statement by statement, and (3) naive
 //! iteration, the second checker. Rows of one kind double in size, so that the table shows how the time grows. Before anything is timed, the first
 //! two are held to the proved calls: every answer, and every byte of the lent buffer and around it, on the rows, on seeded inputs, on the same
-//! inputs with variables founded from above, on seeded files to be written anew and, of the search of components, on seeded sets.
+//! inputs with variables founded from above, on seeded files to be written anew, on seeded nested files and, of the search of components, on seeded
+//! sets.
 //!
-//! bench: the table. bench hold [seeded inputs] [first seed]: no table.
+//! bench: the tables. bench hold [seeded inputs] [first seed]: no table. bench flatten: the table of flatten alone.
 mod fast;
 mod files;
+mod flat;
 mod port;
 mod search;
 mod turned;
@@ -341,13 +343,17 @@ fn idle_plans() -> [Plan; 3] {
 fn main() {
     let given: Vec<String> = std::env::args().skip(1).collect();
     let amount = |i: usize, usual: u64| given.get(i).map_or(usual, |a| a.parse().expect("a number"));
-    let (plans, orders, searches) = (plans(), orders::plans(), search::rows());
+    let (plans, orders, searches, nested) = (plans(), orders::plans(), search::rows(), flat::rows());
     let (first, inputs) = (amount(2, 0), amount(1, 50_000));
+    if given.first().is_some_and(|word| word == "flatten") {
+        return flat::table(&nested);
+    }
     hold_rows(&plans);
     hold_rows(&orders);
     hold(first, inputs);
     hold_written(first, inputs);
     search::hold(first, inputs);
+    flat::hold(first, inputs);
     if given.first().is_some_and(|word| word == "hold") {
         return;
     }
@@ -366,4 +372,5 @@ fn main() {
     for row in &searches {
         print_line(row.names(), row.turns());
     }
+    flat::table(&nested);
 }

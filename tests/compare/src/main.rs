@@ -1,9 +1,11 @@
 //! Compares the proved calls, through libfounded.a, with the second checker on seeded inputs: every answer and every byte of the lent buffers and
-//! around them. Small programs are tried by brute force, and a smaller number of inputs goes through the two programs. A twentieth of the inputs
-//! more are files to be written anew, and a fiftieth are walks over edges.
+//! around them. Small programs are tried by brute force, and a smaller number of inputs goes through the three programs. A twentieth of the inputs
+//! more are files to be written anew, a twentieth are nested files, if their number is not given, and a fiftieth are walks over edges.
 //!
 //! compare [first seed] [inputs] [small programs] [inputs of each program] [path of the printing one] [path of the one that writes anew]
+//!     [path of the one that flattens] [nested files]
 
+mod nested;
 mod walk;
 
 use second::anew::{self, Normalize};
@@ -68,13 +70,16 @@ fn proved_check(file: &[u8], a: &[u8], report: &mut [u8]) -> Verdict {
 }
 
 /// A length has 32 bits, and none stands above them.
-fn proved_normalize(file: &[u8], buffer: &mut [u8]) -> Normal {
-    let packed = unsafe { founded_normalize(file.as_ptr(), file.len(), buffer.as_mut_ptr(), buffer.len()) };
+fn written(call: &str, packed: u64) -> Normal {
     match (packed & 0xFF, packed >> 8, parts(packed)) {
         (10, length, _) if length <= u64::from(u32::MAX) => Normal::Written(length as usize),
         (6, _, (_, number, place, 0)) if packed >> 56 == 0 => Normal::Refused { number, place },
-        _ => panic!("normalize answers {packed:#x}"),
+        _ => panic!("{call} answers {packed:#x}"),
     }
+}
+
+fn proved_normalize(file: &[u8], buffer: &mut [u8]) -> Normal {
+    written("normalize", unsafe { founded_normalize(file.as_ptr(), file.len(), buffer.as_mut_ptr(), buffer.len()) })
 }
 
 /// Makes a call with a buffer lent from the middle of a larger one, and answers the buffer's bytes, or nothing where one around it has changed.
@@ -249,9 +254,12 @@ fn main() {
     brute_force(first, small, &mut failures);
     walk::walks(first, inputs / 50, &mut failures);
     walk::brute_force(first, small, &mut failures);
+    nested::flattenings(first, amount(7, inputs / 20), &mut failures);
+    nested::brute_force(first, small, &mut failures);
     if prints > 0 {
         program(given.get(4).expect("the printing program's path"), first, prints, &mut failures);
         normal_program(given.get(5).expect("the path of the program that writes anew"), first, prints, &mut failures);
+        nested::program(given.get(6).expect("the path of the program that flattens"), first, prints, &mut failures);
     }
     for failure in failures.iter().take(20) {
         println!("differs: {failure}");

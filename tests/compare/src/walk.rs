@@ -44,6 +44,13 @@ fn proved_components(sets: &mut [u64], variables: usize, buffer: &mut [u8]) -> b
     truth("components", unsafe { founded_components(sets.as_mut_ptr().cast_const(), words, variables, buffer.as_mut_ptr(), room) })
 }
 
+/// What differs when the walk over this file's edges is begun.
+pub fn differs_begin(file: &[u8]) -> Option<String> {
+    let before = vec![!0; 9];
+    let (proved, own) = (stepped::begin(&PROVED, file, before.clone()), stepped::begin(&OWN, file, before));
+    (proved != own).then(|| format!("begin: {proved:?}, second {own:?}"))
+}
+
 /// What differs on this case, or what is not as the sentences say.
 fn differs(case: &Case, tally: &mut Tally) -> Option<String> {
     let (proved, own) = (stepped::see(&PROVED, case), stepped::see(&OWN, case));

@@ -3,14 +3,17 @@
 //! structures, plain searches, naive iteration.
 //!
 //! The calls are `read`, `least`, `check` and `normalize`, `begin`, `step` and
-//! `components`, and `print` and `print_normal` for the programs. Each has a twin ending in `_with` that takes
-//! a [`Wrong`]: a deliberate mistake, used to see whether the generator would
-//! notice it. `Wrong::Nothing` is the checker.
+//! `components`, `flatten`, and `print`, `print_normal` and `print_flat` for the
+//! programs. Each has a twin ending in `_with` that takes a [`Wrong`]: a deliberate
+//! mistake, used to see whether the generator would notice it. `Wrong::Nothing` is
+//! the checker.
 
 pub mod above;
 pub mod anew;
 pub mod brute;
 pub mod calls;
+pub mod flat;
+pub mod flattened;
 pub mod gen;
 pub mod graph;
 pub mod idle;
@@ -19,6 +22,7 @@ pub mod idling;
 pub mod lent;
 pub mod meaning;
 pub mod mirror;
+pub mod nested;
 pub mod normal;
 pub mod plan;
 pub mod printing;
@@ -27,6 +31,7 @@ pub mod reader;
 pub mod refused;
 pub mod stepped;
 pub mod tally;
+pub mod tree;
 pub mod walk;
 pub mod wrong;
 
@@ -79,4 +84,15 @@ pub fn step(sets: &mut [u64], variables: usize, k: usize) -> bool {
 /// The component of each variable, read off sets; `false` writes nothing.
 pub fn components(sets: &[u64], variables: usize, buffer: &mut [u8]) -> bool {
     walk::components_with(sets, variables, buffer, Wrong::Nothing)
+}
+
+/// Converts a nested file to a plain one and answers the length; a refusal writes
+/// nothing.
+pub fn flatten(nested: &[u8], buffer: &mut [u8]) -> Normal {
+    flat::flatten_with(nested, buffer, Wrong::Nothing)
+}
+
+/// What the program that flattens prints for this standard input.
+pub fn print_flat(input: &[u8]) -> Vec<u8> {
+    flat::print_flat_with(input, Wrong::Nothing)
 }

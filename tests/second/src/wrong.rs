@@ -5,7 +5,8 @@ macro_rules! mistakes {
     (
         $($(#[$says:meta])* $name:ident,)*;
         $($(#[$tells:meta])* $normal:ident,)*;
-        $($(#[$shows:meta])* $walk:ident,)*
+        $($(#[$shows:meta])* $walk:ident,)*;
+        $($(#[$points:meta])* $nested:ident,)*
     ) => {
         #[derive(Clone, Copy, Debug, PartialEq, Eq)]
         pub enum Wrong {
@@ -13,6 +14,7 @@ macro_rules! mistakes {
             $($(#[$says])* $name,)*
             $($(#[$tells])* $normal,)*
             $($(#[$shows])* $walk,)*
+            $($(#[$points])* $nested,)*
         }
 
         impl Wrong {
@@ -22,6 +24,8 @@ macro_rules! mistakes {
             pub const NORMAL: &'static [Wrong] = &[$(Wrong::$normal,)*];
             /// Mistakes of the walk over edges.
             pub const WALK: &'static [Wrong] = &[$(Wrong::$walk,)*];
+            /// Mistakes of flattening.
+            pub const NESTED: &'static [Wrong] = &[$(Wrong::$nested,)*];
         }
     };
 }
@@ -682,4 +686,237 @@ mistakes! {
     FirstRoundOut,
     /// A mixed variable offends wherever it stands.
     MixedOffends,
+    ;
+    /// An input over 60,000 bytes is judged field by field.
+    NestedOneNever,
+    /// An output over 60,000 bytes is called 1.
+    FlatOneByOutput,
+    /// 4 is tried before 3 after a tag 5.
+    TreeFourBeforeThree,
+    /// Tags 1 to 3 after a tag 5 are called 3.
+    TreeLowerTagsThree,
+    /// Tags above 5 are read as tag 5.
+    TreeSixPasses,
+    /// A field of tag 5 that is cut short is called 18.
+    TreeCutEighteen,
+    /// Eight levels are too deep.
+    TreeSevenLevels,
+    /// Nine levels pass: a leaf is no level.
+    TreeNineLevels,
+    /// Any depth passes.
+    TreeAnyDepth,
+    /// Levels are counted along first children only.
+    TreeDepthOfFirst,
+    /// Bytes left over pass.
+    TreeBytesOver,
+    /// A child count of 0 passes.
+    TreeCountZero,
+    /// 17 children pass.
+    TreeCountSeventeen,
+    /// 16 children are refused.
+    TreeCountFifteen,
+    /// A node byte above 3 is read as a sum.
+    TreeUnknownSum,
+    /// A node byte above 3 is read as a leaf.
+    TreeUnknownLeaf,
+    /// Children that are cut off are left out.
+    TreeCutPasses,
+    /// A value without head or tree is called 6.
+    TreeBareSix,
+    /// The head is judged before the tree.
+    TreeHeadBefore,
+    /// 18 is tried after 5.
+    EighteenAfterFive,
+    /// 9 is tried before 5.
+    NineBeforeFive,
+    /// 5 is tried after 11.
+    FiveAfterEleven,
+    /// 5 is tried after 19.
+    FiveLast,
+    /// 11 is tried before 9.
+    ElevenBeforeNine,
+    /// 19 is tried before 11.
+    NineteenBeforeEleven,
+    /// 19 is tried before 9.
+    NineteenBeforeNine,
+    /// Leaves may name variables that trees before have added.
+    TreeAddedDeclared,
+    /// Leaves may name variables that their own tree adds.
+    TreeOwnDeclared,
+    /// Heads may be variables that trees before have added.
+    TreeHeadAdded,
+    /// A standard head passes.
+    TreeStandardHead,
+    /// A head of kind 2 is refused.
+    TreeHeadTwoRefused,
+    /// A head that is not declared is read as variable 0.
+    TreeHeadUnjudged,
+    /// A leaf that is not declared is read as variable 0.
+    TreeLeafUnjudged,
+    /// A standard leaf is refused.
+    TreeStandardLeaf,
+    /// 11 is judged among the children of each node.
+    ElevenByNode,
+    /// 11 is judged over all trees.
+    ElevenAcross,
+    /// The head counts as a leaf for 11.
+    ElevenHead,
+    /// 11 looks at leaves that follow one another.
+    ElevenNeighbours,
+    /// A variable may stand at any number of leaves.
+    ElevenNever,
+    /// 5 does not count the variables that trees add.
+    FiveNoVariables,
+    /// 5 does not count the rules that trees add.
+    FiveNoRules,
+    /// 5 does not count what the trees before have added.
+    FiveOwnTree,
+    /// 5 counts a variable for the root.
+    FiveRootCounted,
+    /// 5 counts one rule for a tree.
+    FiveOneRule,
+    /// 257 variables pass.
+    FiveVariableMore,
+    /// 256 variables are too many.
+    FiveVariableLess,
+    /// 2,049 rules pass.
+    FiveRuleMore,
+    /// 2,048 rules are too many.
+    FiveRuleLess,
+    /// The 513th tree is one too many.
+    FiveTrees,
+    /// 19 is judged on the root, too.
+    NineteenRoot,
+    /// No range is judged.
+    NineteenNever,
+    /// 19 is judged on nodes whose children are all leaves.
+    NineteenLowest,
+    /// 19 is judged on the children of the root.
+    NineteenUnderRoot,
+    /// 19 looks at highs only.
+    NineteenHighOnly,
+    /// 19 looks at lows only.
+    NineteenLowOnly,
+    /// A range that ends at 30,000 is refused.
+    NineteenWhole,
+    /// A range that ends at 30,001 passes.
+    NineteenLate,
+    /// Values of nodes are taken in two bytes.
+    NineteenShort,
+    /// An added range must lie in the head's.
+    NineteenByHead,
+    /// A node has the range of its first child.
+    RangeFirstChild,
+    /// The low of a max is the least of its children's.
+    RangeHullMax,
+    /// The high of a min is the largest of its children's.
+    RangeHullMin,
+    /// A sum has the range of a max.
+    RangeSumAsMax,
+    /// Added variables have the whole range.
+    RangeWide,
+    /// Added variables have the head's range.
+    RangeOfHead,
+    /// Standard leaves are 0 for ranges.
+    RangeStandardZero,
+    /// Leaves founded from above are at their high for ranges.
+    RangeAboveAtHigh,
+    /// Added variables are of kind 1.
+    AddedKindOne,
+    /// An added variable whose leaves are all standard is standard.
+    AddedStandard,
+    /// An added variable has the kind of its first leaf, if that is founded.
+    AddedKindOfLeaf,
+    /// Max becomes a min and min a max.
+    FormsExchanged,
+    /// The root's rule is a sum.
+    RootSum,
+    /// A leaf root is a max of one.
+    LeafRootMax,
+    /// A leaf root gives no rule.
+    LeafRootLeftOut,
+    /// A node with one child gets no variable.
+    OneChildMerged,
+    /// The root gets a variable, too.
+    RootAdded,
+    /// Children stand in reverse order.
+    ChildrenBackwards,
+    /// Children stand by ascending variable.
+    ChildrenSorted,
+    /// Leaves stand before other children.
+    LeavesFirst,
+    /// Terms of sums have number 0.
+    CoefficientZero,
+    /// Terms of max and min have number 1.
+    LargestNumberOne,
+    /// c is 1.
+    ConstantOne,
+    /// A node is numbered after its children.
+    NumbersAfterChildren,
+    /// Nodes are numbered level by level.
+    NumbersByLevel,
+    /// A later child's nodes are numbered first.
+    NumbersSiblingsBackwards,
+    /// Later trees are numbered first.
+    NumbersTreesBackwards,
+    /// A root's rule stands after those of its tree.
+    RulesRootLast,
+    /// A node's rule stands after those of its children.
+    RulesAfterChildren,
+    /// Rules of a tree stand level by level.
+    RulesByLevel,
+    /// A later child's rules stand first.
+    RulesSiblingsBackwards,
+    /// The rules of all roots stand before the others.
+    RulesRootsFirst,
+    /// Rules of later trees stand first.
+    RulesTreesBackwards,
+    /// New rules stand before the old.
+    RulesBeforeOld,
+    /// New variables stand before the old.
+    VariablesBeforeOld,
+    /// Constraints stand before the new rules.
+    ConstraintsBeforeNew,
+    /// The place of 13 is that in the plain file.
+    ThirteenInPlain,
+    /// The place of 13 is that of the first tree.
+    ThirteenAtTree,
+    /// 13 is judged with each tree as one rule.
+    ThirteenWholeTrees,
+    /// 13 is judged without the trees.
+    ThirteenWithoutTrees,
+    /// No new rule is idle.
+    ThirteenNewNeverIdle,
+    /// Edges run to all leaves.
+    ThirteenAllLeaves,
+    /// 17 is tried before 13.
+    ThirteenAfterSeventeen,
+    /// 13 is not judged where the output is over 60,000 bytes.
+    ThirteenFits,
+    /// A plain file that is not valid is written.
+    ThirteenNever,
+    /// The lent buffer is compared with the input.
+    FlatByInput,
+    /// The place of 17 is the length of the output.
+    FlatSeventeenHasPlace,
+    /// An output of 60,000 bytes is refused.
+    FlatSixtyRefused,
+    /// An output over 60,000 bytes is written.
+    FlatUnlimited,
+    /// A buffer one byte shorter than the output is good enough.
+    FlatOneShort,
+    /// A buffer as long as the output is too short.
+    FlatMustBeLonger,
+    /// A buffer shorter than the input is refused before anything else.
+    FlatSeventeenFirst,
+    /// A refusal writes a byte.
+    FlatRefusedWrites,
+    /// The length of the input is answered.
+    FlatAnswersInput,
+    /// The byte after the output is changed.
+    FlatClears,
+    /// The output stands at the end of the buffer.
+    FlatAtEnd,
+    /// The output is written in its normal form.
+    FlatNormal,
 }

@@ -2,11 +2,11 @@
 use super::graph::Graph;
 use super::run::{more, Values};
 
-const BYTES: usize = 60_000;
-const VARIABLES: usize = 256;
-const RULES: usize = 2_048;
+pub const BYTES: usize = 60_000;
+pub const VARIABLES: usize = 256;
+pub const RULES: usize = 2_048;
 const CONSTRAINTS: usize = 512;
-const TERMS: usize = 16;
+pub const TERMS: usize = 16;
 
 /// A variable's whole field, and a term: variable, op, number.
 pub type Variable = [u8; 8];
@@ -142,7 +142,7 @@ fn value(rest: &[u8], tag: u8, before_terms: usize, most: usize) -> Option<(&[u8
 
 /// A mixed place that may offend: the number of bytes from the rule's field on, its head and its variable. Those of idle rules and of standard
 /// variables, which head no rule, are left out.
-type Mixed = (usize, u8, u8);
+pub type Mixed = (usize, u8, u8);
 
 struct Bodies<'a> {
     variables: &'a [Variable],
@@ -224,7 +224,7 @@ fn rule<'a>(variables: &[Variable], start: &[u8], terms: &'a [Term]) -> Rule<'a>
 
 pub fn read<'a>(file: &'a [u8], to: &mut impl Sink<'a>) -> Result<Counted<'a>, Refusal> {
     let (n, mixed) = fields(file, to)?;
-    match first_offending(file, &n, &mixed) {
+    match first_offending(n.variables, [&file[8 * n.variables.len()..], &[]], &mixed) {
         Some(left) => Err(Refusal { number: 13, place: file.len() - left }),
         None => Ok(n),
     }
@@ -232,6 +232,15 @@ pub fn read<'a>(file: &'a [u8], to: &mut impl Sink<'a>) -> Result<Counted<'a>, R
 
 /// The fields alone: the refusals up to 12.
 pub fn fields<'a>(file: &'a [u8], to: &mut impl Sink<'a>) -> Result<(Counted<'a>, Vec<Mixed>), Refusal> {
+    let (n, mixed, rest) = fields_in_order(file, to)?;
+    if !rest.is_empty() {
+        return Err(Refusal { number: why(rest, &n), place: file.len() - rest.len() });
+    }
+    Ok((n, mixed))
+}
+
+/// The fields before the first that is not in order, and the bytes from that one on.
+pub fn fields_in_order<'a>(file: &'a [u8], to: &mut impl Sink<'a>) -> Result<(Counted<'a>, Vec<Mixed>, &'a [u8]), Refusal> {
     if file.len() > BYTES {
         return Err(Refusal { number: 1, place: 0 });
     }
@@ -262,10 +271,7 @@ pub fn fields<'a>(file: &'a [u8], to: &mut impl Sink<'a>) -> Result<(Counted<'a>
         n.constraints += 1;
         rest = after;
     }
-    if !rest.is_empty() {
-        return Err(Refusal { number: why(rest, &n), place: file.len() - rest.len() });
-    }
-    Ok((n, bodies.mixed))
+    Ok((n, bodies.mixed, rest))
 }
 
 /// Whether a place makes its rule demand more where it is larger, and whether it does where it is smaller. A literal does so whatever the head is.
@@ -327,22 +333,24 @@ impl Ends {
     }
 }
 
-/// The first rule with a mixed variable in its head's component, by the number of bytes from its field on.
-fn first_offending(file: &[u8], n: &Counted, mixed: &[Mixed]) -> Option<usize> {
+/// The first rule with a mixed variable in its head's component, by the number of bytes from its field on. The rules are those that two stretches
+/// begin with.
+pub fn first_offending(variables: &[Variable], stretches: [&[u8]; 2], mixed: &[Mixed]) -> Option<usize> {
     if mixed.is_empty() {
         return None;
     }
-    let mut graph = Graph::new(n.variables.len());
-    let ends = Ends::of(n.variables);
-    let mut rest = &file[8 * n.variables.len()..];
-    while let Some((start, terms, after)) = value(rest, 2, 4, TERMS + 1) {
-        rest = after;
-        let mut rule = rule(n.variables, start, terms);
-        if rule.form == 8 {
-            (rule.divisor, rule.terms) = (number(&terms[0]), &terms[1..]);
-        }
-        if !ends.idle(n.variables, &rule) {
-            draw(n.variables, &rule, |x, drawn| graph.edge_where(rule.head, x, drawn));
+    let mut graph = Graph::new(variables.len());
+    let ends = Ends::of(variables);
+    for mut rest in stretches {
+        while let Some((start, terms, after)) = value(rest, 2, 4, TERMS + 1) {
+            rest = after;
+            let mut rule = rule(variables, start, terms);
+            if rule.form == 8 {
+                (rule.divisor, rule.terms) = (number(&terms[0]), &terms[1..]);
+            }
+            if !ends.idle(variables, &rule) {
+                draw(variables, &rule, |x, drawn| graph.edge_where(rule.head, x, drawn));
+            }
         }
     }
     let places = graph.components();
@@ -370,7 +378,7 @@ pub fn draw(variables: &[Variable], rule: &Rule, mut to: impl FnMut(u8, bool)) {
 
 /// The number of the first refusal from 2 to 12 of the field at the start of `rest`, after so many fields.
 #[cold]
-fn why(rest: &[u8], n: &Counted) -> usize {
+pub fn why(rest: &[u8], n: &Counted) -> usize {
     let [tag, long, short, tail @ ..] = rest else { return 2 };
     let length = 256 * *long as usize + *short as usize;
     if length > tail.len() {

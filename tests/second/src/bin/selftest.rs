@@ -4,7 +4,8 @@
 //! selftest [inputs] [small programs] [inputs for each wrong variant]
 
 use second::anew::{self, lend};
-use second::brute::{self, Anew, Tried};
+use second::brute::{self, Anew, Nests, Tried};
+use second::flattened;
 use second::gen::walks::Case;
 use second::mirror::{self, Turned};
 use second::normal::normalize_with;
@@ -29,7 +30,11 @@ fn main() {
     walks(amount(0, 60_000) / 20, &mut failures);
     walk_force(amount(1, 12_000), &mut failures);
     walk_variants(amount(2, 20_000), &mut failures);
-    println!("wrong variants: {}", Wrong::ALL.len() + Wrong::NORMAL.len() + Wrong::WALK.len());
+    flattenings(amount(0, 60_000) / 2, &mut failures);
+    flat_force(amount(1, 12_000) / 2, &mut failures);
+    flat_variants(amount(2, 20_000), &mut failures);
+    let lists = [Wrong::ALL, Wrong::NORMAL, Wrong::WALK, Wrong::NESTED];
+    println!("wrong variants: {}", lists.concat().len());
     for failure in failures.iter().take(40) {
         println!("FAILED {failure}");
     }
@@ -249,4 +254,47 @@ fn stays<S: PartialEq>(seed: u64, see: fn(&Walk, &Case) -> S) -> impl Fn(Wrong) 
     let case = gen::walks::case(seed);
     let right = see(&OWN, &case);
     move |wrong| stepped::with(wrong, |walk| see(walk, &case) == right)
+}
+
+/// The sentences about flattening.
+fn flattenings(cases: u64, failures: &mut Vec<String>) {
+    let mut tally = Tally::default();
+    let mut due = 0;
+    for seed in 0..cases {
+        let case = gen::nested::case(seed);
+        due += usize::from(case.due.is_some());
+        if let Err(what) = flattened::try_case(&brute::OWN, &second::flatten, &case, &mut tally) {
+            failures.push(format!("nested file {seed}, {}: {what}", case.label));
+        }
+    }
+    println!("nested files {cases}, answers due and given {due}");
+    failures.extend(counted(&tally, flattened::required(), cases));
+}
+
+/// Mistakes of flattening, and those of reading that it shows.
+fn flat_variants(bound: u64, failures: &mut Vec<String>) {
+    let at = |seed: u64| {
+        let case = gen::nested::case(seed);
+        let right = flattened::see(&case, Wrong::Nothing);
+        move |wrong| flattened::see(&case, wrong) == right
+    };
+    find(Wrong::NESTED, bound, "nested file", at, failures);
+    find(flattened::READ, bound, "nested file", at, failures);
+}
+
+/// The stable assignments of small nested files and of their plain ones.
+fn flat_force(programs: u64, failures: &mut Vec<String>) {
+    let mut tried = Nests::default();
+    for seed in 0..programs {
+        let file = gen::nested::small(seed);
+        if let Err(what) = brute::try_nested(&brute::OWN, &second::flatten, &file, &mut tried) {
+            failures.push(format!("small nested file {seed}: {what}"));
+        }
+    }
+    println!("brute force, nested files {tried:?}");
+    for (name, count) in tried.each() {
+        if programs >= 1_000 && count < 50 {
+            failures.push(format!("brute force tried too little: nested files, {name} {count}"));
+        }
+    }
 }

@@ -123,7 +123,7 @@ impl Small {
         small
     }
 
-    fn sign(&self, v: usize) -> i64 {
+    pub fn sign(&self, v: usize) -> i64 {
         match self.program.variables[v].kind {
             Kind::Above => -1,
             _ => 1,
@@ -136,7 +136,7 @@ impl Small {
     }
 
     /// Mirrored low and high.
-    fn range(&self, v: usize) -> (i64, i64) {
+    pub fn range(&self, v: usize) -> (i64, i64) {
         let Variable { low, high, .. } = self.program.variables[v];
         let (one, other) = (self.sign(v) * low, self.sign(v) * high);
         (one.min(other), one.max(other))
@@ -149,7 +149,7 @@ impl Small {
     }
 
     /// What the rule demands where `read` gives the mirrored values.
-    fn demand_by(&self, rule: &Rule, read: impl Fn(usize) -> i64) -> i64 {
+    pub fn demand_by(&self, rule: &Rule, read: impl Fn(usize) -> i64) -> i64 {
         let value = |i: usize| self.sign(rule.terms[i].variable) * read(i);
         let values: Vec<i64> = (0..rule.terms.len()).map(value).collect();
         self.demand(rule, &values)
@@ -167,12 +167,12 @@ impl Small {
 
     /// Does moving the variable away from its starting end, which is up when
     /// mirrored, make the rule demand more?
-    fn kept(&self, r: usize, i: usize) -> bool {
+    pub fn kept(&self, r: usize, i: usize) -> bool {
         let v = self.program.rules[r].terms[i].variable;
         self.program.variables[v].founded() && self.sign(v) * self.ways[r][i] == 1
     }
 
-    fn rules(&self) -> impl Iterator<Item = (usize, &Rule)> {
+    pub fn rules(&self) -> impl Iterator<Item = (usize, &Rule)> {
         self.program.rules.iter().enumerate()
     }
 

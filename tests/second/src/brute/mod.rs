@@ -3,6 +3,7 @@
 //! founded variables are mirrored to start at their low.
 
 mod defs;
+mod nests;
 mod tried;
 mod walks;
 
@@ -12,7 +13,8 @@ use crate::reader::{parse_fields, Refusal};
 use crate::wrong::Wrong;
 use crate::{Reading, Solved, Verdict};
 use defs::{choices, constraint_met, Small, OUT};
-pub use tried::{Anew, Stepped, Tried};
+pub use nests::try_nested;
+pub use tried::{Anew, Nests, Stepped, Tried};
 pub use walks::{try_walk, try_walks, walks};
 
 /// The calls that are tried.

@@ -104,3 +104,50 @@ counts! {
     mixed_outside,
     mixed_idle,
 }
+
+// Of flattening.
+counts! {
+    Nests, programs assignments models;
+    /// Nested files that are refused as not valid, and those that are so only
+    /// because of a tree.
+    invalid,
+    invalid_by_trees,
+    /// Nested files valid only because a new rule is idle.
+    valid_by_idle,
+    /// Stable and unfounded assignments of nested files, and those against a tree.
+    stable,
+    unfounded,
+    against_tree,
+    against_constraint,
+    /// Nested files with several stable assignments, and with none.
+    several,
+    without,
+    /// Stable assignments in which the head of a tree has moved, and those in which
+    /// the tree alone moves it.
+    moved,
+    moved_by_tree,
+    /// Added variables of kinds 1 and 2.
+    added_below,
+    added_above,
+    /// Ranges of them that were tried, and those with one value.
+    ranges,
+    single,
+    /// Leaves that are kept, and those that are replaced: standard ones, and founded
+    /// ones of the other kind.
+    kept,
+    standard,
+    other_kind,
+    /// Nested files with a head at its own leaf, with several trees, and with a circle
+    /// through a tree.
+    own_leaf,
+    several_trees,
+    circles,
+    /// Stable and unfounded assignments of those with a circle.
+    circle_stable,
+    circle_unfounded,
+    /// Plans whose added values were taken from the least model: what check says.
+    least_stable,
+    least_unfounded,
+    least_rule,
+    least_constraint,
+}

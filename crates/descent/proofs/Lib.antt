@@ -1,0 +1,3 @@
+pub mod InnerBytes
+pub mod NodeEnds
+pub mod Reading

@@ -1,0 +1,1 @@
+// The nodes of trees as they stand in their bytes. No code.

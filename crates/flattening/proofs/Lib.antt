@@ -1,0 +1,4 @@
+pub mod RulesEnd
+pub mod TreesPutting
+pub mod Pieces
+pub mod Calls

@@ -1,0 +1,10 @@
+pub mod Drawn
+pub mod NodeMarks
+pub mod TreeMarks
+pub mod Records
+pub mod Settling
+pub mod TreesSeen
+pub mod TreesMarks
+pub mod OldEdges
+pub mod JudgedLaws
+pub mod OperandEdges

@@ -1,0 +1,4 @@
+pub mod Reading
+pub mod Samples
+pub mod WrongFlattenings
+pub mod Plans

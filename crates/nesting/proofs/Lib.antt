@@ -1,0 +1,5 @@
+pub mod Sizes
+pub mod Ranges
+pub mod Taking
+pub mod Surveys
+pub mod Loading

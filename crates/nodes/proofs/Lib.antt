@@ -1,0 +1,3 @@
+pub mod InnerLaws
+pub mod LeafLaws
+pub mod SizeLaws

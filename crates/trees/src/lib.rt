@@ -1,0 +1,1 @@
+// Trees: their bytes, leaves, inner nodes and levels. No code.
