@@ -1,14 +1,14 @@
 /*
  * Founded cover for C: reads a rule file, finds the least model for an assignment, checks an assignment, writes a file in its normal form, steps
- * through the search of a file's components, flattens a nested file. Link with libfounded.a (x86-64 Linux); it needs memset and memcpy of the C
- * library and nothing else. The calls are proved: each returns, for every input that is passed as said here, and answers and writes what document
- * 01 and document 02's first six wishes define (crates/founded).
+ * through the search of a file's components, flattens a nested file, says how far rules can still lift the variables of a half-filled plan. Link with
+ * libfounded.a (x86-64 Linux); it needs memset and memcpy of the C library and nothing else. The calls are proved: each returns, for every input that
+ * is passed as said here, and answers and writes what document 01 and document 02's first seven wishes define (crates/founded).
  *
  * What a caller passes:
  * - Each buffer is a pointer and its length: in words of 64 bits for `sets`, which is aligned as a uint64_t, in bytes for every other. So much can
  *   be read there, and written where the pointer is not const. What it holds, and any other number that is passed, is free.
  * - No pointer is null. An empty buffer has length 0 and any other pointer, `sets` an aligned one; nothing is read or written there.
- * - The report, buffer or sets that are written overlap nothing else that is passed. A file and an assignment may overlap.
+ * - The report, buffer or sets that are written overlap nothing else that is passed. A file may overlap an assignment or ranges.
  * - No other thread writes the buffers, or reads the one that is written, while a call runs.
  * - The calling thread has the stack that is named below left.
  *
@@ -46,8 +46,10 @@ extern "C" {
 /* ---- bytes for each variable of the file */
 
 #define FOUNDED_ASSIGNMENT_BYTES 2u /* exactly */
+#define FOUNDED_RANGE_BYTES 4u      /* exactly, of the ranges that founded_bounds reads */
 #define FOUNDED_LEAST_BYTES 2u      /* at least, of the buffer that founded_least writes */
 #define FOUNDED_CHECK_BYTES 12u     /* at least, of the report that founded_check writes: they are enough, and can all be used */
+#define FOUNDED_BOUNDS_BYTES 2u     /* at least, of the buffer that founded_bounds writes */
 
 /* ---- words of 64 bits for each variable: its set, one bit for each of the 256 numbers */
 
@@ -55,7 +57,7 @@ extern "C" {
 
 /*
  * ---- stack of a thread that makes the call and little else. In the tests the calls, in this order, touched at most 11,000, 105,200, 105,500,
- * 81,400, 10,800, 100, 100 and 17,500 bytes; the rest is for the thread's own start and a margin.
+ * 81,400, 10,800, 100, 100, 17,500 and 111,400 bytes; the rest is for the thread's own start and a margin.
  */
 
 #define FOUNDED_READ_STACK 32768u
@@ -66,6 +68,7 @@ extern "C" {
 #define FOUNDED_STEP_STACK 32768u
 #define FOUNDED_COMPONENTS_STACK 32768u
 #define FOUNDED_FLATTEN_STACK 65536u
+#define FOUNDED_BOUNDS_STACK 131072u
 
 /* ---- the calls */
 
@@ -146,6 +149,28 @@ bool founded_components(const uint64_t *sets, size_t sets_len, size_t variables,
 uint64_t founded_flatten(const uint8_t *nested, size_t nested_len, uint8_t *buffer, size_t buffer_len);
 
 /*
+ * How far rules can still lift the founded variables of a half-filled plan, in which each variable has a range inside its declared one. `ranges` has 4
+ * bytes for each variable: low (2), then high (2). A range of one value is single.
+ *
+ * REFUSED, as by founded_read or with place 0 by the first of these; or BOUNDED.
+ * - 14: ranges_len is not 4 bytes for each variable.
+ * - 20: a range leaves its declared one, or its low is above its high.
+ * - 15: buffer_len is under 2 bytes for each variable.
+ *
+ * Only BOUNDED writes: a value of 2 bytes for each variable. Of a founded variable it is a bound: the most that rules can lift it to, of kind 2 the
+ * least that they can push it down to. Of a standard one it is the low of its range, and no bound. A lift starts at the declared low and stops at the
+ * high of the range, of kind 2 it starts at the declared high and stops at the low of the range. A rule reads the variables that the reduct keeps at
+ * their bounds, and every other at the end of its range that demands most; where the range of a mixed one is not single, the head reaches the end of
+ * its own range. Constraints play no part.
+ *
+ * Every stable assignment inside the ranges has each founded variable at or below its bound, of kind 2 at or above it. So there is none inside where a
+ * bound is before its range: below the low, of kind 2 above the high. Drawing a founded variable's high, of kind 2 its low, in to its bound leaves the
+ * stable assignments inside as they are. Narrower ranges never give a founded variable a bound further from where it starts. With single ranges whose
+ * values meet every rule, the bounds are the founded values that founded_least writes for these values. examples/fill_week.c fills a plan so.
+ */
+uint64_t founded_bounds(const uint8_t *file, size_t file_len, const uint8_t *ranges, size_t ranges_len, uint8_t *buffer, size_t buffer_len);
+
+/*
  * ---- answers that are a uint64_t: a word and up to three numbers, 0 where there is none, or a word and a length, which takes the place of the
  * first two. No such answer is 0.
  */
@@ -156,12 +181,13 @@ enum {
     FOUNDED_CONSTRAINT = 3, /* constraint */
     FOUNDED_RULE = 4,       /* rule */
     FOUNDED_RANGE = 5,      /* variable */
-    FOUNDED_REFUSED = 6,    /* refusal's number 1 to 15 or 17 to 19, place in the file */
+    FOUNDED_REFUSED = 6,    /* refusal's number 1 to 15 or 17 to 20, place in the file */
     FOUNDED_ACCEPTED = 7,   /* variables, rules, constraints */
     FOUNDED_FOUND = 8,
     FOUNDED_NONE = 9,
     FOUNDED_WRITTEN = 10, /* length */
-    FOUNDED_BEGUN = 11    /* variables */
+    FOUNDED_BEGUN = 11,   /* variables */
+    FOUNDED_BOUNDED = 12
 };
 
 static inline unsigned founded_word(uint64_t answer) { return (unsigned)(answer & 0xff); }
@@ -174,7 +200,7 @@ static inline unsigned founded_third(uint64_t answer) { return (unsigned)(answer
 
 static inline uint32_t founded_length(uint64_t answer) { return (uint32_t)(answer >> 8 & 0xffffffff); }
 
-/* ---- numbers of two bytes, big-endian, two's complement: the value of variable v in an assignment or a least model */
+/* ---- numbers of two bytes, big-endian, two's complement: the value of variable v in an assignment or a least model, its bound */
 
 static inline int founded_number(const uint8_t *bytes)
 {
@@ -191,6 +217,18 @@ static inline void founded_assign(uint8_t *values, size_t v, int value)
     values[2 * v] = (uint8_t)(n >> 8);
     values[2 * v + 1] = (uint8_t)(n & 0xff);
 }
+
+/* ---- ranges: that of variable v is low..high, and both lie in -32768..32767 */
+
+static inline void founded_range(uint8_t *ranges, size_t v, int low, int high)
+{
+    founded_assign(ranges, 2 * v, low);
+    founded_assign(ranges, 2 * v + 1, high);
+}
+
+static inline int founded_low(const uint8_t *ranges, size_t v) { return founded_value(ranges, 2 * v); }
+
+static inline int founded_high(const uint8_t *ranges, size_t v) { return founded_value(ranges, 2 * v + 1); }
 
 /* ---- entries of the report, 4 bytes each: variable, mark, number. Entry i of an UNFOUNDED answer, i below bounds + conditions. */
 

@@ -1,7 +1,7 @@
 #!/usr/bin/env bash
 # The benchmark: the proved calls beside Rust for speed alone, beside a port of the proved code (flatten beside read of what it writes) and beside
 # naive iteration. Before it is timed, the Rust code is held to the proved calls on 50,000 seeded inputs; for more of them and no table:
-# bash tests/bench.sh hold 1000000 [first seed]; for flatten alone: bash tests/bench.sh flatten
+# bash tests/bench.sh hold 1000000 [first seed]; for flatten alone: bash tests/bench.sh flatten; for bounds alone: bash tests/bench.sh bounds
 set -eu
 cd "$(dirname "$0")/.."
 bash tests/archive.sh

@@ -18,12 +18,14 @@ rt check normalize >&2 || fail "the program that writes a file anew is not prove
 [ -x target/bin/normalize ] || fail "target/bin/normalize was deleted: delete target/stamp too"
 rt check flatten >&2 || fail "the program that flattens is not proved"
 [ -x target/bin/flatten ] || fail "target/bin/flatten was deleted: delete target/stamp too"
+rt check bounds >&2 || fail "the program that bounds is not proved"
+[ -x target/bin/bounds ] || fail "target/bin/bounds was deleted: delete target/stamp too"
 export CARGO_TARGET_DIR="$PWD/target/cargo"
 for package in second compare; do
     cargo build --quiet --release --manifest-path "tests/$package/Cargo.toml" || fail "$package does not compile"
 done
 cargo test --quiet --release --manifest-path tests/second/Cargo.toml || fail "the second checker's own samples"
 target/cargo/release/selftest 20000 4000 4000 || fail "the second checker's selftest"
-programs=(target/bin/print_verdict target/bin/normalize target/bin/flatten)
+programs=(target/bin/print_verdict target/bin/normalize target/bin/flatten target/bin/bounds)
 target/cargo/release/compare "${1:-0}" "${2:-100000}" "${3:-4000}" "${4:-2000}" "${programs[@]}" || fail "a difference"
 echo "library tests: passed"

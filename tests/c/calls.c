@@ -17,13 +17,13 @@
 
 enum { PAINT = 0xA5, MARK = 0xEE, WORD = 8 };
 
-enum which { READ, LEAST, CHECK, NORMALIZE, BEGIN, STEP, COMPONENTS, FLATTEN, COUNT };
+enum which { READ, LEAST, CHECK, NORMALIZE, BEGIN, STEP, COMPONENTS, FLATTEN, BOUNDS, COUNT };
 
-static const char *const CALLS[] = {"read", "least", "check", "normalize", "begin", "step", "components", "flatten"};
-static const size_t STACKS[] = {FOUNDED_READ_STACK,  FOUNDED_LEAST_STACK, FOUNDED_CHECK_STACK,      FOUNDED_NORMALIZE_STACK,
-                                FOUNDED_BEGIN_STACK, FOUNDED_STEP_STACK,  FOUNDED_COMPONENTS_STACK, FOUNDED_FLATTEN_STACK};
+static const char *const CALLS[] = {"read", "least", "check", "normalize", "begin", "step", "components", "flatten", "bounds"};
+static const size_t STACKS[] = {FOUNDED_READ_STACK, FOUNDED_LEAST_STACK,      FOUNDED_CHECK_STACK,   FOUNDED_NORMALIZE_STACK, FOUNDED_BEGIN_STACK,
+                                FOUNDED_STEP_STACK, FOUNDED_COMPONENTS_STACK, FOUNDED_FLATTEN_STACK, FOUNDED_BOUNDS_STACK};
 
-/* beside is the assignment, or the sets that components are read off; every length is in bytes */
+/* beside is the assignment, the ranges, or the sets that components are read off; every length is in bytes */
 struct call {
     enum which which;
     const void *file, *beside;
@@ -82,6 +82,7 @@ static void answer(struct call *c)
     case STEP: c->answer = founded_step(c->lent, c->lent_len / WORD, c->variables, c->k); break;
     case COMPONENTS: c->answer = founded_components(c->beside, c->beside_len / WORD, c->variables, c->lent, c->lent_len); break;
     case FLATTEN: c->answer = founded_flatten(c->file, c->file_len, c->lent, c->lent_len); break;
+    case BOUNDS: c->answer = founded_bounds(c->file, c->file_len, c->beside, c->beside_len, c->lent, c->lent_len); break;
     case COUNT: break;
     }
 }
@@ -119,11 +120,11 @@ static uint8_t *file_room, *beside_room, *lent_room;
 
 static void say(uint64_t a)
 {
-    static const char *const WORDS[] = {"nothing", "stable",   "unfounded", "constraint", "rule",    "range",
-                                        "refused", "accepted", "found",     "none",       "written", "begun"};
-    static const int NUMBERS[] = {0, 0, 2, 1, 1, 1, 2, 3, 0, 0, 0, 1};
+    static const char *const WORDS[] = {"nothing",  "stable", "unfounded", "constraint", "rule",  "range",  "refused",
+                                        "accepted", "found",  "none",      "written",    "begun", "bounded"};
+    static const int NUMBERS[] = {0, 0, 2, 1, 1, 1, 2, 3, 0, 0, 0, 1, 0};
     unsigned word = founded_word(a), numbers[] = {founded_first(a), founded_second(a), founded_third(a)};
-    if (word < 1 || word > 11 || a >> 56 != 0)
+    if (word < 1 || word > 12 || a >> 56 != 0)
         fail("answer", "no word");
     printf("%s", WORDS[word]);
     if (word == FOUNDED_WRITTEN) {
@@ -185,16 +186,20 @@ static void say_sets(const uint64_t *sets, size_t n)
             say_set(sets, x);
 }
 
+static void say_values(const uint8_t *values, size_t n)
+{
+    for (size_t v = 0; v < n; v++)
+        if (n <= 12 || said(v, n))
+            printf(" %d", founded_value(values, v));
+}
+
 /* what a call wrote; it answers how many bytes */
 static size_t say_written(enum which which, uint64_t a, const void *bytes, size_t values)
 {
     size_t entries = founded_first(a) + founded_second(a);
     switch (founded_word(a)) {
     case FOUNDED_FOUND:
-        for (size_t v = 0; v < values; v++)
-            if (said(v, values))
-                printf(" %d", founded_value(bytes, v));
-        return 2 * values;
+    case FOUNDED_BOUNDED: say_values(bytes, values); return 2 * values;
     case FOUNDED_UNFOUNDED:
         for (size_t i = 0; i < entries; i++)
             if (said(i, entries))
@@ -247,14 +252,20 @@ static void unwritten_from(const char *name, size_t n, size_t lent)
         fail(name, "a byte after the last is written");
 }
 
-static uint64_t try(const char *name, enum which which, const uint8_t *file, size_t n, const uint8_t *assignment, size_t m, size_t lent)
+/* the line's end; m bytes are the assignment or the ranges */
+static void conclude(const char *name, enum which which, uint64_t answer, size_t m, size_t lent)
 {
-    struct call c = {which, file, assignment, marks, n, m, lent, 0, 0, 0, 0};
-    uint64_t answer = twice(name, c);
     say(answer);
-    size_t written = say_written(which, answer, left, m / 2);
+    size_t written = say_written(which, answer, left, m / (which == BOUNDS ? FOUNDED_RANGE_BYTES : FOUNDED_ASSIGNMENT_BYTES));
     unwritten_from(name, written, lent);
     printf("\n");
+}
+
+static uint64_t try(const char *name, enum which which, const uint8_t *file, size_t n, const uint8_t *beside, size_t m, size_t lent)
+{
+    struct call c = {which, file, beside, marks, n, m, lent, 0, 0, 0, 0};
+    uint64_t answer = twice(name, c);
+    conclude(name, which, answer, m, lent);
     return answer;
 }
 
@@ -357,25 +368,31 @@ static void try_normalize(const char *name, size_t lent) { try(name, NORMALIZE, 
 
 static void try_flatten(const char *name, size_t lent) { try(name, FLATTEN, built.bytes, built.len, NULL, 0, lent); }
 
-/* values of the built file, and so many lent bytes */
-static void try_on(const char *name, enum which which, const int *values, size_t n, size_t lent)
+/* values of the built file, or low and high of each range in turn, and so many lent bytes */
+static uint64_t try_on(const char *name, enum which which, const int *values, size_t n, size_t lent)
 {
-    static uint8_t assignment[ROOM];
+    static uint8_t beside[ROOM];
     for (size_t v = 0; v < n; v++)
-        founded_assign(assignment, v, values[v]);
-    try(name, which, built.bytes, built.len, assignment, 2 * n, lent);
+        founded_assign(beside, v, values[v]);
+    return try(name, which, built.bytes, built.len, beside, 2 * n, lent);
 }
+
+static void try_bounds(const char *name, const int *ends, size_t n, size_t lent) { try_on(name, BOUNDS, ends, n, lent); }
 
 #define VALUES(...) (const int[]){__VA_ARGS__}, sizeof((const int[]){__VA_ARGS__}) / sizeof(int)
 
 enum { SETS = FOUNDED_SET_WORDS * FOUNDED_MAX_VARIABLES };
 
-/* a file that is read, whose search is begun with words for every variable that there can be, and that is flattened */
+/*
+ * a file that is read, whose search is begun with words for every variable that there can be, that is flattened, and whose bounds are asked with no
+ * ranges and nothing lent
+ */
 static void row(const char *name, const uint8_t *bytes, size_t n)
 {
     try(name, READ, bytes, n, NULL, 0, 0);
     try(name, BEGIN, bytes, n, NULL, 0, WORD * SETS);
     try(name, FLATTEN, bytes, n, NULL, 0, FOUNDED_MAX_FILE);
+    try(name, BOUNDS, bytes, n, NULL, 0, 0);
 }
 
 static void row_built(const char *name) { row(name, built.bytes, built.len); }
@@ -536,10 +553,29 @@ static void limits(void)
 
 /* ---- the calls least and check */
 
+/* single ranges, whose values meet every rule: the founded bounds are the least model's values */
+static void single(const char *name, const int *values, size_t n)
+{
+    static uint8_t assignment[2 * FOUNDED_MAX_VARIABLES], ranges[4 * FOUNDED_MAX_VARIABLES];
+    uint8_t model[2 * FOUNDED_MAX_VARIABLES], bounds[2 * FOUNDED_MAX_VARIABLES];
+    for (size_t v = 0; v < n; v++) {
+        founded_assign(assignment, v, values[v]);
+        founded_range(ranges, v, values[v], values[v]);
+    }
+    if (founded_word(founded_least(built.bytes, built.len, assignment, 2 * n, model, 2 * n)) != FOUNDED_FOUND ||
+        founded_word(founded_bounds(built.bytes, built.len, ranges, 4 * n, bounds, 2 * n)) != FOUNDED_BOUNDED)
+        fail(name, "no bounds");
+    for (size_t v = 0; v < n; v++)
+        if (built.bytes[8 * v + 3] != 0 && founded_value(bounds, v) != founded_value(model, v))
+            fail(name, "bounds that are not the least model's values");
+}
+
 static void both(const char *name, const int *values, size_t n, size_t least, size_t check)
 {
     try_on(name, LEAST, values, n, least);
-    try_on(name, CHECK, values, n, check);
+    unsigned word = founded_word(try_on(name, CHECK, values, n, check));
+    if (word == FOUNDED_STABLE || word == FOUNDED_UNFOUNDED || word == FOUNDED_CONSTRAINT)
+        single(name, values, n);
 }
 
 static void plans(void)
@@ -1129,6 +1165,7 @@ static void plain_readers(void)
     both("reach 42 30 5 12", VALUES(42, 30, 5, 12), 8, 48);
     try_normalize("reach", 46);
     try_begin("reach", 16);
+    try_bounds("reach", VALUES(0, 100, 0, 60, 0, 30, 0, 30), 8);
 }
 
 /* ---- refusals of nested files */
@@ -1412,6 +1449,257 @@ static void room(void)
     try_flatten("a tree more than the longest file", FOUNDED_MAX_FILE);
 }
 
+/* ---- half-filled plans */
+
+static void bounds_refused(void)
+{
+    printing_example();
+    try_bounds("printing example, row 14, no ranges", NULL, 0, 6);
+    try_bounds("printing example, row 14, a value for each", VALUES(0, 0, 0), 6);
+    try_bounds("printing example, row 14, a number short", VALUES(0, 1, 0, 1, 0), 6);
+    try("printing example, row 14, a byte short", BOUNDS, built.bytes, built.len, BYTES(0, 0, 0, 1, 0, 0, 0, 1, 0, 0, 0), 6);
+    try("printing example, row 14, a byte over", BOUNDS, built.bytes, built.len, BYTES(0, 0, 0, 1, 0, 0, 0, 1, 0, 0, 0, 1, 0), 6);
+    try_bounds("printing example, row 14, a range over", VALUES(0, 1, 0, 1, 0, 1, 0, 1), 6);
+    try_bounds("printing example, row 14 before row 20", VALUES(2, -1, 2, -1, 2), 6);
+    try_bounds("printing example, row 14 before row 15", VALUES(0, 1, 0, 1, 0), 0);
+    try_bounds("printing example, row 20, above its high", VALUES(0, 1, 0, 1, 0, 2), 6);
+    try_bounds("printing example, row 20, below its low", VALUES(-1, 1, 0, 1, 0, 1), 6);
+    try_bounds("printing example, row 20, wholly above", VALUES(0, 1, 2, 2, 0, 1), 6);
+    try_bounds("printing example, row 20, empty", VALUES(0, 1, 1, 0, 0, 1), 6);
+    try_bounds("printing example, row 20, the widest", VALUES(-32768, 32767, 0, 1, 0, 1), 6);
+    try_bounds("printing example, row 20 before row 15", VALUES(0, 1, 0, 1, 0, 2), 5);
+    try_bounds("printing example, row 20, nothing lent", VALUES(1, 0, 0, 1, 0, 1), 0);
+    try_bounds("printing example, row 15", VALUES(0, 1, 0, 1, 0, 1), 5);
+    try_bounds("printing example, row 15, nothing lent", VALUES(0, 1, 0, 1, 0, 1), 0);
+    fresh();
+    try("empty, row 14", BOUNDS, built.bytes, built.len, BYTES(0), 0);
+    try_bounds("empty", NULL, 0, 0);
+    try_bounds("empty, more lent", NULL, 0, 5);
+    constraint(1, 5);
+    try_bounds("no variables and 5 <= 0", NULL, 0, 0);
+}
+
+/* a and b of this kind in low..high, a by the rule b + c, b by the rule a */
+static void lifting(unsigned kind, int low, int high, int c)
+{
+    fresh();
+    variables(2, kind, low, high);
+    rule(SUM, 0, c);
+    term(1, PLAIN, 1);
+    rule(SUM, 1, 0);
+    term(0, PLAIN, 1);
+}
+
+static void lifted(void)
+{
+    printing_example();
+    try_bounds("printing example, all open", VALUES(0, 1, 0, 1, 0, 1), 6);
+    try_bounds("printing example, all open, more lent", VALUES(0, 1, 0, 1, 0, 1), 9);
+    try_bounds("printing example, 0 at 0", VALUES(0, 0, 0, 1, 0, 1), 6);
+    try_bounds("printing example, 0 at 1", VALUES(1, 1, 0, 1, 0, 1), 6);
+    try_bounds("printing example, 0 1 1", VALUES(0, 0, 1, 1, 1, 1), 6);
+    try_bounds("printing example, 1 at 0", VALUES(0, 1, 0, 0, 0, 1), 6);
+    arrival();
+    try_bounds("arrival, all open", VALUES(0, 100, 0, 100, 0, 100), 6);
+    try_bounds("arrival, 1 from 20 on", VALUES(0, 100, 20, 100, 0, 100), 6);
+    try_bounds("arrival, 0 in 40..60", VALUES(40, 60, 0, 100, 0, 100), 6);
+    try_bounds("arrival, 0 up to 3", VALUES(0, 3, 0, 100, 0, 100), 6);
+    lifting(FOUNDED, 0, 5, 1);
+    try_bounds("a >= b + 1, b >= a, all open", VALUES(0, 5, 0, 5), 4);
+    try_bounds("a >= b + 1, b >= a, b up to 2", VALUES(0, 5, 0, 2), 4);
+    try_bounds("a >= b + 1, b >= a, a in 2..3", VALUES(2, 3, 0, 5), 4);
+    lifting(FROM_ABOVE, 0, 5, -1);
+    try_bounds("a <= b - 1, b <= a, all open", VALUES(0, 5, 0, 5), 4);
+    try_bounds("a <= b - 1, b <= a, b from 3 on", VALUES(0, 5, 3, 5), 4);
+    lifting(FOUNDED, 0, 5, 0);
+    try_bounds("a >= b, b >= a, both from 4 on", VALUES(4, 5, 4, 5), 4);
+    constraint(1, 1);
+    term(0, PLAIN, 1);
+    try_bounds("the same with a <= -1", VALUES(4, 5, 4, 5), 4);
+    lifting(FOUNDED, -FOUNDED_MAX_NUMBER, FOUNDED_MAX_NUMBER, 1);
+    try_bounds("60000 lifts of each", VALUES(-30000, 30000, -30000, 30000), 4);
+    lifting(FROM_ABOVE, -FOUNDED_MAX_NUMBER, FOUNDED_MAX_NUMBER, -1);
+    try_bounds("60000 lifts of each, of kind 2", VALUES(-30000, 30000, -30000, 30000), 4);
+}
+
+/* standard s in -10..10, t and u in 0..10, and a variable of this kind in -100..100 for a rule of each form */
+static void forms(unsigned kind)
+{
+    fresh();
+    variable(STANDARD, -10, 10);
+    variables(2, STANDARD, 0, 10);
+    variables(8, kind, -100, 100);
+    rule(SUM, 3, 1);
+    term(0, PLAIN, 2);
+    term(1, PLAIN, -1);
+    rule(MAX, 4, 1);
+    term(0, PLAIN, 0);
+    term(1, PLAIN, 0);
+    rule(MIN, 5, 0);
+    term(0, PLAIN, 0);
+    term(1, PLAIN, 0);
+    rule(PRODUCT, 6, -1);
+    term(1, PLAIN, 0);
+    term(2, PLAIN, 0);
+    rule(SIZE, 7, 3);
+    term(1, PLAIN, 0);
+    rule(IF, 8, 9);
+    term(0, OVER, 6);
+    term(1, UNDER, 3);
+    rule(CARRY, 9, 2);
+    term(4, PLAIN, 0);
+    term(0, UNDER, -3);
+    term(1, OVER, 5);
+    rule(DIVIDED, 10, 0);
+    term(0, DIVISOR, 4);
+    term(3, PLAIN, 1);
+    term(1, PLAIN, -1);
+}
+
+#define ALL_OPEN -100, 100, -100, 100, -100, 100, -100, 100, -100, 100, -100, 100, -100, 100, -100, 100
+
+/* f and a of these kinds in 0..10, a by the rule c and f times n */
+static void across(unsigned f, unsigned a, int c, int n)
+{
+    fresh();
+    variable(f, 0, 10);
+    variable(a, 0, 10);
+    rule(SUM, 1, c);
+    term(0, PLAIN, n);
+}
+
+/* f and a in 0..10, a >= 5 by this literal of f */
+static void literal(unsigned op, int n)
+{
+    fresh();
+    variables(2, FOUNDED, 0, 10);
+    rule(IF, 1, 5);
+    term(0, op, n);
+}
+
+/* where a rule reads what it does not keep, and that it reads what it keeps at the bounds */
+static void ends(void)
+{
+    forms(FOUNDED);
+    try_bounds("forms, s in -4..6, t in 2..5, u in 3..4", VALUES(-4, 6, 2, 5, 3, 4, ALL_OPEN), 22);
+    try_bounds("forms, s in -3..5, t in 3..4, u in 3..4", VALUES(-3, 5, 3, 4, 3, 4, ALL_OPEN), 22);
+    forms(FROM_ABOVE);
+    try_bounds("forms of kind 2, s in -4..6, t in 2..5, u in 3..4", VALUES(-4, 6, 2, 5, 3, 4, ALL_OPEN), 22);
+    try_bounds("forms of kind 2, s in -3..5, t in 3..4, u in 3..4", VALUES(-3, 5, 3, 4, 3, 4, ALL_OPEN), 22);
+    across(FOUNDED, FOUNDED, 10, -1);
+    try_bounds("a >= 10 - f, f in 3..6", VALUES(3, 6, 0, 10), 4);
+    across(FROM_ABOVE, FROM_ABOVE, 10, -1);
+    try_bounds("a <= 10 - f, both of kind 2, f in 4..7", VALUES(4, 7, 0, 10), 4);
+    across(FROM_ABOVE, FOUNDED, 0, 1);
+    try_bounds("a >= f, f of kind 2 in 3..6", VALUES(3, 6, 0, 10), 4);
+    across(FOUNDED, FROM_ABOVE, 0, 1);
+    try_bounds("a <= f, a of kind 2, f in 3..6", VALUES(3, 6, 0, 10), 4);
+    literal(OVER, 3);
+    try_bounds("a >= 5 if f >= 3, f in 3..6", VALUES(3, 6, 0, 10), 4);
+    literal(UNDER, 3);
+    try_bounds("a >= 5 if f < 3, f in 2..6", VALUES(2, 6, 0, 10), 4);
+    try_bounds("a >= 5 if f < 3, f in 3..6", VALUES(3, 6, 0, 10), 4);
+}
+
+/* b in -5..5 and a in 0..10 of these kinds, a by the rule |b|, and b, if it is founded, by the rule -2 */
+static void size_of(unsigned b, unsigned a)
+{
+    fresh();
+    variable(b, -5, 5);
+    variable(a, 0, 10);
+    rule(SIZE, 1, 0);
+    term(0, PLAIN, 0);
+    if (b != STANDARD)
+        rule(SUM, 0, -2);
+}
+
+static void mixed(void)
+{
+    size_of(STANDARD, FOUNDED);
+    try_bounds("a >= |b|, b in 1..5, a up to 9", VALUES(1, 5, 0, 9), 4);
+    try_bounds("a >= |b|, b at 3", VALUES(3, 3, 0, 9), 4);
+    try_bounds("a >= |b|, b at -4, a up to 2", VALUES(-4, -4, 0, 2), 4);
+    size_of(STANDARD, FROM_ABOVE);
+    try_bounds("a <= |b|, b in 1..5, a from 1 on", VALUES(1, 5, 1, 10), 4);
+    try_bounds("a <= |b|, b at -3", VALUES(-3, -3, 1, 10), 4);
+    try_bounds("a <= |b|, b at -3, a from 4 on", VALUES(-3, -3, 4, 10), 4);
+    size_of(FOUNDED, FOUNDED);
+    try_bounds("a >= |b|, b >= -2, b from -2 on", VALUES(-2, 5, 0, 10), 4);
+    try_bounds("the same, drawn in", VALUES(-2, -2, 0, 10), 4);
+    try_bounds("the same, drawn in again", VALUES(-2, -2, 0, 2), 4);
+    try_bounds("a >= |b|, b >= -2, b up to -3", VALUES(-5, -3, 0, 10), 4);
+    try_bounds("a >= |b|, b >= -2, b at 3", VALUES(3, 3, 0, 10), 4);
+    size_of(FROM_ABOVE, FROM_ABOVE);
+    try_bounds("a <= |b|, b <= -2, b up to -2", VALUES(-5, -2, 0, 10), 4);
+    try_bounds("a <= |b|, b <= -2, b at -2", VALUES(-2, -2, 0, 10), 4);
+    own_size(FOUNDED, -10);
+    try_bounds("a >= |a| - 10, all open", VALUES(-5, 5), 2);
+    try_bounds("a >= |a| - 10, a in -2..4", VALUES(-2, 4), 2);
+    try_bounds("a >= |a| - 10, a at 3", VALUES(3, 3), 2);
+    own_size(FROM_ABOVE, 5);
+    try_bounds("a <= |a| + 5, all open", VALUES(-5, 5), 2);
+    try_bounds("a <= |a| + 5, a at 2", VALUES(2, 2), 2);
+}
+
+/* ranges for all variables and one more: low..high, for odd numbers odd_low..odd_high */
+static const int *everywhere(int low, int high, int odd_low, int odd_high)
+{
+    static int ends[2 * (FOUNDED_MAX_VARIABLES + 1)];
+    for (size_t v = 0; v <= FOUNDED_MAX_VARIABLES; v++) {
+        ends[2 * v] = v % 2 ? odd_low : low;
+        ends[2 * v + 1] = v % 2 ? odd_high : high;
+    }
+    return ends;
+}
+
+static void bounds_of_many(void)
+{
+    const size_t n = 2 * FOUNDED_MAX_VARIABLES;
+    longest();
+    try_bounds("longest file, all open", everywhere(-10, 10, -10, 10), n, 512);
+    try_bounds("longest file, all open, more lent", everywhere(-10, 10, -10, 10), n, 513);
+    try_bounds("longest file, all 10", everywhere(10, 10, 10, 10), n, 512);
+    try_bounds("longest file, row 14, a number short", everywhere(-10, 10, -10, 10), n - 1, 512);
+    try_bounds("longest file, row 14, a range over", everywhere(-10, 10, -10, 10), n + 2, 512);
+    try_bounds("longest file, row 20", everywhere(-10, 10, -10, 11), n, 512);
+    try_bounds("longest file, row 15", everywhere(-10, 10, -10, 10), n, 511);
+    put(0);
+    try_bounds("a byte more than the longest file", everywhere(-10, 10, -10, 10), n, 512);
+    sizes(FOUNDED, -20);
+    try_bounds("256 sizes, all open", everywhere(-10, 10, -10, 10), n, 512);
+    try_bounds("256 sizes, all 10", everywhere(10, 10, 10, 10), n, 512);
+    sizes(FROM_ABOVE, -20);
+    try_bounds("256 sizes of both kinds, all open", everywhere(-10, 10, -10, 10), n, 512);
+    try_bounds("256 sizes of both kinds, 5 and -5", everywhere(5, 5, -5, -5), n, 512);
+}
+
+/* ---- files that overlap what is read beside them */
+
+/* m bytes of the built file, from this one on, are the assignment or the ranges */
+static void try_inside(const char *name, enum which which, size_t from, size_t m, size_t lent)
+{
+    uint8_t *file = placed(file_room, built.bytes, built.len, 1);
+    struct call c = {which, file, file + from, left, built.len, m, lent, 0, 0, 0, 0};
+    memcpy(left, marks, lent);
+    protect(file_room, PROT_READ);
+    on_thread(&c);
+    protect(file_room, PROT_READ | PROT_WRITE);
+    printf("%s %s: ", CALLS[which], name);
+    conclude(name, which, c.answer, m, lent);
+}
+
+/* a in 0..5, a >= 4: the declared range and the value 5 stand in the file */
+static void overlapping(void)
+{
+    fresh();
+    variable(FOUNDED, 0, 5);
+    rule(SUM, 0, 4);
+    try_inside("of a file with its assignment inside", LEAST, 6, 2, 3);
+    try_inside("of a file with its assignment inside", CHECK, 6, 2, 13);
+    try_inside("of a file with its ranges inside", BOUNDS, 4, 4, 3);
+    try_inside("of a file that is its ranges", BOUNDS, 0, built.len, 3);
+}
+
 /* ---- threads at the same time, over the same files and one assignment */
 
 struct worker {
@@ -1443,6 +1731,19 @@ static bool flattens_right(void)
     return founded_word(flatten) == FOUNDED_WRITTEN && founded_length(flatten) == sizeof plain && memcmp(again, plain, sizeof plain) == 0;
 }
 
+/* the bounds of the printing example, all open and with 0 at 0 */
+static bool bounds_right(void)
+{
+    uint8_t ranges[12], bounds[6];
+    for (size_t v = 0; v < 3; v++)
+        founded_range(ranges, v, 0, 1);
+    bool right = founded_word(founded_bounds(built.bytes, built.len, ranges, 12, bounds, 6)) == FOUNDED_BOUNDED;
+    right &= founded_value(bounds, 1) == 1 && founded_value(bounds, 2) == 1;
+    founded_range(ranges, 0, 0, 0);
+    right &= founded_word(founded_bounds(built.bytes, built.len, ranges, 12, bounds, 6)) == FOUNDED_BOUNDED;
+    return right && founded_value(bounds, 1) == 0 && founded_value(bounds, 2) == 0;
+}
+
 static void *works(void *p)
 {
     struct worker *w = p;
@@ -1458,7 +1759,7 @@ static void *works(void *p)
         uint64_t normalize = founded_normalize(built.bytes, built.len, normal, sizeof normal);
         w->right &= founded_word(normalize) == FOUNDED_WRITTEN && founded_length(normalize) == 57 && normal[56] == 1;
         w->right &= founded_entry_variable(report, 1) == 2 && founded_entry_mark(report, 2) == FOUNDED_AT_MOST;
-        w->right &= searches_right() && flattens_right();
+        w->right &= searches_right() && flattens_right() && bounds_right();
     }
     return NULL;
 }
@@ -1512,6 +1813,12 @@ int main(int argc, char **argv)
     ranges();
     circles();
     room();
+    bounds_refused();
+    lifted();
+    ends();
+    mixed();
+    bounds_of_many();
+    overlapping();
     at_once();
     for (int i = 0; i < COUNT; i++)
         if (deepest[i] + MARGIN > STACKS[i])

@@ -26,6 +26,20 @@ static void flatten()
     std::printf("%u %u %u\n", founded_word(flatten), (unsigned)founded_length(flatten), plain[18]);
 }
 
+// variable 0 is at least 5, and lent -1..3
+static void bounds()
+{
+    const uint8_t file[] = {1, 0, 5, 1, 0xff, 0xff, 0, 9, 2, 0, 4, 1, 0, 0, 5};
+    uint8_t ranges[FOUNDED_RANGE_BYTES], bounds[FOUNDED_BOUNDS_BYTES];
+    founded_range(ranges, 0, -1, 3);
+    uint64_t answer = founded_bounds(file, sizeof file, ranges, sizeof ranges, bounds, sizeof bounds);
+    std::printf("%d %d %d\n", answer == FOUNDED_BOUNDED, founded_word(answer) == FOUNDED_BOUNDED, founded_value(bounds, 0));
+    std::printf("%d %d %u %u\n", founded_low(ranges, 0), founded_high(ranges, 0), ranges[0], ranges[3]);
+    founded_range(ranges, 0, 4, 3);
+    answer = founded_bounds(file, sizeof file, ranges, sizeof ranges, bounds, sizeof bounds);
+    std::printf("%u %u %u %d\n", founded_word(answer), founded_first(answer), founded_second(answer), founded_value(bounds, 0));
+}
+
 int main()
 {
     const uint8_t file[] = {1, 0, 5, 1, 0xff, 0xff, 0, 1};
@@ -43,5 +57,6 @@ int main()
     std::printf("%x\n", (unsigned)founded_length((uint64_t)0x89abcdef << 8 | FOUNDED_WRITTEN));
     search();
     flatten();
+    bounds();
     return 0;
 }

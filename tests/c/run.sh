@@ -17,7 +17,7 @@ bash tests/archive.sh || fail "no archive"
 archive=target/staticlib/libfounded.a
 out=target/c
 mkdir -p "$out"
-examples=(check_plan same_plan step_search nested_plan)
+examples=(check_plan same_plan step_search nested_plan fill_week)
 strict=(-O1 -Wall -Wextra -pedantic -Wconversion -Werror -Iinclude)
 
 # No call keeps anything: the archive has no data that can be written. It needs memset and memcpy, and nothing else.

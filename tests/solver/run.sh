@@ -1,6 +1,6 @@
 #!/bin/sh
 # Compares the proved check with an answer set solver; exit status 1 on a difference.
-# Arguments are handed on: [first seed] [programs], or --reading NAME.
+# Arguments are handed on: [first seed] [programs], also after --reading NAME or --bounds.
 for tool in gringo clasp; do
     if ! command -v "$tool" >/dev/null 2>&1; then
         echo "skipped: $tool is missing, apt-get install gringo clasp"

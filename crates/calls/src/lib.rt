@@ -23,6 +23,7 @@ pub fn denial_number(why: Denied) -> usize
         Denied::Room => 17,
         Denied::Tree(_) => 18,
         Denied::Added(_) => 19,
+        Denied::Ranges => 20,
     }
 }
 
@@ -36,6 +37,7 @@ pub fn denial_place(why: Denied) -> usize
         Denied::Room => 0,
         Denied::Tree(at) => at,
         Denied::Added(at) => at,
+        Denied::Ranges => 0,
     }
 }
 

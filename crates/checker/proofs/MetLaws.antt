@@ -15,7 +15,7 @@ use Rattle.program.specs.Reading.{Reads, accepted, Accepts}
 use Rattle.program.specs.declared.Counts.{Counts}
 use Rattle.program.proofs.Conditions.{never, last-or}
 use Rattle.meaning.specs.Founded.{GivenNoMore}
-use Rattle.meaning.specs.Reduct.{system}
+use Rattle.meaning.specs.Reduct.{reduct, system}
 use Rattle.reader.specs.Parts.{constraintPlace, ConstraintLies}
 use Rattle.reader.proofs.Published.{reads-accepts, counts-of, limited, constraint-lies, next-constraint}
 use Rattle.meaning.specs.Stable.{RuleMet, ConstraintMet}
@@ -29,7 +29,7 @@ use Rattle.program.specs.Readings.{Valuation, valued}
 use Rattle.program.specs.Variables.{notPast}
 
 -- what exceeds its head is not met
-exceeds-unmet : (P : Program) (θ : Valuation) (i : ℕ) {a : ℤ} → Exceeds P θ θ i a → RuleMet P θ i → ⊥
+exceeds-unmet : (P : Program) (θ : Valuation) (i : ℕ) {a : ℤ} → Exceeds P (reduct P) θ θ i a → RuleMet P θ i → ⊥
 exceeds-unmet P θ i {a} e r =
     T-not (notPast (variableIn (P .variables) (headOf P i)) a (θ (headOf P i))) (e .more .lt) (subst (λ g. GivenNoMore (system P) (headOf P i) g (θ (headOf P i))) (e .gives-it) r)
 
@@ -45,7 +45,7 @@ module _ {s : List ℕ} {k : Counts} {offsets masks : List ℕ} (l : Laid s k of
       )
 
   module _ (θ : Valuation) (i : ℕ) where
-    pub rule-unmet-at : i < k .rules → (P : Program) → Placed s P offsets masks → ((j : ℕ) → j < i → RuleMet P θ j) → {a : ℤ} → Exceeds P θ θ i a
+    pub rule-unmet-at : i < k .rules → (P : Program) → Placed s P offsets masks → ((j : ℕ) → j < i → RuleMet P θ j) → {a : ℤ} → Exceeds P (reduct P) θ θ i a
         → FirstUnmet (RuleMet P θ) (length (P .rules)) i
     rule-unmet-at h P p before e = record { among = omega (arith, laid-rules p); unmet = exceeds-unmet P θ i e; first = before }
 

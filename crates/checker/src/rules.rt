@@ -28,7 +28,7 @@ pub fn first_unmet_rule(
     let rules = counts.rules;
     let mut i = 0;
     while i < rules {
-        let found = demands::look(file, offsets, masks, i, assigned, assigned);
+        let found = demands::look(file, offsets, masks, i, assigned, assigned, assigned, false);
         if let Demand::More(a) = found {
             return Found::At(i);
         }

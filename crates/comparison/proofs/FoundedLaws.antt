@@ -20,7 +20,7 @@ use Rattle.program.proofs.Conditions.{never, both, some-below}
 use Rattle.program.proofs.Promises.{Promises, accepts-promises}
 use Rattle.reader.proofs.Published.{reads-accepts, counts-of, variables-are, program-limited}
 use Rattle.meaning.specs.Founded.{Model, Least}
-use Rattle.meaning.specs.Reduct.{system}
+use Rattle.meaning.specs.Reduct.{reduct, system}
 use Rattle.meaning.specs.Stable.{Meets}
 use Rattle.run.specs.Running.{EndsWith}
 use Rattle.run.specs.declared.Ending.{Ending}
@@ -114,7 +114,7 @@ module _ {P : Program} (promised : Promises P) where
 -- ---- the verdict
 
 -- the run ends in the least model
-pub ends-least : (P : Program) {θ m : Valuation} → Meets P θ → (r : Ending) → EndsWith P θ m r → Least (system P) θ m
+pub ends-least : (P : Program) {θ m : Valuation} → Meets P θ → (r : Ending) → EndsWith P (reduct P) θ m r → Least (system P) θ m
 ends-least P t ending.Model l = l
 ends-least P {θ} t ending.NoModel n = absurd (n θ (self-model (t .ranges) (t .rules)))
 
@@ -199,7 +199,7 @@ module _ (s : List ℕ) (k : Counts) (r : AcceptedAs s k) (θ : List ℤ)
   assigned-small = let a = reads-accepts r in within-small (accepts-promises (a .accepts)) θ (meets (a .meant) (a .accepts) .ranges)
 
   -- the run has ended in m
-  module _ (m : List ℤ) (e : Ending) (ends : (P : Program) → Accepts s P → EndsWith P (valued θ) (valued m) e) (b : List ℕ) where
+  module _ (m : List ℤ) (e : Ending) (ends : (P : Program) → Accepts s P → EndsWith P (reduct P) (valued θ) (valued m) e) (b : List ℕ) where
     least : (P : Program) (x : Accepts s P) → Least (system P) (valued θ) (valued m)
     least P x = ends-least P (meets P x) e (ends P x)
 

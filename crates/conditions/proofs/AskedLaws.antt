@@ -1,11 +1,10 @@
 -- What the rules of an accepted file ask: each stands where the table says, and is the program's.
-use Prim.Native.Nat.{ℕ, _<_, _≤_}
+use Prim.Native.Nat.{ℕ, _<_}
 use mathlib.Core.Path.{_≡_, sym, ap, ap₂, _∙_}
 use mathlib.Core.Bool.{Bool, false, _||_, _&&_}
 use mathlib.Core.List.{List}
 use native.Mathlib.Omega.{arith}
 use lib.ListN.{length, getD}
-use Rattle.format.specs.Limits.{maxRules}
 use Rattle.program.specs.Tables.{anyBelow}
 use Rattle.program.specs.Fields.{valueAt}
 use Rattle.program.specs.Program.{Program, Rule, ruleOf, ruleIn, variablesAt}
@@ -14,20 +13,12 @@ use Rattle.program.specs.declared.Counts.{Counts}
 use Rattle.program.specs.declared.Variable.{Variable}
 use Rattle.program.specs.declared.Direction.{Direction}
 use Rattle.program.proofs.Conditions.{any-same}
-use Rattle.reader.proofs.Published.{reads-accepts, counts-of, variables-are, limited, rule-lies}
-use Rattle.tables.specs.Entries.{RuleHere}
+use Rattle.reader.proofs.Published.{counts-of, variables-are, rule-lies}
 use Rattle.tables.specs.Laid.{OffsetsOf}
-use Rattle.tables.proofs.TableLaws.{here}
 use Rattle.report.specs.Report.{askedBy, asked}
 use Rattle.conditions.specs.Asking.{askedInto}
 
 module _ (s offsets : List ℕ) (k : Counts) (r : AcceptedAs s k) (l : OffsetsOf s offsets) where
-  pub rules-few : k .rules ≤ maxRules
-  rules-few = limited r .few-rules
-
-  pub rule-here : (i : ℕ) → i < k .rules → RuleHere s (k .variables) (getD offsets i 0)
-  rule-here i h = let a = reads-accepts r in here r (a .accepts) i (getD offsets i 0) h (l (a .meant) (a .accepts) i (omega (arith, a .rules-are)))
-
   module _ (set : ℕ → Bool) (asks : Direction → Bool → Bool) where
     -- what the rule in field i asks
     abbrev fieldAsks : ℕ → ℕ → Bool

@@ -25,6 +25,21 @@ fn put_line(output: &mut [u8], at: usize, first: &[u8], v: u8, second: &[u8], z:
     put(output, next, b'\n')
 }
 
+// The line of an entry with this variable, mark and number.
+pub fn put_marked(output: &mut [u8], at: usize, v: u8, mark: u8, z: i64) -> usize
+    requires { ⌜ (at ≤ 100000) × (natAbs z ≤ 32768) ⌝ }
+    ensures { λ r. ⌜ Appends (entryLine v mark z) at r (now (output .entry)) (now (output .exit)) ⌝ }
+    ensures { λ r. ⌜ r ≤ at + entryMost ⌝ }
+{
+    match mark {
+        Mark::BOUND => put_line(output, at, b"most ", v, b" ", z),
+        Mark::AT_MOST => put_line(output, at, b"when ", v, b" <= ", z),
+        Mark::AT_LEAST => put_line(output, at, b"when ", v, b" >= ", z),
+        Mark::BOUND_ABOVE => put_line(output, at, b"least ", v, b" ", z),
+        _ => at,
+    }
+}
+
 // The line of entry i.
 fn put_entry(output: &mut [u8], at: usize, report: &[u8], i: usize) -> usize
     requires { ⌜ (at ≤ 100000) × (4 * (i + 1) ≤ length (now report)) ⌝ }
@@ -35,13 +50,7 @@ fn put_entry(output: &mut [u8], at: usize, report: &[u8], i: usize) -> usize
     let v = report[4 * i];
     let mark = report[4 * i + 1];
     let z = format::signed_at(report, 4 * i + 2);
-    match mark {
-        Mark::BOUND => put_line(output, at, b"most ", v, b" ", z),
-        Mark::AT_MOST => put_line(output, at, b"when ", v, b" <= ", z),
-        Mark::AT_LEAST => put_line(output, at, b"when ", v, b" >= ", z),
-        Mark::BOUND_ABOVE => put_line(output, at, b"least ", v, b" ", z),
-        _ => at,
-    }
+    put_marked(output, at, v, mark, z)
 }
 
 // The lines of the first `count` entries.

@@ -19,11 +19,14 @@ use Rattle.nested.proofs.Sentences.{flattened-sentence}
 use Rattle.search.specs.BeginCall.{BeginCall}
 use Rattle.search.specs.BeginCall as begin
 use Rattle.search.proofs.BeginDetermined.{begin-demands}
+use Rattle.lent.specs.BoundsCall.{BoundsCall}
+use Rattle.lent.specs.BoundsCall as bounds
+use Rattle.lent.proofs.Calls.{bounds-demands}
 use Rattle.packing.specs.declared.Parts.{Parts}
-use Rattle.packing.specs.Packing.{packed, unpacked, lengthIn, readParts, leastParts, checkParts, normalizeParts, beginParts}
-use Rattle.founded.specs.Exports.{ExportedRead, ExportedLeast, ExportedCheck, ExportedNormalize, ExportedFlatten, ExportedBegin}
+use Rattle.packing.specs.Packing.{packed, unpacked, lengthIn, readParts, leastParts, checkParts, normalizeParts, beginParts, boundsParts}
+use Rattle.founded.specs.Exports.{ExportedRead, ExportedLeast, ExportedCheck, ExportedNormalize, ExportedFlatten, ExportedBegin, ExportedBounds}
 use Rattle.packing.proofs.Bounds.{length-short, flat-short}
-use Rattle.packing.proofs.Unpacked.{read-unpacks, least-unpacks, check-unpacks, normalize-unpacks, flatten-unpacks, begin-unpacks, length-back}
+use Rattle.packing.proofs.Unpacked.{read-unpacks, least-unpacks, check-unpacks, normalize-unpacks, flatten-unpacks, begin-unpacks, bounds-unpacks, length-back}
 
 module _ {p : Parts} {r : ℕ} (e : r ≡ packed p) where
   pub exported-read : {s : List ℕ} {x : read.Answer} → Reads s x → p ≡ readParts x → ExportedRead s r
@@ -72,3 +75,8 @@ module _ {p : Parts} {r : ℕ} (e : r ≡ packed p) where
   exported-begin {x = x} h q =
       let d : r ≡ packed (beginParts x) = e ∙ ap packed q in
       record { answer = x; begins = h; demands = begin-demands h; is-packed = d; unpacks = ap unpacked d ∙ begin-unpacks h }
+
+  pub exported-bounds : {s g b b′ : List ℕ} {x : bounds.Answer} → BoundsCall s g b x b′ → p ≡ boundsParts x → ExportedBounds s g b r b′
+  exported-bounds {x = x} h q =
+      let d : r ≡ packed (boundsParts x) = e ∙ ap packed q in
+      record { answer = x; answers = h; demands = bounds-demands h; is-packed = d; unpacks = ap unpacked d ∙ bounds-unpacks h }

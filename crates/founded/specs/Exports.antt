@@ -19,7 +19,10 @@ use Rattle.nested.specs.Sentences.{Flattened}
 use Rattle.search.specs.BeginCall.{BeginCall}
 use Rattle.search.specs.BeginCall as begin
 use Rattle.search.specs.BeginDemands.{BeginDemands}
-use Rattle.packing.specs.Packing.{packed, unpacked, lengthIn, readParts, leastParts, checkParts, normalizeParts, beginParts}
+use Rattle.lent.specs.BoundsCall.{BoundsCall}
+use Rattle.lent.specs.BoundsCall as bounds
+use Rattle.lent.specs.BoundsDemands.{BoundsDemands}
+use Rattle.packing.specs.Packing.{packed, unpacked, lengthIn, readParts, leastParts, checkParts, normalizeParts, beginParts, boundsParts}
 
 pub record ExportedRead (s : List ℕ) (r : ℕ) : Type 0 where
   pub answer : read.Answer
@@ -64,3 +67,10 @@ pub record ExportedBegin (s w : List ℕ) (r : ℕ) (w′ : List ℕ) : Type 0 w
   pub demands : BeginDemands s w answer w′
   pub is-packed : r ≡ packed (beginParts answer)
   pub unpacks : unpacked r ≡ beginParts answer
+
+pub record ExportedBounds (s g b : List ℕ) (r : ℕ) (b′ : List ℕ) : Type 0 where
+  pub answer : bounds.Answer
+  pub answers : BoundsCall s g b answer b′
+  pub demands : BoundsDemands s g b answer b′
+  pub is-packed : r ≡ packed (boundsParts answer)
+  pub unpacks : unpacked r ≡ boundsParts answer

@@ -6,8 +6,9 @@ ghost use Rattle.walks.specs.Walk.{Round};
 ghost use Rattle.reach.specs.Rows.{rowHas};
 ghost use Rattle.reach.specs.Stepping.{Steps};
 ghost use Rattle.sharing.specs.Sharing.{Names};
-ghost use Rattle.founded.specs.Exports.{ExportedRead, ExportedLeast, ExportedCheck, ExportedNormalize, ExportedFlatten, ExportedBegin};
+ghost use Rattle.founded.specs.Exports.{ExportedRead, ExportedLeast, ExportedCheck, ExportedNormalize, ExportedFlatten, ExportedBegin, ExportedBounds};
 use packing::of_beginning;
+use packing::of_bounding;
 use packing::of_reading;
 use packing::of_rewriting;
 use packing::of_solved;
@@ -52,6 +53,14 @@ pub extern "C" fn founded_flatten(nested: &[u8], buffer: &mut [u8]) -> u64
     ensures { λ r. ⌜ ExportedFlatten (now (nested .entry)) (now (buffer .entry)) r (now (buffer .exit)) ⌝ }
 {
     pack(of_rewriting(flattening::flatten(nested, buffer)))
+}
+
+// How far each founded variable can still be lifted in lent ranges, written from the buffer's first byte on.
+#[no_mangle]
+pub extern "C" fn founded_bounds(file: &[u8], ranges: &[u8], buffer: &mut [u8]) -> u64
+    ensures { λ r. ⌜ ExportedBounds (now (file .entry)) (now (ranges .entry)) (now (buffer .entry)) r (now (buffer .exit)) ⌝ }
+{
+    pack(of_bounding(bounding::call::bounds(file, ranges, buffer)))
 }
 
 // The sets before the first round of the search of the file's components, written from the first word on.

@@ -1,5 +1,5 @@
 -- A buffer whose first bytes are written, two at a time.
-use Prim.Native.Nat.{ℕ, zero, suc, _+_, _*_, _/_, _%_, _<_}
+use Prim.Native.Nat.{ℕ, suc, _+_, _*_, _/_, _%_, _<_}
 use mathlib.Core.Path.{_≡_, refl, sym, ap, ap₂, _∙_}
 use mathlib.Core.List.{List, [], _∷_, _++_, append-assoc}
 use native.Mathlib.Numerals.{add-one}
@@ -10,12 +10,8 @@ use mir.Syntax.{w16}
 use mir.Val.{ofZ}
 use Rattle.format.specs.Numbers.{bytesOf}
 use Rattle.meaning.specs.LeastCall.{written}
+use Rattle.meaning.proofs.Written.{written-length}
 use Rattle.program.specs.Readings.{Valuation}
-
-pub written-length : (m : Valuation) (n : ℕ) → length (written m n) ≡ 2 * n
-unfolding written bytesOf
-written-length m zero = refl
-written-length m (suc n) = let r = written-length m n in omega (arith, length-append (written m n) (bytesOf (m n)))
 
 -- the two bytes after what is written
 two-more : (xs b : List ℕ) (k high low : ℕ) → length xs ≡ k → k + 1 < length b

@@ -4,17 +4,15 @@ use Prim.Native.Nat.{ℕ, _*_, _<_, _≤_}
 use mathlib.Core.Path.{_≡_, refl, sym, _∙_, subst}
 use mathlib.Core.Logic.{_⊎_, inl, inr}
 use mathlib.Core.List.{List, [], _∷_}
-use native.Mathlib.Decide.{ℕ-discrete}
+use native.Mathlib.Decide.{ℕ-discrete, decLt}
 use native.Mathlib.Omega.{arith}
-use lib.Dec.{ltb, ltb→lt, nltb→le}
 use lib.ListN.{length}
 use Rattle.program.specs.Program.{Program}
 use Rattle.program.specs.Reading.{Reads, accepted, refused, Accepts}
 use Rattle.program.specs.Reading as reading
 use Rattle.program.proofs.Total.{reads-total}
 use Rattle.program.proofs.Unique.{reads-unique, accepts-unique, accepts-reads, reads-accepts}
-use Rattle.meaning.specs.Calls.{Denial, _placed_, _under_, Nowhere, FirstGiven, NoneGiven, Refuses, bad-file, bad-call, Called, lengths}
-use Rattle.program.proofs.Tests.{cases}
+use Rattle.meaning.specs.Calls.{Denial, _placed_, _under_, Nowhere, FirstGiven, NoneGiven, Refuses, bad-file, bad-call, Called, notExact, tooShort, lengths}
 
 -- every refusal of a table has the property
 abbrev pub Every : (Denial → Type 0) → List Denial → Type 0
@@ -97,30 +95,56 @@ module _ (table : Program → List Denial) (told : (P : Program) → Every Told 
       go (refused n at) q = inl (n, at, bad-file q)
       go (accepted v r c) q = let k = reads-accepts q in accepted-begun (k .accepts) (first-told (table (k .meant)) (told (k .meant)))
 
--- ---- the lengths of an assignment and a lent buffer
+-- ---- the lengths of what a call is handed, at so many bytes for each variable
+
+-- a refusal is given at no place
+abbrev pub Ungiven : Denial → Type 0
+Ungiven (n placed C) = Nowhere C
+
+module _ (bytes : ℕ) (a : List ℕ) (P : Program) where
+  pub exact-told : Told (notExact bytes a P)
+  exact-told = under-told 14 _ (not-equal (ℕ-discrete (length a) (bytes * length (P .variables))))
+    where
+      not-equal : {m n : ℕ} → Dec (m ≡ n) → Dec (m ≡ n → ⊥)
+      not-equal (yes e) = no (λ f. f e)
+      not-equal (no f) = yes f
+
+  pub room-told : Told (tooShort bytes a P)
+  room-told = under-told 15 _ (decLt (length a) (bytes * length (P .variables)))
+
+  -- a length that is not refused is as it must be
+  pub exact : Ungiven (notExact bytes a P) → length a ≡ bytes * length (P .variables)
+  exact f = go (ℕ-discrete (length a) (bytes * length (P .variables)))
+    where
+      go : Dec (length a ≡ bytes * length (P .variables)) → length a ≡ bytes * length (P .variables)
+      go (yes e) = e
+      go (no n) = absurd (f 0 (n, refl))
+
+  pub room : Ungiven (tooShort bytes a P) → bytes * length (P .variables) ≤ length a
+  room f = by (λ h. f 0 (h, refl))
+    where
+      by : (length a < bytes * length (P .variables) → ⊥) → bytes * length (P .variables) ≤ length a
+      by n = omega arith
+
+  -- and one that is so is not refused
+  pub is-exact : length a ≡ bytes * length (P .variables) → Ungiven (notExact bytes a P)
+  is-exact e at x = x .0 e
+
+  pub has-room : bytes * length (P .variables) ≤ length a → Ungiven (tooShort bytes a P)
+  has-room h at x = let l = x .0 in omega arith
+
+-- ---- of an assignment and a lent buffer
 
 module _ (bytes : ℕ) (a b : List ℕ) where
   pub lengths-fixed : (P : Program) → Every Fixed (lengths bytes a b P)
   lengths-fixed P = (under-fixed 14 _, (under-fixed 15 _, tt))
 
   pub lengths-told : (P : Program) → Every Told (lengths bytes a b P)
-  lengths-told P = (under-told 14 _ (not-equal (ℕ-discrete (length a) (2 * length (P .variables)))), (under-told 15 _ (less (length b) (bytes * length (P .variables))), tt))
-    where
-      not-equal : {m n : ℕ} → Dec (m ≡ n) → Dec (m ≡ n → ⊥)
-      not-equal (yes e) = no (λ f. f e)
-      not-equal (no f) = yes f
-
-      less : (m n : ℕ) → Dec (m < n)
-      less m n = cases (ltb m n) (λ c. Dec (m < n)) (λ t. yes (ltb→lt m n t)) (λ f. no (λ h. let k = nltb→le m n f in omega arith))
+  lengths-told P = (exact-told 2 a P, (room-told bytes b P, tt))
 
   module _ {s : List ℕ} {P : Program} where
-    -- what a call that is not turned down says of them
     pub long : Called (lengths bytes a b) s P → length a ≡ 2 * length (P .variables)
-    long c = go (ℕ-discrete (length a) (2 * length (P .variables)))
-      where
-        go : Dec (length a ≡ 2 * length (P .variables)) → length a ≡ 2 * length (P .variables)
-        go (yes e) = e
-        go (no f) = absurd (c .passes .0 0 (f, refl))
+    long c = exact 2 a P (c .passes .0)
 
     pub called : Accepts s P → length a ≡ 2 * length (P .variables) → bytes * length (P .variables) ≤ length b → Called (lengths bytes a b) s P
-    called x e h = record { accepts = x; passes = (λ at x. x .0 e, (λ at x. let l = x .0 in omega arith, tt)) }
+    called x e h = record { accepts = x; passes = (is-exact 2 a P e, (has-room bytes b P h, tt)) }

@@ -10,7 +10,7 @@ use Rattle.program.specs.Reading.{Accepts}
 use Rattle.program.proofs.Conditions.{never}
 use Rattle.program.proofs.Unique.{accepts-unique}
 use Rattle.meaning.specs.Founded.{Model, Least}
-use Rattle.meaning.specs.Reduct.{system}
+use Rattle.meaning.specs.Reduct.{Reckoning, reckoned, reduct, system}
 use Rattle.meaning.specs.LeastCall.{Answer, range, FirstOutside, AllInside, written, leastBytes, LeastCall, turned-down, outside, no-model, least-model}
 use Rattle.meaning.proofs.Denials.{same-refusal, refused-or-called, lengths-fixed}
 use Rattle.meaning.proofs.Theory.{least-unique}
@@ -45,10 +45,11 @@ module _ {s : List ℕ} {P Q : Program} (x : Accepts s P) (y : Accepts s Q) wher
   same-first : {θ : Valuation} {v w : ℕ} → FirstOutside P θ v → FirstOutside Q θ w → v ≡ w
   same-first o q = same-outside o (rw (← accepts-unique x y) at q)
 
-  same-bytes : {θ m m′ : Valuation} (b : List ℕ) → Least (system P) θ m → Least (system Q) θ m′
+  -- the least models of one file, however a program is read
+  pub same-bytes : (R : Program → Reckoning) {θ m m′ : Valuation} (b : List ℕ) → Least (reckoned P (R P)) θ m → Least (reckoned Q (R Q)) θ m′
       → written m (length (P .variables)) ++ drop (2 * length (P .variables)) b ≡ written m′ (length (Q .variables)) ++ drop (2 * length (Q .variables)) b
-  same-bytes {θ} {m} {m′} b l k =
-      let e = least-unique l (subst (λ R. Least (system R) θ m′) (sym (accepts-unique x y)) k) in
+  same-bytes R {θ} {m} {m′} b l k =
+      let e = least-unique l (subst (λ S. Least (reckoned S (R S)) θ m′) (sym (accepts-unique x y)) k) in
       ap₂ _++_ (written-same (length (P .variables)) e ∙ ap (written m′) count) (ap (λ n. drop (2 * n) b) count)
 
 -- the first call's case against the second's
@@ -68,4 +69,4 @@ least-call-unique (no-model x i n) (least-model y w e) = absurd (model-or-none (
 least-call-unique (least-model x i l) (turned-down q) = absurd (refused-or-called q x)
 least-call-unique (least-model x i l) (outside y u) = absurd (inside-or-first (x .accepts) (y .accepts) i u)
 least-call-unique (least-model x i l) (no-model y w d) = absurd (model-or-none (y .accepts) (x .accepts) d l)
-least-call-unique {b = b} (least-model x i l) (least-model y w e) = (refl, same-bytes (x .accepts) (y .accepts) b l e)
+least-call-unique {b = b} (least-model x i l) (least-model y w e) = (refl, same-bytes (x .accepts) (y .accepts) reduct b l e)

@@ -7,6 +7,7 @@ use lib.IntN.{ℤ, pos, natAbs}
 use lib.ListN.{length, List·getD-eq-default}
 use lib.Dec.{T, ltb, ltb→lt, nltb→le}
 use Rattle.format.specs.Limits.{maxNumber}
+use Rattle.format.specs.Numbers.{signedAt}
 use Rattle.format.proofs.Int.{int}
 use Rattle.program.specs.Program.{Program, noVariable, variableIn}
 use Rattle.program.proofs.Promises.{VariablePromise, Promises}
@@ -26,10 +27,14 @@ pub founded-declared : (vs : List Variable) (v : ℕ) → T (isFounded (variable
 founded-declared vs v t = cases (ltb v (length vs)) (λ b. v < length vs) (ltb→lt v (length vs))
     (λ n. let e : T (isFounded noVariable) = rw (List·getD-eq-default vs noVariable (nltb→le v (length vs) n)) at t in absurd e)
 
+-- two bytes past the end of a list are 0
+pub signed-past : (g : List ℕ) (i : ℕ) → length g ≤ i → signedAt g i ≡ pos 0
+signed-past g i h =
+    let k : length g ≤ i + 1 = omega arith in
+    rw (List·getD-eq-default g 0 h, List·getD-eq-default g 0 k)
+
 pub assigned-past : (a : List ℕ) (v : ℕ) → length a ≤ 2 * v → assigned a v ≡ pos 0
-assigned-past a v h =
-    let k : length a ≤ 2 * v + 1 = omega arith in
-    rw (List·getD-eq-default a 0 h, List·getD-eq-default a 0 k)
+assigned-past a v h = signed-past a (2 * v) h
 
 module _ (P : Program) {θ : Valuation} where
   pub inside-within : ((v : ℕ) → length (P .variables) ≤ v → θ v ≡ pos 0) → AllInside P θ → Within (system P) θ

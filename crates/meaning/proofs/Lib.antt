@@ -8,6 +8,7 @@ pub mod Denials
 pub mod Determined
 pub mod LeastDemanded
 pub mod InRanges
+pub mod Narrowing
 pub mod SameModels
 pub mod IdleRules
 pub mod IdleCalls
@@ -15,3 +16,4 @@ pub mod IdleFiles
 pub mod Steps
 pub mod Search
 pub mod Total
+pub mod Written

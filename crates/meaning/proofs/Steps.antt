@@ -24,10 +24,12 @@ abbrev pub Raised : Valuation → Valuation → ℕ → ℤ → Type 0
 Raised m m⁺ h a = (v : ℕ) → (m⁺ v ≡ m v) ⊎ ((h ≡ v) × (m⁺ v ≡ a))
 
 -- a rule that reads the raised variable at no kept position gives what it gave
-module _ (P : Program) (r : Rule) (θ m m⁺ : Valuation) (h : ℕ) (a : ℤ) (is : Raised m m⁺ h a) where
-  same-reading : readsKept P r h ≡ false → (i : ℕ) → i < length (r .terms) → reading (P .variables) r m⁺ θ i ≡ reading (P .variables) r m θ i
+module _ (P : Program) (r : Rule) (m m⁺ : Valuation) (h : ℕ) (a : ℤ) (is : Raised m m⁺ h a) where
+  -- whatever is read at the positions that are not kept
+  pub same-kept : readsKept P r h ≡ false → (i : ℕ) → i < length (r .terms) → (other : ℤ)
+      → cond (kept (P .variables) r i) (m⁺ (bodyVariable r i)) other ≡ cond (kept (P .variables) r i) (m (bodyVariable r i)) other
   unfolding readsKept
-  same-reading e i l = go (kept (P .variables) r i) refl (is (bodyVariable r i))
+  same-kept e i l other = go (kept (P .variables) r i) refl (is (bodyVariable r i))
     where
       apart : kept (P .variables) r i ≡ true → h ≡ bodyVariable r i → ⊥
       apart k q =
@@ -35,14 +37,16 @@ module _ (P : Program) (r : Rule) (θ m m⁺ : Valuation) (h : ℕ) (a : ℤ) (i
           (none-below _ (λ j. kept (P .variables) r j && eqb (bodyVariable r j) h) e i l)
 
       go : (b : Bool) → kept (P .variables) r i ≡ b → (m⁺ (bodyVariable r i) ≡ m (bodyVariable r i)) ⊎ ((h ≡ bodyVariable r i) × (m⁺ (bodyVariable r i) ≡ a))
-          → cond b (m⁺ (bodyVariable r i)) (θ (bodyVariable r i)) ≡ cond b (m (bodyVariable r i)) (θ (bodyVariable r i))
+          → cond b (m⁺ (bodyVariable r i)) other ≡ cond b (m (bodyVariable r i)) other
       go true k (inl q) = q
       go true k (inr q) = absurd (apart k (q .0))
       go false k q = refl
 
+module _ (P : Program) (r : Rule) (θ m m⁺ : Valuation) (h : ℕ) (a : ℤ) (is : Raised m m⁺ h a) where
   pub same-given : readsKept P r h ≡ false → Evaluable r → gives (P .variables) r m⁺ θ ≡ gives (P .variables) r m θ
   unfolding gives
-  same-given e v = evaluate-same r (reading (P .variables) r m⁺ θ) (reading (P .variables) r m θ) (same-reading e) v
+  same-given e v =
+      evaluate-same r (reading (P .variables) r m⁺ θ) (reading (P .variables) r m θ) (λ i l. same-kept P r m m⁺ h a is e i l (θ (bodyVariable r i))) v
 
 -- how far the values are from the far ends, in all
 abbrev pub gap : List Variable → List ℤ → ℕ

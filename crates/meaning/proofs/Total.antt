@@ -8,6 +8,7 @@ use native.Mathlib.Omega.{arith}
 use lib.ListN.{length}
 use Rattle.program.specs.Program.{Program, variableIn}
 use Rattle.program.proofs.Promises.{accepts-promises}
+use Rattle.meaning.specs.Reduct.{reduct}
 use Rattle.meaning.specs.Stable.{assigned}
 use Rattle.meaning.specs.Calls.{Called, lengths}
 use Rattle.meaning.specs.LeastCall.{FirstOutside, AllInside, Answer, LeastCall, turned-down, outside, no-model, least-model, leastBytes}
@@ -36,7 +37,7 @@ ranged P θ = go (first-or-all inside (λ v. is-it (inRange (variableIn (P .vari
 -- ---- the call least
 
 module _ {s a b : List ℕ} {P : Program} (x : Called (lengths leastBytes a b) s P) where
-  solved-total : AllInside P (assigned a) → Solvable P (assigned a) → Answers s a b
+  solved-total : AllInside P (assigned a) → Solvable P (reduct P) (assigned a) → Answers s a b
   solved-total i (inl l) = (_, _, least-model x i (l .1))
   solved-total i (inr n) = (_, _, no-model x i n)
 

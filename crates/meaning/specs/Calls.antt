@@ -8,7 +8,7 @@ use lib.ListN.{length}
 use Rattle.program.specs.Program.{Program}
 use Rattle.program.specs.Reading.{Reads, refused, accepted, Accepts, numberOf}
 use Rattle.meaning.specs.declared.Denied.{Denied}
-use Rattle.meaning.specs.declared.Denied.the-variants.{File, Assignment, Buffer, Room, Tree, Added}
+use Rattle.meaning.specs.declared.Denied.the-variants.{File, Assignment, Buffer, Room, Tree, Added, Ranges}
 use Rattle.meaning.specs.declared.Opening.{Opening}
 use Rattle.meaning.specs.declared.Opening.the-variants.{Closed, Open}
 
@@ -73,6 +73,7 @@ denialNumber Buffer = 15
 denialNumber Room = 17
 denialNumber (Tree at) = 18
 denialNumber (Added at) = 19
+denialNumber Ranges = 20
 
 abbrev pub denialPlace : Denied → ℕ
 denialPlace (File why at) = at
@@ -81,6 +82,7 @@ denialPlace Buffer = 0
 denialPlace Room = 0
 denialPlace (Tree at) = at
 denialPlace (Added at) = at
+denialPlace Ranges = 0
 
 -- a call's opening says that it is turned down, and why, or the counts of its file
 abbrev pub Opened : ℕ → List ℕ → List ℕ → List ℕ → Opening → Type 0

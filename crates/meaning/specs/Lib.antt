@@ -9,3 +9,4 @@ pub mod LeastDemands
 pub mod Unfounded
 pub mod Search
 pub mod Reads
+pub mod Narrowing

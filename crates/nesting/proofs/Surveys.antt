@@ -23,7 +23,7 @@ use Rattle.program.proofs.RoundTrip.{passed-encoded}
 use Rattle.rewriting.proofs.Forms.{variables-size}
 use Rattle.meaning.specs.Calls.{denialNumber, denialPlace}
 use Rattle.meaning.specs.declared.Denied.{Denied}
-use Rattle.meaning.specs.declared.Denied.the-variants.{File, Assignment, Buffer, Room, Tree, Added}
+use Rattle.meaning.specs.declared.Denied.the-variants.{File, Assignment, Buffer, Room, Tree, Added, Ranges}
 use Rattle.fields.proofs.ScanLaws.{Stands, number-positive}
 use Rattle.nested.specs.Nested.{treeTag, Nested, treed, treedOf, nested}
 use Rattle.nested.specs.TreeRefusals.{treedRefusal, nestedRefusal}
@@ -47,6 +47,7 @@ denial-positive Buffer = lit< tt
 denial-positive Room = lit< tt
 denial-positive (Tree at) = lit< tt
 denial-positive (Added at) = lit< tt
+denial-positive Ranges = lit< tt
 
 denied : {N : Nested} {v : List ℕ} {at : ℕ} {t : Totals} {records : List ℕ} {lows highs : List ℤ} {d : Denied} → Takes N v at t records lows highs (Refused d)
     → (denialNumber d ≡ treedRefusal N (treedOf v)) × (denialPlace d ≡ at)

@@ -1,4 +1,4 @@
--- Every answer's word and numbers fit their bits, since a refusal's number is at most 17 and its place within the longest file, a variable, rule or
+-- Every answer's word and numbers fit their bits, since a refusal's number is at most 20 and its place within the longest file, a variable, rule or
 -- constraint is below the format's limit for its kind, and the counts are at most these limits, the conditions' twice that of the variables.
 use Prim.Native.Nat.{ℕ, _<_}
 use mathlib.Core.Path.{refl}
@@ -28,7 +28,9 @@ use Rattle.nested.specs.FlattenCall as flatten
 use Rattle.nested.proofs.FlattenDemanded.{refused-small}
 use Rattle.search.specs.BeginCall.{TurnedDown, BeginCall, short}
 use Rattle.search.specs.BeginCall as begin
-use Rattle.packing.specs.Packing.{parts, Fits, readParts, leastParts, checkParts, lengthParts, normalizeParts, beginParts}
+use Rattle.lent.specs.BoundsCall.{BoundsCall, turned}
+use Rattle.lent.specs.BoundsCall as bounds
+use Rattle.packing.specs.Packing.{parts, Fits, readParts, leastParts, checkParts, lengthParts, normalizeParts, beginParts, boundsParts}
 use Rattle.program.specs.Readings.{Valuation}
 use mathlib.Core.Logic.{inl, inr}
 use Rattle.meaning.proofs.Denials.{Every}
@@ -138,3 +140,10 @@ turned-fits {s} {w} {n} {at} (begin.bad-call {k = k} h g) = first-fits (short w 
 pub begin-fits : {s w w′ : List ℕ} {x : begin.Answer} → BeginCall s w x w′ → Fits (beginParts x)
 begin-fits (begin.turned-down t) = turned-fits t
 begin-fits (begin.starts h g e) = one 11 _ (omega arith) (omega (arith, counts (h .passed) .few-variables))
+
+turned-small : (g b : List ℕ) (P : Program) → Every Small (turned g b P)
+turned-small g b P = ((omega arith, λ at x. omega (arith, x .1)), ((omega arith, λ at x. omega (arith, x .1)), ((omega arith, λ at x. omega (arith, x .1)), tt)))
+
+pub bounds-fits : {s g b b′ : List ℕ} {x : bounds.Answer} → BoundsCall s g b x b′ → Fits (boundsParts x)
+bounds-fits {g = g} {b} (bounds.turned-down r) = refuses-fits (turned-small g b) r
+bounds-fits (bounds.within-bounds c m) = alone 12 (omega arith)

@@ -16,9 +16,11 @@ use Rattle.normal.specs.Normalizes as normalize
 use Rattle.nested.specs.FlattenCall.{FlattenCall}
 use Rattle.search.specs.BeginCall.{BeginCall}
 use Rattle.search.specs.BeginCall as begin
+use Rattle.lent.specs.BoundsCall.{BoundsCall}
+use Rattle.lent.specs.BoundsCall as bounds
 use Rattle.packing.specs.declared.Parts.{Parts}
-use Rattle.packing.specs.Packing.{Fits, packed, unpacked, lengthIn, readParts, leastParts, checkParts, lengthParts, normalizeParts, beginParts}
-use Rattle.packing.proofs.Bounds.{read-fits, least-fits, check-fits, normalize-fits, flatten-fits, begin-fits}
+use Rattle.packing.specs.Packing.{Fits, packed, unpacked, lengthIn, readParts, leastParts, checkParts, lengthParts, normalizeParts, beginParts, boundsParts}
+use Rattle.packing.proofs.Bounds.{read-fits, least-fits, check-fits, normalize-fits, flatten-fits, begin-fits, bounds-fits}
 
 module _ (p : Parts) (f : Fits p) where
   same-word : packed p % 256 ≡ p .word
@@ -59,6 +61,9 @@ flatten-unpacks r = unpack _ (flatten-fits r)
 pub begin-unpacks : {s w w′ : List ℕ} {x : begin.Answer} → BeginCall s w x w′ → unpacked (packed (beginParts x)) ≡ beginParts x
 begin-unpacks r = unpack _ (begin-fits r)
 
+pub bounds-unpacks : {s g b b′ : List ℕ} {x : bounds.Answer} → BoundsCall s g b x b′ → unpacked (packed (boundsParts x)) ≡ boundsParts x
+bounds-unpacks r = unpack _ (bounds-fits r)
+
 -- the length of 32 bits that an answer tells
 pub length-back : (n : ℕ) → n < 4294967296 → lengthIn (packed (lengthParts n)) ≡ n
 unfolding packed lengthIn
@@ -90,6 +95,9 @@ normalizeOf p = select (p .word) ((10 ⇒ normalize.written (p .first + 65536 * 
 abbrev beginOf : Parts → begin.Answer
 beginOf p = select (p .word) ((11 ⇒ begin.begun (p .first)) ∷ []) (begin.refusal (p .first) (p .second))
 
+abbrev boundsOf : Parts → bounds.Answer
+boundsOf p = select (p .word) ((12 ⇒ bounds.bounded) ∷ []) (bounds.refusal (p .first) (p .second))
+
 read-back : (x : read.Answer) → readOf (readParts x) ≡ x
 read-back (read.accepted v r c) = refl
 read-back (read.refused n at) = refl
@@ -115,6 +123,10 @@ normalize-back (normalize.written n) = let e : n % 65536 + 65536 * (n / 65536) �
 begin-back : (x : begin.Answer) → beginOf (beginParts x) ≡ x
 begin-back (begin.refusal n at) = refl
 begin-back (begin.begun n) = refl
+
+bounds-back : (x : bounds.Answer) → boundsOf (boundsParts x) ≡ x
+bounds-back (bounds.refusal n at) = refl
+bounds-back bounds.bounded = refl
 
 -- ---- no two answers of a call are packed in the same number, whatever the inputs
 
@@ -145,6 +157,11 @@ flatten-injective {x = x} {y} r q e =
 pub begin-injective : {s w w′ t v v′ : List ℕ} {x y : begin.Answer} → BeginCall s w x w′ → BeginCall t v y v′ → packed (beginParts x) ≡ packed (beginParts y) → x ≡ y
 begin-injective {x = x} {y} r q e =
     sym (begin-back x) ∙ ap beginOf (sym (begin-unpacks r) ∙ ap unpacked e ∙ begin-unpacks q) ∙ begin-back y
+
+pub bounds-injective : {s g b b′ t h d d′ : List ℕ} {x y : bounds.Answer} → BoundsCall s g b x b′ → BoundsCall t h d y d′
+    → packed (boundsParts x) ≡ packed (boundsParts y) → x ≡ y
+bounds-injective {x = x} {y} r q e =
+    sym (bounds-back x) ∙ ap boundsOf (sym (bounds-unpacks r) ∙ ap unpacked e ∙ bounds-unpacks q) ∙ bounds-back y
 
 -- ---- no answer is 0
 
@@ -178,3 +195,8 @@ pub begin-some : (x : begin.Answer) → 0 < packed (beginParts x)
 unfolding packed
 begin-some (begin.refusal n at) = omega arith
 begin-some (begin.begun n) = omega arith
+
+pub bounds-some : (x : bounds.Answer) → 0 < packed (boundsParts x)
+unfolding packed
+bounds-some (bounds.refusal n at) = omega arith
+bounds-some bounds.bounded = omega arith

@@ -3,12 +3,14 @@
 -- a length of 32 bits, in bits 8 to 39: its low half is the first number, its high half the second. No answer is 0.
 --
 --   1 stable   2 unfounded   3 constraint   4 rule   5 range   6 refused   7 accepted   8 found   9 none   10 written   11 begun
+--   12 bounded
 use Prim.Native.Nat.{ℕ, _+_, _*_, _/_, _%_, _<_}
 use Rattle.program.specs.Reading as read
 use Rattle.meaning.specs.LeastCall as least
 use Rattle.verdict.specs.Checks as check
 use Rattle.normal.specs.Normalizes as normalize
 use Rattle.search.specs.BeginCall as begin
+use Rattle.lent.specs.BoundsCall as bounds
 use Rattle.packing.specs.declared.Parts.{Parts}
 
 abbrev pub parts : ℕ → ℕ → ℕ → ℕ → Parts
@@ -62,3 +64,7 @@ normalizeParts (normalize.written n) = lengthParts n
 abbrev pub beginParts : begin.Answer → Parts
 beginParts (begin.refusal n at) = parts 6 n at 0
 beginParts (begin.begun n) = parts 11 n 0 0
+
+abbrev pub boundsParts : bounds.Answer → Parts
+boundsParts (bounds.refusal n at) = parts 6 n at 0
+boundsParts bounds.bounded = parts 12 0 0 0

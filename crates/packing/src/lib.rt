@@ -6,9 +6,11 @@ ghost use Rattle.meaning.specs.LeastCall as least;
 ghost use Rattle.verdict.specs.Checks as check;
 ghost use Rattle.normal.specs.Normalizes as normalize;
 ghost use Rattle.search.specs.BeginCall as begin;
-ghost use Rattle.packing.specs.Packing.{parts, Fits, packed, readParts, leastParts, checkParts, lengthParts, normalizeParts, beginParts};
+ghost use Rattle.lent.specs.BoundsCall as bounds;
+ghost use Rattle.packing.specs.Packing.{parts, Fits, packed, readParts, leastParts, checkParts, lengthParts, normalizeParts, beginParts, boundsParts};
 use calls::denial_number;
 use calls::denial_place;
+use lent::Bounding;
 use meaning::Denied;
 use meaning::Solved;
 use normal::Rewriting;
@@ -49,6 +51,8 @@ impl Word {
     pub const WRITTEN: usize = 10;
 
     pub const BEGUN: usize = 11;
+
+    pub const BOUNDED: usize = 12;
 }
 
 fn alone(word: usize) -> Parts
@@ -140,6 +144,15 @@ pub fn of_beginning(beginning: Beginning) -> Parts
     match beginning {
         Beginning::Refused(why) => of_denied(why),
         Beginning::Begun(n) => with_one(Word::BEGUN, n),
+    }
+}
+
+pub fn of_bounding(bounding: Bounding) -> Parts
+    ensures { λ r. ⌜ r ≡ boundsParts (bounds.answerOf bounding) ⌝ }
+{
+    match bounding {
+        Bounding::Refused(why) => of_denied(why),
+        Bounding::Bounded => alone(Word::BOUNDED),
     }
 }
 

@@ -11,7 +11,7 @@ ghost use lib.ListN.{length};
 // The part of the room that a call is lent starts here.
 const START: usize = 16;
 
-// The bytes that a call is lent where the line does not say how many: more than `least` and `check` ask for.
+// The bytes that a call is lent where the line does not say how many: more than `least`, `check` and `bounds` ask for.
 const USUAL: usize = 3080;
 
 // The words that a search is lent where the line does not say how many: those of 256 sets.
@@ -37,8 +37,8 @@ struct Head {
     rest: usize,
 }
 
-// Where the bytes of a case end: those of its file or input, and those of its assignment or of the file that is said to be written. Where the
-// lent part of the room starts and ends.
+// Where the bytes of a case end: those of its file or input, and those of its assignment, of its lent ranges or of the file that is said to be written. Where
+// the lent part of the room starts and ends.
 struct Ends {
     file: usize,
     all: usize,
@@ -133,7 +133,7 @@ fn alone(file: usize, to: usize) -> Ends
     }
 }
 
-// The file of a call, before a semicolon, its assignment or the file that is said to be written, and the rest.
+// The file of a call, before a semicolon, its assignment, its ranges or the file that is said to be written, and the rest.
 fn called(bytes: &mut [u8], begun: usize, letter: u8, text: &[u8]) -> Ends
     ensures { λ r. ⌜ r .from ≤ r .to ⌝ }
 {
@@ -155,8 +155,8 @@ fn called(bytes: &mut [u8], begun: usize, letter: u8, text: &[u8]) -> Ends
 // How many bytes an output has: all of the room, or few.
 fn output(letter: u8, room: usize) -> usize {
     match letter {
-        b'p' => room,
-        b's' => SHORT,
+        b'p' | b'm' => room,
+        b's' | b't' => SHORT,
         _ => 0,
     }
 }
@@ -166,7 +166,7 @@ fn filled(bytes: &mut [u8], begun: usize, letter: u8, text: &[u8], room: usize) 
     ensures { λ r. ⌜ r .from ≤ r .to ⌝ }
 {
     match letter {
-        b'l' | b'c' | b'n' | b'f' | b'b' => called(bytes, begun, letter, text),
+        b'l' | b'c' | b'n' | b'f' | b'b' | b'h' => called(bytes, begun, letter, text),
         b'w' => alone(appended(bytes, 0, text), 0),
         _ => alone(appended(bytes, begun, text), output(letter, room)),
     }

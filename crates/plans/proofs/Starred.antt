@@ -25,7 +25,7 @@ use Rattle.program.proofs.Conditions.{never, none-below}
 use Rattle.program.proofs.Decide.{share-test, offends-at, offends-test, offends-in, valid-by, unfit, whole-by}
 use Rattle.program.proofs.Promises.{accepts-promises}
 use Rattle.meaning.specs.Founded.{Model, Least}
-use Rattle.meaning.specs.Reduct.{system}
+use Rattle.meaning.specs.Reduct.{reduct, system}
 use Rattle.meaning.specs.Stable.{assigned, RuleMet, Meets}
 use Rattle.meaning.specs.LeastCall.{AllInside}
 use Rattle.meaning.specs.Search.{found, search}
@@ -99,7 +99,7 @@ rules-met P θ n e i h = is-test (not-false (rule-met P θ i) (none-below n _ e 
 module _ {s a : List ℕ} {P : Program} (p : Plan s a P) where
   -- a search that ends in m has found the least model
   pub search-least : (k : ℕ) (m : List ℤ) → search k P (assigned a) ≡ found m → Least (system P) (assigned a) (valued m)
-  search-least k m e = subst (λ o. Right P (assigned a) o) e (search-right (accepts-promises (p .accepts)) (p .ranges) k)
+  search-least k m e = subst (λ o. Right P (reduct P) (assigned a) o) e (search-right (accepts-promises (p .accepts)) (p .ranges) k)
 
   -- an assignment that meets every rule and is nowhere above the least model is the least model
   self-least : {m : Valuation} → unmet-in P (assigned a) (length (P .rules)) ≡ false → Least (system P) (assigned a) m

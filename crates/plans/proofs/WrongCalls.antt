@@ -13,6 +13,7 @@ use Rattle.program.proofs.Examples.{cut-header}
 use Rattle.program.proofs.Promises.{accepts-promises}
 use Rattle.program.proofs.Tests.{cases}
 use Rattle.meaning.specs.Calls.{Refuses, bad-file, bad-call, lengths}
+use Rattle.meaning.specs.Reduct.{reduct}
 use Rattle.meaning.specs.LeastCall as least
 use Rattle.meaning.specs.LeastCall.{leastBytes, LeastCall, no-model}
 use Rattle.meaning.specs.Search as searching
@@ -136,7 +137,7 @@ endless-none : (b : List ℕ) → 4 ≤ length b → LeastCall endless (two 5 5)
 unfolding plans.computes
 endless-none b h =
     no-model (called leastBytes (two 5 5) b endless-read refl h) (all-inside (program endless 4) (assigned (two 5 5)) refl)
-    (subst (λ (o : searching.Outcome). Right (program endless 4) (assigned (two 5 5)) o) ended
+    (subst (λ (o : searching.Outcome). Right (program endless 4) (reduct (program endless 4)) (assigned (two 5 5)) o) ended
     (search-right (accepts-promises endless-read) (plan-of (two 5 5) endless-read refl refl .ranges) 16))
   where
     ended : searching.search 16 (program endless 4) (assigned (two 5 5)) ≡ searching.none

@@ -35,21 +35,21 @@ abbrev hundred-above : List ℕ → List ℕ
 hundred-above rest = variable 2 0xFF 0x9C 0x00 0x00 rest
 
 -- the rules of form 1 for the head h: c, c + v and c - v, for c from 0 to 255
-abbrev constant : ℕ → ℕ → List ℕ → List ℕ
+abbrev pub constant : ℕ → ℕ → List ℕ → List ℕ
 constant h c rest = 0x02 ∷ 0x00 ∷ 0x04 ∷ 0x01 ∷ h ∷ 0x00 ∷ c ∷ rest
 
-abbrev plus : ℕ → ℕ → ℕ → List ℕ → List ℕ
+abbrev pub plus : ℕ → ℕ → ℕ → List ℕ → List ℕ
 plus h c v rest = 0x02 ∷ 0x00 ∷ 0x08 ∷ 0x01 ∷ h ∷ 0x00 ∷ c ∷ v ∷ 0x00 ∷ 0x00 ∷ 0x01 ∷ rest
 
-abbrev minus : ℕ → ℕ → ℕ → List ℕ → List ℕ
+abbrev pub minus : ℕ → ℕ → ℕ → List ℕ → List ℕ
 minus h c v rest = 0x02 ∷ 0x00 ∷ 0x08 ∷ 0x01 ∷ h ∷ 0x00 ∷ c ∷ v ∷ 0x00 ∷ 0xFF ∷ 0xFF ∷ rest
 
 -- the rule of form 5: c + |v|
-abbrev size : ℕ → ℕ → ℕ → List ℕ → List ℕ
+abbrev pub size : ℕ → ℕ → ℕ → List ℕ → List ℕ
 size h c v rest = 0x02 ∷ 0x00 ∷ 0x08 ∷ 0x05 ∷ h ∷ 0x00 ∷ c ∷ v ∷ 0x00 ∷ 0x00 ∷ 0x00 ∷ rest
 
 -- the rule of form 6 with one literal: c, in two bytes, if v op n
-abbrev if : ℕ → ℕ → ℕ → ℕ → ℕ → ℕ → List ℕ → List ℕ
+abbrev pub if : ℕ → ℕ → ℕ → ℕ → ℕ → ℕ → List ℕ → List ℕ
 if h c d v op n rest = 0x02 ∷ 0x00 ∷ 0x08 ∷ 0x06 ∷ h ∷ c ∷ d ∷ v ∷ op ∷ 0x00 ∷ n ∷ rest
 
 -- ---- the files

@@ -1,14 +1,13 @@
--- The printing program's framing, and that the text for an input is always there and determined.
+-- The text for an input is always there and determined.
 use Prim.Native.Nat.{ℕ, _+_, _-_, _*_, _≤_, _<_}
 use mathlib.Core.Path.{_≡_, refl, sym, ap, ap₂, _∙_, subst}
 use mathlib.Core.Logic.{_⊎_, inl, inr}
-use mathlib.Core.Bool.{Bool, true, false, not, _||_}
+use mathlib.Core.Bool.{Bool, true, false}
 use mathlib.Core.List.{List, [], _++_}
 use native.Mathlib.Omega.{arith}
-use lib.Dec.{T, T-not, ltb}
-use lib.ListN.{length, take, drop, length-drop}
+use lib.Dec.{T-not}
+use lib.ListN.{length, take, drop}
 use lib.Seq.{take-all, take-at}
-use borrow.Author.Tests.{ltb-false, lt-ltb, le-ltb}
 use Rattle.program.specs.Program.{Program, variableIn}
 use Rattle.program.specs.Reading.{Accepts}
 use Rattle.meaning.specs.Stable.{assigned}
@@ -20,33 +19,11 @@ use Rattle.verdict.proofs.Total.{checks-total}
 use Rattle.text.specs.Decimal.{decimal, number}
 use Rattle.text.specs.Output.{Holds, Appends}
 use Rattle.entries.specs.Text.{word, line, answerLine, entryLine, entriesOf, textOf, firstMost, entryMost}
-use Rattle.printing.specs.Prints.{maxInput, announced, fileIn, assignmentIn, misframed, reportBytes, blank, Prints, bad-frame, checked, room, Told, Printed}
+use Rattle.framing.specs.Framing.{announced, fileIn, restIn, misframed}
+use Rattle.framing.proofs.FramingLaws.{is-bad, is-right, file-part, rest-part}
+use Rattle.printing.specs.Prints.{maxInput, reportBytes, blank, Prints, bad-frame, checked, room, Told, Printed}
 use Rattle.text.proofs.OutputLaws.{holds-none}
 use Rattle.entries.proofs.TextLaws.{most-line, least-line, at-most-line, at-least-line, no-entries}
-
--- ---- the framing
-
-module _ (s : List ℕ) where
-  pub too-few : length s < 2 → true ≡ misframed s
-  unfolding misframed
-  too-few h = simp (lt-ltb (length s) 2 h)
-
-  pub file-short : 2 ≤ length s → length s < 2 + announced s → true ≡ misframed s
-  unfolding misframed
-  file-short h k = simp (le-ltb (length s) 2 h, lt-ltb (length s) (2 + announced s) k)
-
-  pub by-length : 2 ≤ length s → 2 + announced s ≤ length s → ltb maxInput (length s) ≡ misframed s
-  unfolding misframed
-  by-length h k = simp (le-ltb (length s) 2 h, le-ltb (length s) (2 + announced s) k)
-
-  pub framed : misframed s ≡ false → (2 ≤ length s) × (2 + announced s ≤ length s)
-  unfolding misframed
-  framed e = go (ltb (length s) 2) (ltb (length s) (2 + announced s)) (ltb maxInput (length s)) refl refl e
-    where
-      go : (p q r : Bool) → ltb (length s) 2 ≡ p → ltb (length s) (2 + announced s) ≡ q → (p || q || r) ≡ false → (2 ≤ length s) × (2 + announced s ≤ length s)
-      go true q r a b f = let z : _≡_ {A = ℕ} 0 1 = cc in absurd (omega arith)
-      go false true r a b f = let z : _≡_ {A = ℕ} 0 1 = cc in absurd (omega arith)
-      go false false r a b f = (ltb-false (length s) 2 a, ltb-false (length s) (2 + announced s) b)
 
 -- ---- an answer's entries lie in its report
 
@@ -94,16 +71,16 @@ module _ {f a b : List ℕ} {n k : ℕ} {r : List ℕ} (c : Checks f a b (unfoun
 
 pub prints-unique : {s t u : List ℕ} → Prints s t → Prints s u → t ≡ u
 prints-unique (bad-frame p) (bad-frame q) = refl
-prints-unique {s} (bad-frame p) (checked q c) = absurd (T-not (misframed s) q p)
-prints-unique {s} (checked p c) (bad-frame q) = absurd (T-not (misframed s) p q)
+prints-unique {s} (bad-frame p) (checked q c) = absurd (T-not (misframed maxInput s) q p)
+prints-unique {s} (checked p c) (bad-frame q) = absurd (T-not (misframed maxInput s) p q)
 prints-unique (checked p c) (checked q d) = let e = checks-unique c d in ap₂ textOf (e .0) (e .1)
 
 pub prints-total : (s : List ℕ) → (t : List ℕ) × Prints s t
-prints-total s = go (misframed s) refl
+prints-total s = go (misframed maxInput s) refl
   where
-    go : (b : Bool) → misframed s ≡ b → (t : List ℕ) × Prints s t
-    go true e = (_, bad-frame (subst T (sym e) tt))
-    go false e = let c = checks-total (fileIn s) (assignmentIn s) blank in (_, checked (subst (λ (x : Bool). T (not x)) (sym e) tt) (c .2))
+    go : (b : Bool) → misframed maxInput s ≡ b → (t : List ℕ) × Prints s t
+    go true e = (_, bad-frame (is-bad maxInput s e))
+    go false e = let c = checks-total (fileIn s) (restIn s) blank in (_, checked (is-right maxInput s e) (c .2))
 
 -- ---- what the call leaves
 
@@ -114,30 +91,25 @@ pub told : {f a b : List ℕ} {r : Answer} {b₁ : List ℕ} {n : ℕ} {b′ : L
     → Appends (textOf r b₁) 0 n b b′ × (n ≤ firstMost + entryMost * entriesOf r) → Told f a b n b′
 told c h w = record { answer = _; report = _; checks = c; holds = whole (w .0); short = omega (arith, w .1) }
 
-pub printed-refusal : (s : List ℕ) {n : ℕ} {b b′ : List ℕ} → misframed s ≡ true → Appends (answerLine (refusal 16 0)) 0 n b b′ → n ≤ firstMost → Printed s b n b′
+pub printed-refusal : (s : List ℕ) {n : ℕ} {b b′ : List ℕ} → misframed maxInput s ≡ true → Appends (answerLine (refusal 16 0)) 0 n b b′ → n ≤ firstMost → Printed s b n b′
 printed-refusal s e w h = record {
   text = _;
-  prints = bad-frame (subst T (sym e) tt);
+  prints = bad-frame (is-bad maxInput s e);
   holds = whole (no-entries (refusal 16 0) blank refl w);
   short = omega arith;
 }
 
 -- the file and the assignment are parts of the input
-pub printed-told : (s : List ℕ) (end : ℕ) {n : ℕ} {b b′ : List ℕ} → misframed s ≡ false → end ≡ 2 + announced s
+pub printed-told : (s : List ℕ) (end : ℕ) {n : ℕ} {b b′ : List ℕ} → misframed maxInput s ≡ false → end ≡ 2 + announced s
     → Told (take (end - 2) (drop 2 s)) (take (length s - end) (drop end s)) b n b′ → Printed s b n b′
-printed-told s end e q t =
-    let k : end - 2 ≡ announced s = omega arith in
-    let f : take (end - 2) (drop 2 s) ≡ fileIn s = ap (λ (j : ℕ). take j (drop 2 s)) k in
-    let a : take (length s - end) (drop end s) ≡ assignmentIn s =
-    take-all (length s - end) (drop end s) (omega (arith, length-drop end s)) ∙ ap (λ (j : ℕ). drop j s) q in
-    record {
-      text = _;
-      prints = checked (subst (λ (x : Bool). T (not x)) (sym e) tt)
-          (subst (λ (y : List ℕ). Checks (fileIn s) y blank (t .answer) (t .report)) a
-          (subst (λ (x : List ℕ). Checks x (take (length s - end) (drop end s)) blank (t .answer) (t .report)) f (t .checks)));
-      holds = t .holds;
-      short = t .short;
-    }
+printed-told s end e q t = record {
+  text = _;
+  prints = checked (is-right maxInput s e)
+      (subst (λ (y : List ℕ). Checks (fileIn s) y blank (t .answer) (t .report)) (rest-part s end q)
+      (subst (λ (x : List ℕ). Checks x (take (length s - end) (drop end s)) blank (t .answer) (t .report)) (file-part s end q) (t .checks)));
+  holds = t .holds;
+  short = t .short;
+}
 
 -- an output with room for the longest text then starts with the text
 pub room-enough : {s b : List ℕ} {n : ℕ} {b′ t : List ℕ} → Printed s b n b′ → Prints s t → room ≤ length b → take n b′ ≡ t

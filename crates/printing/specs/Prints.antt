@@ -1,32 +1,18 @@
--- Document 01, "The printing program": the input's framing, and the text that is printed for an input.
+-- Document 01, "The printing program": the text that is printed for an input.
 use Prim.Native.Nat.{ℕ, _+_, _*_, _≤_}
 use mathlib.Core.List.{List}
-use mathlib.Core.Bool.{Bool, not, _||_}
-use lib.Dec.{T, ltb}
-use lib.ListN.{length, take, drop, replicate}
+use mathlib.Core.Bool.{not}
+use lib.Dec.{T}
+use lib.ListN.{replicate}
 use Rattle.format.specs.Limits.{maxVariables}
-use Rattle.format.specs.Numbers.{unsignedAt}
 use Rattle.verdict.specs.Checks.{Answer, refusal, checkBytes, Checks}
 use Rattle.entries.specs.Text.{textOf, firstMost, entryMost}
 use Rattle.text.specs.Output.{Holds}
+use Rattle.framing.specs.Framing.{fileIn, restIn, framingNumber, misframed}
 
 -- "over 61,000 in all"
 abbrev pub maxInput : ℕ
 maxInput = 61000
-
--- "two bytes for the file's length, the file, the assignment to the end"
-abbrev pub announced : List ℕ → ℕ
-announced s = unsignedAt s 0
-
-abbrev pub fileIn : List ℕ → List ℕ
-fileIn s = take (announced s) (drop 2 s)
-
-abbrev pub assignmentIn : List ℕ → List ℕ
-assignmentIn s = drop (2 + announced s) s
-
--- "Refusal 16: under 2 bytes, fewer file bytes than announced, or over 61,000 in all."
-unfoldable pub misframed : List ℕ → Bool
-misframed s = ltb (length s) 2 || ltb (length s) (2 + announced s) || ltb maxInput (length s)
 
 -- the report that the program lends the check: room for every entry, each byte 0
 abbrev pub reportBytes : ℕ
@@ -35,10 +21,10 @@ reportBytes = checkBytes * maxVariables
 abbrev pub blank : List ℕ
 blank = replicate reportBytes 0
 
--- the text that is printed for an input; "Order: 16, in the program alone; 1; .."
+-- the text that is printed for an input; "Order: 16, in the program alone; 1; .." The rest of the input, after the file, is the assignment
 pub data Prints (s : List ℕ) : List ℕ → Type 0 where
-  bad-frame : T (misframed s) → Prints s (textOf (refusal 16 0) blank)
-  checked : {r : Answer} {b : List ℕ} → T (not (misframed s)) → Checks (fileIn s) (assignmentIn s) blank r b → Prints s (textOf r b)
+  bad-frame : T (misframed maxInput s) → Prints s (textOf (refusal framingNumber 0) blank)
+  checked : {r : Answer} {b : List ℕ} → T (not (misframed maxInput s)) → Checks (fileIn s) (restIn s) blank r b → Prints s (textOf r b)
 
 -- room enough for every text: a first line, and a line for each of at most 3 entries a variable
 abbrev pub room : ℕ

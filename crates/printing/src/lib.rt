@@ -1,9 +1,11 @@
 // The printing program's text: the answer of the check, and its report's entries, in lines.
 ghost use mathlib.Core.Path.{_≡_};
-ghost use Rattle.printing.specs.Prints.{maxInput, misframed, reportBytes, room, Told, Printed};
+ghost use Rattle.printing.specs.Prints.{maxInput, reportBytes, room, Told, Printed};
 use checker::call::Asks;
 use checker::call::check;
 use format::Format;
+use framing::Framing;
+use framing::is_misframed;
 use lines::put_answer;
 use lines::put_two;
 
@@ -12,9 +14,6 @@ pub struct Printing {}
 impl Printing {
     // The longest input.
     pub const MAX_INPUT: usize = 61000;
-
-    // The number of the refusal of a misframed input.
-    pub const MISFRAMED: usize = 16;
 
     // The bytes of the report that the check is lent.
     pub const REPORT: usize = Asks::BYTES * Format::MAX_VARIABLES;
@@ -28,19 +27,6 @@ impl Printing {
         ensures { λ _. do ⌜ (← ⟦Printing::REPORT⟧ .entry) ≡ reportBytes ⌝ }
         ensures { λ _. do ⌜ (← ⟦Printing::ROOM⟧ .entry) ≡ room ⌝ }
     {}
-}
-
-// Whether the input is misframed.
-fn is_misframed(input: &[u8]) -> bool
-    ensures { λ r. ⌜ r ≡ misframed (now (input .entry)) ⌝ }
-{
-    if input.len() < 2 {
-        return true;
-    }
-    if input.len() < 2 + format::unsigned_at(input, 0) {
-        return true;
-    }
-    Printing::MAX_INPUT < input.len()
 }
 
 // The text of what the check answers.
@@ -58,8 +44,8 @@ fn print_checked(file: &[u8], assignment: &[u8], output: &mut [u8]) -> usize
 pub fn print(input: &[u8], output: &mut [u8]) -> usize
     ensures { λ r. ⌜ Printed (now (input .entry)) (now (output .entry)) r (now (output .exit)) ⌝ }
 {
-    if is_misframed(input) {
-        return put_two(output, b"refused ", Printing::MISFRAMED, 0);
+    if is_misframed(input, Printing::MAX_INPUT) {
+        return put_two(output, b"refused ", Framing::REFUSAL, 0);
     }
     let end = 2 + format::unsigned_at(input, 0);
     print_checked(&input[2..end], &input[end..], output)

@@ -169,7 +169,7 @@ pub record RangeIn (x : Variable) (low high : ℤ) : Type 0 where
   pub ordered : low ≤ℤ high
   pub to : high ≤ℤ x .high
 
-held-between : {x : Variable} {low high a : ℤ} → RangeIn x low high → Held low high a → Between x a
+pub held-between : {x : Variable} {low high a : ℤ} → RangeIn x low high → Held low high a → Between x a
 held-between w h = record { low = omega (int, w .from, h .low); high = omega (int, w .to, h .high) }
 
 module _ {vs : List Variable} {r : Rule} (p : RulePromise vs r) (low high : Valuation)
@@ -249,7 +249,7 @@ module _ {vs : List Variable} {r : Rule} (p : RulePromise vs r) (low high : Valu
 -- ---- the test
 
 -- what gives no more than the second, which gives no more than b, gives no more than b
-under-no-more : (x : Variable) (g h : Given) (b : ℤ) → Under x g h → T (noMore x h b) → T (noMore x g b)
+pub under-no-more : (x : Variable) (g h : Given) (b : ℤ) → Under x g h → T (noMore x h b) → T (noMore x g b)
 under-no-more x Nothing h b u n = tt
 under-no-more x (Value a) Nothing b u n = absurd u
 under-no-more x (Value a) (Value c) b u n = past-trans x a c b u n

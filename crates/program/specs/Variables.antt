@@ -45,6 +45,11 @@ abbrev pub noMore : Variable → Given → ℤ → Bool
 noMore x Nothing b = true
 noMore x (Value a) b = notPast x a b
 
+-- Document 02, wish 7: "A lift stops at the far end of the head's range": what is given to the head x, no further than b
+unfoldable pub cutOff : Variable → ℤ → Given → Given
+cutOff x b Nothing = Nothing
+cutOff x b (Value a) = Value (cond (notPast x a b) a b)
+
 -- where the least model's values begin: founded variables at their starting ends, standard ones as assigned
 abbrev pub started : Variable → ℤ → ℤ
 started x a = cond (isFounded x) (start x) a

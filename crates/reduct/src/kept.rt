@@ -13,7 +13,7 @@ use positions::open_rule;
 use positions::position_at;
 
 // The bits of a word moved up by one, with a new lowest bit.
-fn moved_up(bits: u32, lowest: bool) -> u32
+pub fn moved_up(bits: u32, lowest: bool) -> u32
     requires { ⌜ bits < 2 ^ maxTerms ⌝ }
     ensures { λ r. ⌜ r ≡ cond lowest 1 0 + 2 * bits ⌝ }
 {

@@ -1,15 +1,16 @@
 -- What a rule of the file gives, and what it demands: the field at its place is the program's rule.
 use Prim.Native.Nat.{ℕ, _+_, _*_, _<_, _≤_}
-use mathlib.Core.Path.{_≡_, sym, ap, _∙_, subst}
+use mathlib.Core.Path.{_≡_, refl, sym, ap, _∙_, subst}
 use mathlib.Core.Bool.{Bool, true, false, not, cond}
 use mathlib.Core.List.{List}
 use native.Mathlib.Omega.{arith}
 use lib.IntN.{ℤ}
-use lib.ListN.{length}
+use lib.ListN.{length, getD}
 use borrow.Author.Tests.{not-true, not-false}
+use Rattle.words.specs.Bit.{bit}
 use Rattle.program.specs.Fields.{valueAt, nextAt}
 use Rattle.program.specs.Program.{Program, Rule, ruleOf, ruleIn, variableIn, variablesAt}
-use Rattle.program.specs.Variables.{notPast}
+use Rattle.program.specs.Variables.{notPast, cutOff}
 use Rattle.program.specs.Evaluate.{evaluate}
 use Rattle.program.specs.Evaluable.{Evaluable}
 use Rattle.program.specs.Readings.{Valuation, bodyVariable, reading, gives, valued}
@@ -22,24 +23,33 @@ use Rattle.parts.specs.Values.{ruleHeader}
 use Rattle.bodies.specs.Readings.{readingOf}
 use Rattle.reader.specs.Parts.{RuleLies}
 use Rattle.reader.proofs.Published.{rule-lies, variable-lies, variable-at}
+use Rattle.meaning.specs.Reduct.{Reckoning, reduct}
+use Rattle.meaning.proofs.Narrowing.{narrows-past}
 use Rattle.tables.specs.Tabled.{MaskOf}
-use Rattle.tables.specs.Laid.{RuleAt}
-use Rattle.run.specs.Running.{headOf, givenBy, demandOf, Demanded}
+use Rattle.tables.specs.Laid.{RuleAt, Stands}
+use Rattle.run.specs.Running.{headOf, RuleStands, SomeRule, freeBit, stopped, foundBy, demandOf, LookedAt, Demanded, AsAssigned, Reckons}
 use Rattle.run.specs.declared.Demand.{Demand}
 use Rattle.run.specs.declared.Demand.the-variants.{More, Enough}
 
 -- ---- what it gives
 
 -- positions read by a mask are read as the reduct says
-given-as : (P : Program) (r : Rule) (mask : ℕ) (m θ : List ℤ) → Evaluable r → MaskOf P r mask
+pub given-as : (P : Program) (r : Rule) (mask : ℕ) (m θ : List ℤ) → Evaluable r → MaskOf P r mask
     → evaluate r (readingOf mask m θ (r .terms)) ≡ gives (P .variables) r (valued m) (valued θ)
 unfolding gives readingOf
 given-as P r mask m θ e k =
     evaluate-same r (readingOf mask m θ (r .terms)) (reading (P .variables) r (valued m) (valued θ))
     (λ j l. ap (λ (b : Bool). cond b (valued m (bodyVariable r j)) (valued θ (bodyVariable r j))) (k j l)) e
 
-module _ {s : List ℕ} {P : Program} {i at mask : ℕ} (h : RuleAt s P i at mask) where
-  lies : RuleLies s P i at
+-- a rule in the tables of the reduct stands at its place
+pub at-stands : {s : List ℕ} {P : Program} {i at mask : ℕ} → RuleAt s P i at mask → RuleStands s P i at
+at-stands h = record { accepts = h .accepts; among = h .among; placed = h .placed }
+
+pub some-stands : {s : List ℕ} {at mask : ℕ} → Stands s at mask → SomeRule s at
+some-stands h = record { program = h .program; rule = h .rule; here = at-stands (h .here) }
+
+module _ {s : List ℕ} {P : Program} {i at : ℕ} (h : RuleStands s P i at) where
+  pub lies : RuleLies s P i at
   lies = rw (h .placed) (rule-lies (h .accepts) i (h .among))
 
   -- the requirements of evaluation, for the value of its field
@@ -50,10 +60,9 @@ module _ {s : List ℕ} {P : Program} {i at mask : ℕ} (h : RuleAt s P i at mas
     pub here-headed : ruleHeader ≤ length v
     here-headed = rw q (lies .standing .headed)
 
-    pub here-as : (m θ : List ℤ) {g : Given} → g ≡ evaluate (ruleOf v) (readingOf mask m θ (ruleOf v .terms)) → g ≡ givenBy P (valued θ) (valued m) i
-    here-as m θ e =
-        e ∙ subst (λ (r : Rule). evaluate r (readingOf mask m θ (r .terms)) ≡ givenBy P (valued θ) (valued m) i) (rw q (lies .is))
-        (given-as P (ruleIn (P .rules) i) mask m θ (rw (lies .is) (lies .evaluable)) (h .masked))
+    pub here-as : (mask : ℕ) (m θ : List ℤ) {g : Given} → g ≡ evaluate (ruleOf v) (readingOf mask m θ (ruleOf v .terms))
+        → g ≡ evaluate (ruleIn (P .rules) i) (readingOf mask m θ (ruleIn (P .rules) i .terms))
+    here-as mask m θ e = e ∙ ap (λ (r : Rule). evaluate r (readingOf mask m θ (r .terms))) (ap ruleOf q ∙ sym (lies .is))
 
   -- its head, and that head's variable
   pub head-lies : (nextAt s at ≤ length s) × (ruleHeader ≤ length (valueAt s at))
@@ -77,17 +86,58 @@ module _ {s : List ℕ} {P : Program} {i at mask : ℕ} (h : RuleAt s P i at mas
 
 -- ---- what it demands
 
-demanded-by : (P : Program) (θ m : Valuation) (i : ℕ) (g : Given) → givenBy P θ m i ≡ g → Demanded P θ m i (demandOf (variableIn (P .variables) (headOf P i)) g (m (headOf P i)))
+-- it goes by the head's order
+same-demand : (x y : Variable) (g : Given) (z : ℤ) → ((a b : ℤ) → notPast x a b ≡ notPast y a b) → demandOf x g z ≡ demandOf y g z
 unfolding demandOf
-demanded-by P θ m i Nothing e = rw e tt
-demanded-by P θ m i (Value a) e = cases (notPast (variableIn (P .variables) (headOf P i)) a (m (headOf P i))) (λ b. Demanded P θ m i (cond b Enough (More a)))
+same-demand x y Nothing z e = refl
+same-demand x y (Value a) z e = ap (λ (t : Bool). cond t Enough (More a)) (e a z)
+
+demanded-by : (P : Program) (R : Reckoning) (θ m : Valuation) (i : ℕ) (g : Given) → R .gives i m θ ≡ g
+    → Demanded P R θ m i (demandOf (R .variable (headOf P i)) g (m (headOf P i)))
+unfolding demandOf
+demanded-by P R θ m i Nothing e = rw e tt
+demanded-by P R θ m i (Value a) e = cases (notPast (R .variable (headOf P i)) a (m (headOf P i))) (λ b. Demanded P R θ m i (cond b Enough (More a)))
     (λ t. rw e t) (λ t. record { gives-it = e; more = record { lt = t } })
 
-pub demanded : (P : Program) (θ m : Valuation) (i : ℕ) {x : Variable} {g : Given} {z : ℤ} {d : Demand} → d ≡ demandOf x g z → x ≡ variableIn (P .variables) (headOf P i)
-    → g ≡ givenBy P θ m i → z ≡ m (headOf P i) → Demanded P θ m i d
-demanded P θ m i {x} {g} {z} {d} p o q r = rw (p, o, r) (demanded-by P θ m i g (sym q))
+-- what was looked at, where what is found is what is given
+looked-demanded : (P : Program) (R : Reckoning) (θ : Valuation) (mask : ℕ) (cut : Bool) (stops others m : List ℤ) (i : ℕ) {d : Demand}
+    → ((a b : ℤ) → notPast (R .variable (headOf P i)) a b ≡ notPast (variableIn (P .variables) (headOf P i)) a b) → R .gives i (valued m) θ ≡ foundBy P mask cut stops others m i
+    → LookedAt P mask cut stops others m i d → Demanded P R θ (valued m) i d
+looked-demanded P R θ mask cut stops others m i {d} k f q =
+    subst (Demanded P R θ (valued m) i)
+    (sym (q ∙ sym (same-demand (R .variable (headOf P i)) (variableIn (P .variables) (headOf P i)) (foundBy P mask cut stops others m i) (valued m (headOf P i)) k)))
+    (demanded-by P R θ (valued m) i (foundBy P mask cut stops others m i) f)
 
--- the ways of the test
+-- what the code found, of the code's variable x, value z and stop b
+pub looked : (P : Program) (mask : ℕ) (cut : Bool) (stops others m : List ℤ) (i : ℕ) {x : Variable} {f g : Given} {z b : ℤ} {d : Demand} → d ≡ demandOf x g z
+    → g ≡ stopped cut x b mask f → x ≡ variableIn (P .variables) (headOf P i) → f ≡ evaluate (ruleIn (P .rules) i) (readingOf mask m others (ruleIn (P .rules) i .terms))
+    → z ≡ valued m (headOf P i) → b ≡ valued stops (headOf P i) → LookedAt P mask cut stops others m i d
+looked P mask cut stops others m i p q o f z b = cc
+
+module _ {s : List ℕ} {P : Program} {R : Reckoning} {θ : Valuation} {offsets masks : List ℕ} {others stops : List ℤ} {cut : Bool}
+    (k : Reckons s P R θ offsets masks others stops cut) where
+  pub reckons-demanded : (m : List ℤ) → AsAssigned P θ m → (i : ℕ) → i < length (P .rules) → {d : Demand} → LookedAt P (getD masks i 0) cut stops others m i d
+      → Demanded P R θ (valued m) i d
+  reckons-demanded m a i l = looked-demanded P R θ (getD masks i 0) cut stops others m i (narrows-past (k .narrows) (headOf P i)) (k .finds i l m a)
+
+-- ---- no stops
+
+pub unstopped : (x : Variable) (b : ℤ) (mask : ℕ) (g : Given) → stopped false x b mask g ≡ g
+unfolding stopped
+unstopped x b mask g = refl
+
+-- in the reduct
+module _ {s : List ℕ} {P : Program} {i at mask : ℕ} (h : RuleAt s P i at mask) (stops m θ : List ℤ) where
+  pub found-reduct : gives (P .variables) (ruleIn (P .rules) i) (valued m) (valued θ) ≡ foundBy P mask false stops θ m i
+  found-reduct =
+      sym (unstopped (variableIn (P .variables) (headOf P i)) (valued stops (headOf P i)) mask (evaluate (ruleIn (P .rules) i) (readingOf mask m θ (ruleIn (P .rules) i .terms)))
+      ∙ given-as P (ruleIn (P .rules) i) mask m θ (rw (lies (at-stands h) .is) (lies (at-stands h) .evaluable)) (h .masked))
+
+  pub looked-reduct : {d : Demand} → LookedAt P mask false stops θ m i d → Demanded P (reduct P) (valued θ) (valued m) i d
+  looked-reduct = looked-demanded P (reduct P) (valued θ) mask false stops θ m i (λ a b. refl) found-reduct
+
+-- ---- the ways of the tests
+
 module _ (x : Variable) {g : Given} (z : ℤ) where
   pub nothing-given : g ≡ Nothing → Enough ≡ demandOf x g z
   unfolding demandOf
@@ -100,3 +150,30 @@ module _ (x : Variable) {g : Given} (z : ℤ) where
   pub value-enough : (a : ℤ) {t : Bool} → g ≡ Value a → t ≡ not (notPast x a z) → t ≡ false → Enough ≡ demandOf x g z
   unfolding demandOf
   value-enough a e q h = rw (e, not-false (notPast x a z) (sym q ∙ h))
+
+  -- cut off at z
+  pub nothing-cut : g ≡ Nothing → Nothing ≡ cutOff x z g
+  unfolding cutOff
+  nothing-cut e = rw e
+
+  pub value-past : (a : ℤ) {t : Bool} → g ≡ Value a → t ≡ not (notPast x a z) → t ≡ true → Value z ≡ cutOff x z g
+  unfolding cutOff
+  value-past a e q h = rw (e, not-true (notPast x a z) (sym q ∙ h))
+
+  pub value-stays : (a : ℤ) {t : Bool} → g ≡ Value a → t ≡ not (notPast x a z) → t ≡ false → Value a ≡ cutOff x z g
+  unfolding cutOff
+  value-stays a e q h = rw (e, not-false (notPast x a z) (sym q ∙ h))
+
+-- stopped at z, where lifts stop
+module _ (x : Variable) (g : Given) (z : ℤ) (mask : ℕ) where
+  pub never-stops : {cut : Bool} → cut ≡ false → g ≡ stopped cut x z mask g
+  unfolding stopped
+  never-stops e = rw e
+
+  pub stops-free : {cut : Bool} → cut ≡ true → bit mask freeBit ≡ true → Value z ≡ stopped cut x z mask g
+  unfolding stopped
+  stops-free e f = rw (e, f)
+
+  pub stops-cut : {cut : Bool} {r : Given} → cut ≡ true → bit mask freeBit ≡ false → r ≡ cutOff x z g → r ≡ stopped cut x z mask g
+  unfolding stopped
+  stops-cut e f q = rw (e, f) q

@@ -17,8 +17,8 @@ use Rattle.words.specs.declared.Found.the-variants.{At, Nothing}
 use Rattle.program.specs.Program.{Program}
 use Rattle.program.specs.Reading.{Accepts}
 use Rattle.reader.proofs.Published.{accepts-unique, program-limited}
-use Rattle.run.specs.Running.{MetOutside, RuleMetIn, Exceeds, Demanded, Among, Inside, Taken, Empty, Takes, Ready, Raising}
-use Rattle.tables.specs.Laid.{Stands, Placed}
+use Rattle.run.specs.Running.{SomeRule, MetOutside, RuleMetIn, Exceeds, Demanded, Inside, Taken, Empty, Takes, Ready, Raising}
+use Rattle.meaning.specs.Reduct.{Reckoning}
 use Rattle.tables.specs.Tabled.{rowWords}
 use Rattle.run.specs.declared.Demand.{Demand}
 use Rattle.program.specs.Readings.{Valuation}
@@ -33,18 +33,20 @@ module _ (old new : ℕ → Bool) {r : Found} (h : Takes old new r) where
   pub takes-none : r ≡ Nothing → Empty old new
   takes-none e = rw e at h
 
-module _ (P : Program) (θ m : Valuation) (i : ℕ) {d : Demand} (h : Demanded P θ m i d) where
-  pub demands-more : {a : ℤ} → d ≡ More a → Exceeds P θ m i a
+module _ (P : Program) (R : Reckoning) (θ m : Valuation) (i : ℕ) {d : Demand} (h : Demanded P R θ m i d) where
+  pub demands-more : {a : ℤ} → d ≡ More a → Exceeds P R θ m i a
   demands-more e = rw e at h
 
-  pub demands-enough : d ≡ Enough → RuleMetIn P θ m i
+  pub demands-enough : d ≡ Enough → RuleMetIn P R θ m i
   demands-enough e = rw e at h
 
 -- ---- the set
 
 -- a file has one program
-pub among-any : {s offsets masks waiting : List ℕ} {P : Program} → Ready s offsets masks waiting → Placed s P offsets masks → Among P (has waiting)
-among-any {waiting = waiting} r p = subst (λ (Q : Program). Among Q (has waiting)) (accepts-unique (r .placed .accepts) (p .accepts)) (r .rules)
+pub among-any : {s offsets waiting : List ℕ} {P : Program} → Ready s offsets waiting → Accepts s P → (i : ℕ) → i < maxRules → has waiting i ≡ true → i < length (P .rules)
+among-any {waiting = waiting} r a i l e =
+    let h = r .rules i l e in
+    subst (λ (Q : Program). i < length (Q .rules)) (accepts-unique (r .stands i h .accepts) a) h
 
 -- the search of the words is that of the rules
 pub lowest-taken : {old new : ℕ → Bool} {i n : ℕ} → n ≡ rowWords → LeastFrom old 0 (wordBits * n) i → ((j : ℕ) → new j ≡ (not (eqb j i) && old j)) → Taken old new i
@@ -54,9 +56,9 @@ pub none-taken : {old : ℕ → Bool} {n : ℕ} → n ≡ rowWords → NoneIn ol
 none-taken e f = record { none = λ i l h. f i l (omega arith); inside = λ j h. h }
 
 -- nothing waits: every rule is met
-pub none-waiting : {s : List ℕ} (P : Program) (θ m : Valuation) {old new : ℕ → Bool} → Accepts s P → MetOutside P θ m old → Empty old new
-    → (i : ℕ) → i < length (P .rules) → RuleMetIn P θ m i
-none-waiting P θ m a o n i l = o i l (n .none i (omega arith) (omega (arith, program-limited a .few-rules)))
+pub none-waiting : {s : List ℕ} (P : Program) (R : Reckoning) (θ m : Valuation) {old new : ℕ → Bool} → Accepts s P → MetOutside P R θ m old → Empty old new
+    → (i : ℕ) → i < length (P .rules) → RuleMetIn P R θ m i
+none-waiting P R θ m a o n i l = o i l (n .none i (omega arith) (omega (arith, program-limited a .few-rules)))
 
 -- the lowest of the set leaves it
 module _ {old new : ℕ → Bool} {i : ℕ} (k : Taken old new i) where
@@ -70,24 +72,28 @@ module _ {old new : ℕ → Bool} {i : ℕ} (k : Taken old new i) where
   pub taken-less : sizeBelow new maxRules < sizeBelow old maxRules
   taken-less = count-drop new old i maxRules (k .lowest .below) (k .lowest .member) (k .dropped)
 
-  module _ (P : Program) (θ m : Valuation) (o : MetOutside P θ m old) where
-    other : (j : ℕ) → j < length (P .rules) → new j ≡ false → (j ≡ i → ⊥) → RuleMetIn P θ m j
+  module _ (P : Program) (R : Reckoning) (θ m : Valuation) (o : MetOutside P R θ m old) where
+    other : (j : ℕ) → j < length (P .rules) → new j ≡ false → (j ≡ i → ⊥) → RuleMetIn P R θ m j
     other j l e n = o j l (sym (k .dropped j ∙ ap (λ (b : Bool). not b && old j) (ne-eqb j i n)) ∙ e)
 
-    pub taken-met : RuleMetIn P θ m i → MetOutside P θ m new
+    pub taken-met : RuleMetIn P R θ m i → MetOutside P R θ m new
     taken-met h j l e = go (ℕ-discrete j i)
       where
-        go : Dec (j ≡ i) → RuleMetIn P θ m j
+        go : Dec (j ≡ i) → RuleMetIn P R θ m j
         go (yes q) = rw q h
         go (no n) = other j l e n
 
-    pub taken-raise : {a : ℤ} → i < length (P .rules) → Exceeds P θ m i a → Raising P θ m new i a
+    pub taken-raise : {a : ℤ} → i < length (P .rules) → Exceeds P R θ m i a → Raising P R θ m new i a
     taken-raise l x = record { among = l; exceeds = x; below = λ j h. o j (omega arith) (k .lowest .first j (omega arith) h); outside = other }
 
   -- a rule of the set stands in the tables
-  module _ {s offsets masks waiting : List ℕ} (r : Ready s offsets masks waiting) (n : Inside old (has waiting)) where
-    pub taken-stands : Stands s (getD offsets i 0) (getD masks i 0)
-    taken-stands = record { program = r .program; rule = i; here = r .placed .stands i (r .rules i (k .lowest .below) (n i (k .lowest .member))) }
+  module _ {s offsets waiting : List ℕ} (r : Ready s offsets waiting) (n : Inside old (has waiting)) where
+    own : i < length (r .program .rules)
+    own = r .rules i (k .lowest .below) (n i (k .lowest .member))
 
-    pub taken-rule : {P : Program} → Placed s P offsets masks → i < length (P .rules)
-    taken-rule p = among-any r p i (k .lowest .below) (n i (k .lowest .member))
+    pub taken-stands : SomeRule s (getD offsets i 0)
+    taken-stands = record { program = r .program; rule = i; here = r .stands i own }
+
+    -- so it is a rule of every program that the file means
+    pub taken-rule : {P : Program} → Accepts s P → i < length (P .rules)
+    taken-rule a = among-any r a i (k .lowest .below) (n i (k .lowest .member))

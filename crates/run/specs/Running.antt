@@ -1,69 +1,130 @@
--- What holds on the way to the least model, for the program P of a file s, θ being the assignment and m the values reached.
+-- What holds on the way to the least model of a program P of a file s, read by a reckoning R, θ being the assignment and m the values reached. The reduct is one
+-- reckoning; a file with lent ranges is another.
 use Prim.Native.Nat.{ℕ, _+_, _*_, _<_}
 use mathlib.Core.Path.{_≡_}
 use mathlib.Core.Bool.{Bool, true, false, not, cond, _||_, _&&_}
 use mathlib.Core.List.{List}
-use lib.Dec.{T, eqb}
+use lib.Dec.{T, eqb, ltb}
 use lib.IntN.{ℤ}
-use lib.ListN.{length, set}
-use Rattle.format.specs.Limits.{maxRules}
-use Rattle.words.specs.Bit.{has, LeastFrom, NoneIn}
+use lib.ListN.{length, getD, set}
+use Rattle.format.specs.Limits.{maxVariables, maxRules}
+use Rattle.words.specs.Bit.{bit, has, LeastFrom, NoneIn}
 use Rattle.words.specs.declared.Found.{Found}
 use Rattle.words.specs.declared.Found.the-variants.{At}
 use Rattle.words.specs.declared.Found.the-variants as found
 use Rattle.program.specs.Program.{Program, ruleIn, variableIn}
 use Rattle.program.specs.Reading.{Accepts}
+use Rattle.program.specs.Evaluate.{evaluate}
+use Rattle.program.specs.Evaluable.{Small}
 use Rattle.program.specs.declared.Variable.{Variable}
 use Rattle.program.specs.declared.Given.{Given}
 use Rattle.program.specs.declared.Given.the-variants.{Nothing, Value}
-use Rattle.meaning.specs.Founded.{GivenNoMore, Before, Within, Floor, Model, Least}
-use Rattle.meaning.specs.Reduct.{system}
-use Rattle.tables.specs.Tabled.{Tabled}
-use Rattle.tables.specs.Laid.{Placed}
+use Rattle.bodies.specs.Readings.{readingOf}
+use Rattle.reader.specs.Parts.{rulePlace}
+use Rattle.meaning.specs.Founded.{AtOrBefore, GivenNoMore, Before, Within, Model, Least}
+use Rattle.meaning.specs.Reduct.{Reckoning, reckoned}
+use Rattle.meaning.specs.Narrowing.{Narrows}
+use Rattle.meaning.specs.Reads.{readsKept}
+use Rattle.meaning.proofs.Laws.{Laws}
+use Rattle.meaning.proofs.Theory.{Progress}
+use Rattle.meaning.proofs.Steps.{Raised}
 use Rattle.run.specs.declared.Demand.{Demand}
 use Rattle.run.specs.declared.Demand.the-variants.{More, Enough}
 use Rattle.run.specs.declared.Step.{Step}
 use Rattle.run.specs.declared.Step.the-variants.{Raise, Done}
 use Rattle.run.specs.declared.Ending.{Ending}
-use Rattle.program.specs.Variables.{isFounded, far, notPast}
-use Rattle.program.specs.Readings.{Valuation, gives, valued}
+use Rattle.program.specs.Variables.{isFounded, far, notPast, cutOff}
+use Rattle.program.specs.Readings.{Valuation, valued}
 use Rattle.run.specs.declared.Ending.the-variants as ending
 
--- the head of rule i, and what the rule gives
+-- the head of rule i
 abbrev pub headOf : Program → ℕ → ℕ
 headOf P i = ruleIn (P .rules) i .head
 
-abbrev pub givenBy : Program → Valuation → Valuation → ℕ → Given
-givenBy P θ m i = gives (P .variables) (ruleIn (P .rules) i) m θ
-
 -- rule i gives no more than its head has
-abbrev pub RuleMetIn : Program → Valuation → Valuation → ℕ → Type 0
-RuleMetIn P θ m i = GivenNoMore (system P) (headOf P i) (givenBy P θ m i) (m (headOf P i))
+abbrev pub RuleMetIn : Program → Reckoning → Valuation → Valuation → ℕ → Type 0
+RuleMetIn P R θ m i = GivenNoMore (reckoned P R) (headOf P i) (R .gives i m θ) (m (headOf P i))
 
 -- rule i gives a, which is more than its head has
-pub record Exceeds (P : Program) (θ m : Valuation) (i : ℕ) (a : ℤ) : Type 0 where
-  pub gives-it : givenBy P θ m i ≡ Value a
-  pub more : Before (system P) (headOf P i) (m (headOf P i)) a
+pub record Exceeds (P : Program) (R : Reckoning) (θ m : Valuation) (i : ℕ) (a : ℤ) : Type 0 where
+  pub gives-it : R .gives i m θ ≡ Value a
+  pub more : Before (reckoned P R) (headOf P i) (m (headOf P i)) a
 
 -- ---- one rule
+
+-- rule i of the program that the file means stands at this place
+pub record RuleStands (s : List ℕ) (P : Program) (i at : ℕ) : Type 0 where
+  pub accepts : Accepts s P
+  pub among : i < length (P .rules)
+  pub placed : at ≡ rulePlace s P i
+
+-- some rule of the file stands there
+pub record SomeRule (s : List ℕ) (at : ℕ) : Type 0 where
+  pub program : Program
+  pub rule : ℕ
+  pub here : RuleStands s program rule at
+
+-- the bit of a rule's mask that says that the rule gives what lifts of its head stop at, whatever it reads
+abbrev pub freeBit : ℕ
+freeBit = 31
+
+-- what is given to the head x where lifts stop at b, if `cut` says that they do
+unfoldable pub stopped : Bool → Variable → ℤ → ℕ → Given → Given
+stopped cut x b mask g = cond cut (cond (bit mask freeBit) (Value b) (cutOff x b g)) g
+
+-- what rule i is found to give: positions whose bit is set are read in m, all others in `others`; lifts stop at `stops`
+abbrev pub foundBy : Program → ℕ → Bool → List ℤ → List ℤ → List ℤ → ℕ → Given
+foundBy P mask cut stops others m i =
+    let r = ruleIn (P .rules) i in
+    stopped cut (variableIn (P .variables) (r .head)) (valued stops (r .head)) mask (evaluate r (readingOf mask m others (r .terms)))
 
 -- what is given, against what the head has; x is the head's variable
 unfoldable pub demandOf : Variable → Given → ℤ → Demand
 demandOf x Nothing z = Enough
 demandOf x (Value a) z = cond (notPast x a z) Enough (More a)
 
+-- the answer for rule i is what is found
+abbrev pub LookedAt : Program → ℕ → Bool → List ℤ → List ℤ → List ℤ → ℕ → Demand → Type 0
+LookedAt P mask cut stops others m i d = d ≡ demandOf (variableIn (P .variables) (headOf P i)) (foundBy P mask cut stops others m i) (valued m (headOf P i))
+
 -- the answer for rule i is right
-abbrev pub Demanded : Program → Valuation → Valuation → ℕ → Demand → Type 0
-Demanded P θ m i (More a) = Exceeds P θ m i a
-Demanded P θ m i Enough = RuleMetIn P θ m i
+abbrev pub Demanded : Program → Reckoning → Valuation → Valuation → ℕ → Demand → Type 0
+Demanded P R θ m i (More a) = Exceeds P R θ m i a
+Demanded P R θ m i Enough = RuleMetIn P R θ m i
+
+-- ---- what the tables say
+
+-- standard variables are as assigned
+abbrev pub AsAssigned : Program → Valuation → List ℤ → Type 0
+AsAssigned P θ m = (v : ℕ) → T (not (isFounded (variableIn (P .variables) v))) → valued m v ≡ θ v
+
+-- what each rule is found to give, by the tables, is what it gives in the reckoning
+pub record Reckons (s : List ℕ) (P : Program) (R : Reckoning) (θ : Valuation) (offsets masks : List ℕ) (others stops : List ℤ) (cut : Bool) : Type 0 where
+  pub accepts : Accepts s P
+  pub stands : (i : ℕ) → i < length (P .rules) → RuleStands s P i (getD offsets i 0)
+  pub narrows : Narrows P R
+  pub finds : (i : ℕ) → i < length (P .rules) → (m : List ℤ) → AsAssigned P θ m → R .gives i (valued m) θ ≡ foundBy P (getD masks i 0) cut stops others m i
+
+-- what a run relies on
+pub record Task (s : List ℕ) (P : Program) (R : Reckoning) (θ : Valuation) (offsets masks readers : List ℕ) (others stops : List ℤ) (cut : Bool) : Type 0 where
+  pub reckons : Reckons s P R θ offsets masks others stops cut
+  pub laws : Laws (reckoned P R)
+  pub assigned : Within (reckoned P R) θ
+  pub small : Small others
+  -- the readers of x are the rules that read it at a kept position, and no other rule gives anything else where x is raised
+  pub readers-are : (x i : ℕ) → x < maxVariables → i < maxRules → has readers (maxRules * x + i) ≡ (ltb i (length (P .rules)) && readsKept P (ruleIn (P .rules) i) x)
+  pub unread : (i : ℕ) → i < length (P .rules) → (m m⁺ : Valuation) (x : ℕ) (a : ℤ) → Raised m m⁺ x a → readsKept P (ruleIn (P .rules) i) x ≡ false
+      → R .gives i m⁺ θ ≡ R .gives i m θ
+  -- what is given inside the head's declared range is inside that of the reckoning
+  pub inside : (i : ℕ) → i < length (P .rules) → (m : Valuation) (a : ℤ) → R .gives i m θ ≡ Value a
+      → T (notPast (variableIn (P .variables) (headOf P i)) a (far (variableIn (P .variables) (headOf P i))))
+      → AtOrBefore (reckoned P R) (headOf P i) a (far (R .variable (headOf P i)))
 
 -- ---- one step
 
 -- every rule outside the set is met
-abbrev pub MetOutside : Program → Valuation → Valuation → (ℕ → Bool) → Type 0
-MetOutside P θ m waiting =
-    (i : ℕ) → i < length (P .rules) → waiting i ≡ false
-    → GivenNoMore (system P) (ruleIn (P .rules) i .head) (gives (P .variables) (ruleIn (P .rules) i) m θ) (m (ruleIn (P .rules) i .head))
+abbrev pub MetOutside : Program → Reckoning → Valuation → Valuation → (ℕ → Bool) → Type 0
+MetOutside P R θ m waiting = (i : ℕ) → i < length (P .rules) → waiting i ≡ false → RuleMetIn P R θ m i
 
 -- the set has rules alone
 abbrev pub Among : Program → (ℕ → Bool) → Type 0
@@ -89,22 +150,22 @@ Takes old new (At i) = Taken old new i
 Takes old new found.Nothing = Empty old new
 
 -- what a step needs of the tables and of the set
-pub record Ready (s offsets masks waiting : List ℕ) : Type 0 where
+pub record Ready (s offsets waiting : List ℕ) : Type 0 where
   pub program : Program
-  pub placed : Placed s program offsets masks
+  pub stands : (i : ℕ) → i < length (program .rules) → RuleStands s program i (getD offsets i 0)
   pub rules : Among program (has waiting)
 
 -- rule i is the lowest that exceeds its head, and every other rule outside the set is met
-pub record Raising (P : Program) (θ m : Valuation) (waiting : ℕ → Bool) (i : ℕ) (a : ℤ) : Type 0 where
+pub record Raising (P : Program) (R : Reckoning) (θ m : Valuation) (waiting : ℕ → Bool) (i : ℕ) (a : ℤ) : Type 0 where
   pub among : i < length (P .rules)
-  pub exceeds : Exceeds P θ m i a
-  pub below : (j : ℕ) → j < i → RuleMetIn P θ m j
-  pub outside : (j : ℕ) → j < length (P .rules) → waiting j ≡ false → (j ≡ i → ⊥) → RuleMetIn P θ m j
+  pub exceeds : Exceeds P R θ m i a
+  pub below : (j : ℕ) → j < i → RuleMetIn P R θ m j
+  pub outside : (j : ℕ) → j < length (P .rules) → waiting j ≡ false → (j ≡ i → ⊥) → RuleMetIn P R θ m j
 
 -- what a step answers: the raise to make, or that every rule is met
-abbrev pub Stepped : Program → Valuation → Valuation → (ℕ → Bool) → Step → Type 0
-Stepped P θ m waiting (Raise i a) = Raising P θ m waiting i a
-Stepped P θ m waiting Done = (i : ℕ) → i < length (P .rules) → RuleMetIn P θ m i
+abbrev pub Stepped : Program → Reckoning → Valuation → Valuation → (ℕ → Bool) → Step → Type 0
+Stepped P R θ m waiting (Raise i a) = Raising P R θ m waiting i a
+Stepped P R θ m waiting Done = (i : ℕ) → i < length (P .rules) → RuleMetIn P R θ m i
 
 -- ---- one raise
 
@@ -125,19 +186,26 @@ Lifted x readers h a model model⁺ waiting waiting⁺ false = T (not (notPast x
 
 -- ---- the run
 
--- the values lie in their ranges, standard ones as assigned, at or before every model; and every rule outside the set is met
-pub record Running (s offsets masks readers : List ℕ) (θ m : List ℤ) (waiting : List ℕ) : Type 0 where
+-- the values are on the way, and every rule outside the set is met
+pub record Running (s : List ℕ) (P : Program) (R : Reckoning) (θ : Valuation) (offsets masks readers : List ℕ) (others stops : List ℤ) (cut : Bool) (m : List ℤ) (waiting : List ℕ) : Type 0 where
+  pub task : Task s P R θ offsets masks readers others stops cut
+  pub progress : Progress (reckoned P R) θ (valued m)
+  pub outside : MetOutside P R θ (valued m) (has waiting)
+  pub rules : Among P (has waiting)
+
+-- some reckoning's
+pub record SomeRun (s offsets masks readers : List ℕ) (others stops : List ℤ) (cut : Bool) (m : List ℤ) (waiting : List ℕ) : Type 0 where
   pub program : Program
-  pub accepts : Accepts s program
-  pub tabled : Tabled s program (length (program .rules)) offsets masks readers
-  pub assigned : Within (system program) (valued θ)
-  pub standard : (v : ℕ) → T (not (isFounded (variableIn (program .variables) v))) → valued m v ≡ valued θ v
-  pub within : Within (system program) (valued m)
-  pub floor : Floor (system program) (valued θ) (valued m)
-  pub outside : MetOutside program (valued θ) (valued m) (has waiting)
-  pub rules : Among program (has waiting)
+  pub reckoning : Reckoning
+  pub assigned : Valuation
+  pub run : Running s program reckoning assigned offsets masks readers others stops cut m waiting
+
+pub record SomeTask (s : List ℕ) (θ : Valuation) (offsets masks readers : List ℕ) (others stops : List ℤ) (cut : Bool) : Type 0 where
+  pub program : Program
+  pub reckoning : Reckoning
+  pub task : Task s program reckoning θ offsets masks readers others stops cut
 
 -- the least model, or no model
-abbrev pub EndsWith : Program → Valuation → Valuation → Ending → Type 0
-EndsWith P θ m ending.Model = Least (system P) θ m
-EndsWith P θ m ending.NoModel = (m′ : Valuation) → Model (system P) θ m′ → ⊥
+abbrev pub EndsWith : Program → Reckoning → Valuation → Valuation → Ending → Type 0
+EndsWith P R θ m ending.Model = Least (reckoned P R) θ m
+EndsWith P R θ m ending.NoModel = (m′ : Valuation) → Model (reckoned P R) θ m′ → ⊥

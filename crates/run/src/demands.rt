@@ -3,16 +3,20 @@ ghost use mathlib.Core.Path.{_≡_};
 ghost use Prim.Native.Nat.{ℕ, _<_, _≤_};
 ghost use lib.ListN.{length, getD};
 ghost use Rattle.program.specs.Fields.{valueAt, nextAt};
-ghost use Rattle.program.specs.Program.{Program, ruleOf};
+ghost use Rattle.program.specs.Program.{Program, ruleOf, ruleIn};
+ghost use Rattle.program.specs.Variables.{cutOff};
+ghost use Rattle.program.specs.Evaluate.{evaluate};
 ghost use Rattle.parts.specs.Values.{ruleHeader};
+ghost use Rattle.bodies.specs.Readings.{readingOf};
 ghost use Rattle.words.specs.Bit.{has};
 ghost use Rattle.format.specs.Limits.{maxRules};
-ghost use Rattle.run.specs.Running.{MetOutside, givenBy, demandOf, Demanded, Inside, Takes, Ready, Stepped};
-ghost use Rattle.tables.specs.Laid.{RuleAt, Stands, Placed};
+ghost use Rattle.meaning.specs.Reduct.{Reckoning};
+ghost use Rattle.run.specs.Running.{RuleStands, SomeRule, AsAssigned, Reckons, MetOutside, stopped, demandOf, LookedAt, Inside, Takes, Ready, Stepped};
 ghost use Rattle.tables.specs.Tabled.{rowWords};
-ghost use Rattle.program.specs.Readings.{valued};
+ghost use Rattle.program.specs.Readings.{Valuation, valued};
 ghost use Rattle.program.specs.Evaluable.{Small};
 use crate::Demand;
+use crate::Masks;
 use crate::Step;
 use evaluation::rules::gives;
 use format::Format;
@@ -24,19 +28,20 @@ use program::Variable;
 use tables::Tables;
 use words::Found;
 
-// What the rule whose field stands at `at` gives, its kept positions read in the model.
+// What the rule whose field stands at `at` gives, the positions whose bit is set in the mask read in the model.
 pub fn demand(
     file: &[u8],
     at: usize,
     mask: u32,
     model: &[i64; Format::MAX_VARIABLES],
-    assigned: &[i64; Format::MAX_VARIABLES],
+    others: &[i64; Format::MAX_VARIABLES],
 ) -> Given
-    requires { ⌜ Stands (now file) at mask ⌝ }
-    requires { ⌜ Small (now model) × Small (now assigned) ⌝ }
-    ensures { λ r. ⌜ ((P : Program) (i : ℕ) → RuleAt (now (file .entry)) P i at mask → r ≡ givenBy P (valued (now (assigned .entry))) (valued (now (model .entry))) i) ⌝ }
+    requires { ⌜ SomeRule (now file) at ⌝ }
+    requires { ⌜ Small (now model) × Small (now others) ⌝ }
+    ensures { λ r. ⌜ ((P : Program) (i : ℕ) → RuleStands (now (file .entry)) P i at
+        → r ≡ evaluate (ruleIn (P .rules) i) (readingOf mask (now (model .entry)) (now (others .entry)) (ruleIn (P .rules) i .terms))) ⌝ }
 {
-    gives(value_at(file, at), mask, model, assigned)
+    gives(value_at(file, at), mask, model, others)
 }
 
 // The head of the rule whose field stands at `at`.
@@ -62,28 +67,59 @@ fn exceeds(x: Variable, given: Given, value: i64) -> Demand
     }
 }
 
-// Whether rule i demands more than its head has.
+// What is given to the head x, no further than its stop.
+fn cut_off(x: Variable, stop: i64, given: Given) -> Given
+    ensures { λ r. ⌜ r ≡ cutOff x stop given ⌝ }
+{
+    let Given::Value(a) = given else {
+        return Given::Nothing;
+    };
+    if x.is_before(stop, a) {
+        Given::Value(stop)
+    } else {
+        Given::Value(a)
+    }
+}
+
+// What is given to the head x where lifts stop, if `cut` says that they do: the stop itself where the mask says so, else no more.
+fn stop_at(cut: bool, x: Variable, stop: i64, mask: u32, given: Given) -> Given
+    ensures { λ r. ⌜ r ≡ stopped cut x stop mask given ⌝ }
+{
+    if !cut {
+        return given;
+    }
+    if (mask >> Masks::FREE) % 2 == 1 {
+        return Given::Value(stop);
+    }
+    cut_off(x, stop, given)
+}
+
+// Whether rule i demands more than its head has; with `cut` what it demands stops at the head's value in `stops`.
 pub fn look(
     file: &[u8],
     offsets: &[usize; Format::MAX_RULES],
     masks: &[u32; Format::MAX_RULES],
     i: usize,
     model: &[i64; Format::MAX_VARIABLES],
-    assigned: &[i64; Format::MAX_VARIABLES],
+    others: &[i64; Format::MAX_VARIABLES],
+    stops: &[i64; Format::MAX_VARIABLES],
+    cut: bool,
 ) -> Demand
     requires { ⌜ i < maxRules ⌝ }
-    requires { ⌜ Stands (now file) (getD (now offsets) i 0) (getD (now masks) i 0) ⌝ }
-    requires { ⌜ Small (now model) × Small (now assigned) ⌝ }
-    ensures { λ r. ⌜ ((P : Program) → RuleAt (now (file .entry)) P i (getD (now (offsets .entry)) i 0) (getD (now (masks .entry)) i 0)
-        → Demanded P (valued (now (assigned .entry))) (valued (now (model .entry))) i r) ⌝ }
+    requires { ⌜ SomeRule (now file) (getD (now offsets) i 0) ⌝ }
+    requires { ⌜ Small (now model) × Small (now others) ⌝ }
+    ensures { λ r. ⌜ ((P : Program) → RuleStands (now (file .entry)) P i (getD (now (offsets .entry)) i 0)
+        → LookedAt P (getD (now (masks .entry)) i 0) cut (now (stops .entry)) (now (others .entry)) (now (model .entry)) i r) ⌝ }
 {
     let at = offsets[i];
     let mask = masks[i];
-    let given = demand(file, at, mask, model, assigned);
+    let given = demand(file, at, mask, model, others);
     let head = head_at(file, at);
     let x = variables::variable(file, head);
-    let value = model[format::wide(head)];
-    exceeds(x, given, value)
+    let v = format::wide(head);
+    let value = model[v];
+    let stop = stops[v];
+    exceeds(x, stop_at(cut, x, stop, mask, given), value)
 }
 
 // The lowest rule of the set leaves it.
@@ -105,23 +141,26 @@ pub fn step(
     offsets: &[usize; Format::MAX_RULES],
     masks: &[u32; Format::MAX_RULES],
     model: &[i64; Format::MAX_VARIABLES],
-    assigned: &[i64; Format::MAX_VARIABLES],
+    others: &[i64; Format::MAX_VARIABLES],
+    stops: &[i64; Format::MAX_VARIABLES],
+    cut: bool,
     waiting: &mut [u64; Tables::ROW],
 ) -> Step
-    requires { ⌜ Ready (now file) (now offsets) (now masks) (now waiting) ⌝ }
-    requires { ⌜ Small (now model) × Small (now assigned) ⌝ }
+    requires { ⌜ Ready (now file) (now offsets) (now waiting) ⌝ }
+    requires { ⌜ Small (now model) × Small (now others) ⌝ }
     requires { ⌜ length (now waiting) ≡ rowWords ⌝ }
     ensures { λ _. ⌜ length (now (waiting .exit)) ≡ rowWords ⌝ }
     ensures { λ _. ⌜ Inside (has (now (waiting .exit))) (has (now (waiting .entry))) ⌝ }
-    ensures { λ r. ⌜ ((P : Program) → Placed (now (file .entry)) P (now (offsets .entry)) (now (masks .entry))
-        → MetOutside P (valued (now (assigned .entry))) (valued (now (model .entry))) (has (now (waiting .entry)))
-        → Stepped P (valued (now (assigned .entry))) (valued (now (model .entry))) (has (now (waiting .exit))) r) ⌝ }
+    ensures { λ r. ⌜ ((P : Program) (R : Reckoning) (θ : Valuation)
+        → Reckons (now (file .entry)) P R θ (now (offsets .entry)) (now (masks .entry)) (now (others .entry)) (now (stops .entry)) cut
+        → AsAssigned P θ (now (model .entry)) → MetOutside P R θ (valued (now (model .entry))) (has (now (waiting .entry)))
+        → Stepped P R θ (valued (now (model .entry))) (has (now (waiting .exit))) r) ⌝ }
 {
     loop {
         let Found::At(i) = take_lowest(waiting) else {
             return Step::Done;
         };
-        let found = look(file, offsets, masks, i, model, assigned);
+        let found = look(file, offsets, masks, i, model, others, stops, cut);
         if let Demand::More(a) = found {
             return Step::Raise(i, a);
         }

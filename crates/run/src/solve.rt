@@ -9,9 +9,10 @@ ghost use Rattle.program.specs.Program.{Program};
 ghost use Rattle.program.specs.Reading.{AcceptedAs, Accepts};
 ghost use Rattle.meaning.specs.Founded.{Within};
 ghost use Rattle.meaning.specs.Reduct.{system};
-ghost use Rattle.run.specs.Running.{Lifted, Running, EndsWith};
+ghost use Rattle.meaning.specs.Reduct.{Reckoning, reduct};
+ghost use Rattle.run.specs.Running.{Lifted, Task, Running, SomeRun, SomeTask, EndsWith};
 ghost use Rattle.tables.specs.Tabled.{readersWords, rowWords, TablesOf};
-ghost use Rattle.program.specs.Readings.{valued};
+ghost use Rattle.program.specs.Readings.{Valuation, valued};
 use crate::Ending;
 use crate::Step;
 use crate::demands;
@@ -59,25 +60,31 @@ pub fn raise(
     true
 }
 
-// The values reach the least model, or some rule asks for more than its head's range has.
+// The values reach the least model, or some rule asks for more than its head's range has. Positions whose bit is set in a rule's mask are read in the model, all
+// others in `others`; with `cut` what is given to a head stops at its value in `stops`.
 pub fn solve(
     file: &[u8],
     offsets: &[usize; Format::MAX_RULES],
     masks: &[u32; Format::MAX_RULES],
     readers: &[u64; Tables::READERS],
     model: &mut [i64; Format::MAX_VARIABLES],
-    assigned: &[i64; Format::MAX_VARIABLES],
+    others: &[i64; Format::MAX_VARIABLES],
+    stops: &[i64; Format::MAX_VARIABLES],
+    cut: bool,
     waiting: &mut [u64; Tables::ROW],
 ) -> Ending
-    requires { ⌜ Running (now file) (now offsets) (now masks) (now readers) (now assigned) (now model) (now waiting) ⌝ }
+    requires { ⌜ SomeRun (now file) (now offsets) (now masks) (now readers) (now others) (now stops) cut (now model) (now waiting) ⌝ }
     requires { ⌜ length (now model) ≡ maxVariables ⌝ }
     requires { ⌜ length (now waiting) ≡ rowWords ⌝ }
     ensures { λ _. ⌜ length (now (model .exit)) ≡ maxVariables ⌝ }
     ensures { λ _. ⌜ length (now (waiting .exit)) ≡ rowWords ⌝ }
-    ensures { λ r. ⌜ ((P : Program) → Accepts (now (file .entry)) P → EndsWith P (valued (now (assigned .entry))) (valued (now (model .exit))) r) ⌝ }
+    ensures { λ r. ⌜ ((P : Program) (R : Reckoning) (θ : Valuation)
+        → Running (now (file .entry)) P R θ (now (offsets .entry)) (now (masks .entry)) (now (readers .entry)) (now (others .entry)) (now (stops .entry)) cut
+        (now (model .entry)) (now (waiting .entry))
+        → EndsWith P R θ (valued (now (model .exit))) r) ⌝ }
 {
     loop {
-        let next = demands::step(file, offsets, masks, model, assigned, waiting);
+        let next = demands::step(file, offsets, masks, model, others, stops, cut, waiting);
         let Step::Raise(i, a) = next else {
             return Ending::Model;
         };
@@ -89,7 +96,47 @@ pub fn solve(
     }
 }
 
-// From the starting ends to the least model.
+// From the starting ends, standard variables as assigned, to the least model of a reckoning.
+pub fn reckon(
+    file: &[u8],
+    counts: Counts,
+    offsets: &[usize; Format::MAX_RULES],
+    masks: &[u32; Format::MAX_RULES],
+    readers: &[u64; Tables::READERS],
+    assigned: &[i64; Format::MAX_VARIABLES],
+    others: &[i64; Format::MAX_VARIABLES],
+    stops: &[i64; Format::MAX_VARIABLES],
+    cut: bool,
+    model: &mut [i64; Format::MAX_VARIABLES],
+) -> Ending
+    requires { ⌜ AcceptedAs (now file) counts ⌝ }
+    requires { ⌜ SomeTask (now file) (valued (now assigned)) (now offsets) (now masks) (now readers) (now others) (now stops) cut ⌝ }
+    requires { ⌜ ((v : ℕ) → counts .variables ≤ v → valued (now model) v ≡ valued (now assigned) v) ⌝ }
+    requires { ⌜ length (now model) ≡ maxVariables ⌝ }
+    ensures { λ _. ⌜ length (now (model .exit)) ≡ maxVariables ⌝ }
+    ensures { λ r. ⌜ ((P : Program) (R : Reckoning)
+        → Task (now (file .entry)) P R (valued (now (assigned .entry))) (now (offsets .entry)) (now (masks .entry)) (now (readers .entry)) (now (others .entry)) (now (stops .entry)) cut
+        → EndsWith P R (valued (now (assigned .entry))) (valued (now (model .exit))) r) ⌝ }
+{
+    let n = counts.variables;
+    let rules = counts.rules;
+    let mut waiting = [0u64; Tables::ROW];
+    loading::start_values(file, n, assigned, model);
+    words::fill_bits(&mut waiting, rules);
+    solve(
+        file,
+        offsets,
+        masks,
+        readers,
+        model,
+        others,
+        stops,
+        cut,
+        &mut waiting,
+    )
+}
+
+// From the starting ends to the least model of the reduct.
 pub fn run(
     file: &[u8],
     counts: Counts,
@@ -105,12 +152,18 @@ pub fn run(
     requires { ⌜ ((v : ℕ) → counts .variables ≤ v → valued (now model) v ≡ valued (now assigned) v) ⌝ }
     requires { ⌜ length (now model) ≡ maxVariables ⌝ }
     ensures { λ _. ⌜ length (now (model .exit)) ≡ maxVariables ⌝ }
-    ensures { λ r. ⌜ ((P : Program) → Accepts (now (file .entry)) P → EndsWith P (valued (now (assigned .entry))) (valued (now (model .exit))) r) ⌝ }
+    ensures { λ r. ⌜ ((P : Program) → Accepts (now (file .entry)) P → EndsWith P (reduct P) (valued (now (assigned .entry))) (valued (now (model .exit))) r) ⌝ }
 {
-    let n = counts.variables;
-    let rules = counts.rules;
-    let mut waiting = [0u64; Tables::ROW];
-    loading::start_values(file, n, assigned, model);
-    words::fill_bits(&mut waiting, rules);
-    solve(file, offsets, masks, readers, model, assigned, &mut waiting)
+    reckon(
+        file,
+        counts,
+        offsets,
+        masks,
+        readers,
+        assigned,
+        assigned,
+        assigned,
+        false,
+        model,
+    )
 }

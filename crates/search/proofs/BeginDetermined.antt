@@ -20,7 +20,7 @@ use Rattle.program.proofs.Unique.{reads-unique, whole-unique, bad-or-whole}
 use Rattle.program.proofs.Total.{reads-total}
 use Rattle.program.proofs.ReadDemanded.{field-most}
 use Rattle.meaning.specs.Calls.{FirstGiven, NoneGiven}
-use Rattle.meaning.proofs.Denials.{Every, Fixed, Told, first-unique, first-or-none, first-told, under-fixed, under-told}
+use Rattle.meaning.proofs.Denials.{Every, Fixed, Told, first-unique, first-or-none, first-told, under-fixed, room-told, room}
 use Rattle.reach.specs.Rows.{rowHas}
 use Rattle.reach.proofs.RowsDetermined.{same-word, same-rows, none-past, rowsOf, rows-length, rows-words, rows-are}
 use Rattle.search.specs.BeginCall.{Answer, refusal, begun, AtEdges, short, TurnedDown, bad-field, bad-call, BeginCall, turned-down, starts}
@@ -50,14 +50,11 @@ module _ (w : List ℕ) (P : Program) where
   short-fixed = (under-fixed 15 _, tt)
 
   short-told : Every Told (short w P)
-  short-told = (under-told 15 _ (decLt (length w) (wordCount * length (P .variables))), tt)
+  short-told = (room-told wordCount w P, tt)
 
   -- a call that is not turned down is lent a set for each variable
   long-enough : NoneGiven (short w P) → wordCount * length (P .variables) ≤ length w
-  long-enough p = by (λ h. p .0 0 (h, refl))
-    where
-      by : (length w < wordCount * length (P .variables) → ⊥) → wordCount * length (P .variables) ≤ length w
-      by f = omega arith
+  long-enough p = room wordCount w P (p .0)
 
 module _ {s w : List ℕ} where
   turned-unique : {n at m q : ℕ} → TurnedDown s w n at → TurnedDown s w m q → refusal n at ≡ refusal m q

@@ -32,7 +32,9 @@ fn announce(letter: u8, name: &[u8], number: usize) {
         b'n' => head(b"normalize of ", name),
         b'f' => head(b"flatten of ", name),
         b'b' => head(b"begin of ", name),
+        b'h' => head(b"bounds of ", name),
         b'p' | b's' => head(b"print of ", name),
+        b'm' | b't' => head(b"list of ", name),
         b'w' | b'#' => {}
         _ => {
             say(b"bad line", number);
@@ -63,11 +65,13 @@ pub fn opened(
     line
 }
 
-// How many bytes are written with an answer: the values of `found`, or the entries of `unfounded`, of which no report has 1,024.
-fn length_of(answer: Parts, values: usize) -> usize {
+// How many bytes are written with an answer, where the second bytes of the case are so many: as many values for `found`, two bytes for each range of four for
+// `bounded`, or the entries of `unfounded`, of which no report has 1,024.
+fn length_of(answer: Parts, second: usize) -> usize {
     let word = answer.word;
     match word {
-        Word::FOUND => values,
+        Word::FOUND => second,
+        Word::BOUNDED => second / 2,
         Word::UNFOUNDED => 4 * (answer.first % 1024 + answer.second % 1024),
         _ => 0,
     }
@@ -115,13 +119,13 @@ pub fn show(room: &[u8], bytes: &[u8], line: Line, answer: u64)
     let all = line.all;
     match letter {
         b'r' => tell_line(unpacked(answer)),
-        b'l' | b'c' => called(room, line, unpacked(answer)),
+        b'l' | b'c' | b'h' => called(room, line, unpacked(answer)),
         b'n' | b'f' => renewed(room, &bytes[file..all], line, unpacked(answer)),
         AGAIN | PLAIN => {
             text(b"again");
             renewed(room, &bytes[file..all], line, unpacked(answer));
         }
-        b'p' | b's' => printed(&room[0..to], answer as usize),
+        b'p' | b's' | b'm' | b't' => printed(&room[0..to], answer as usize),
         _ => {}
     }
 }

@@ -57,6 +57,7 @@ pub fn tell(answer: Parts) {
         Word::NONE => text(b": none"),
         Word::WRITTEN => say(b": written", length_told(answer)),
         Word::BEGUN => say(b": begun", answer.first),
+        Word::BOUNDED => text(b": bounded"),
         _ => text(b": no such word"),
     }
 }

@@ -11,7 +11,7 @@ use Rattle.program.specs.Program.{Program, ruleIn, constraintIn, termIn, variab
 use Rattle.program.specs.Evaluate.{satisfied}
 use Rattle.program.proofs.Promises.{Promises, accepts-promises}
 use Rattle.meaning.specs.Founded.{Within, Least}
-use Rattle.meaning.specs.Reduct.{system}
+use Rattle.meaning.specs.Reduct.{reduct, system}
 use Rattle.meaning.specs.Stable.{assigned, RuleMet, ConstraintMet, Meets}
 use Rattle.meaning.specs.Calls.{Called, lengths}
 use Rattle.meaning.specs.LeastCall.{FirstOutside, AllInside}
@@ -71,7 +71,7 @@ module _ {P : Program} (promised : Promises P) (θ : Valuation) (b : List ℕ) w
   founded-or t m l (inl s) = (_, _, some-shown t l s)
   founded-or t m l (inr n) = (_, _, is-stable (record { meets = t; least = self-least-iff (laws promised) (self-model (t .ranges) (t .rules)) l .1 n }))
 
-  modelled : Meets P θ → Solvable P θ → Verdict
+  modelled : Meets P θ → Solvable P (reduct P) θ → Verdict
   modelled t (inl l) = founded-or t (l .0) (l .1) (shorts (l .0))
   modelled t (inr n) = absurd (n θ (self-model (t .ranges) (t .rules)))
 

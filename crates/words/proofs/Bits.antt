@@ -31,7 +31,7 @@ double-half : (n : ℕ) → n * 2 / 2 ≡ n
 double-half n = omega arith
 
 -- a power of two has one bit
-bit-pow : (k j : ℕ) → bit (2 ^ k) j ≡ eqb j k
+pub bit-pow : (k j : ℕ) → bit (2 ^ k) j ≡ eqb j k
 unfolding bit
 bit-pow zero zero = refl
 bit-pow zero (suc j) = bit-suc 1 j ∙ bit-zero j ∙ sym (eqb·suc-zero j)

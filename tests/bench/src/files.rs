@@ -1,4 +1,5 @@
 //! The files that are timed.
+pub mod lent;
 pub mod orders;
 pub mod trees;
 

@@ -1,10 +1,12 @@
 //! How long the proved calls take, beside (1) Rust written for speed alone, (2) a port of the proved code, statement by statement, and (3) naive
 //! iteration, the second checker. Rows of one kind double in size, so that the table shows how the time grows. Before anything is timed, the first
 //! two are held to the proved calls: every answer, and every byte of the lent buffer and around it, on the rows, on seeded inputs, on the same
-//! inputs with variables founded from above, on seeded files to be written anew, on seeded nested files and, of the search of components, on seeded
-//! sets.
+//! inputs with variables founded from above, on seeded files to be written anew, on seeded nested files, on seeded files with lent ranges and, of the
+//! search of components, on seeded sets.
 //!
-//! bench: the tables. bench hold [seeded inputs] [first seed]: no table. bench flatten: the table of flatten alone.
+//! bench: the tables. bench hold [seeded inputs] [first seed]: no table. bench flatten: the table of flatten alone. bench bounds [seeded inputs]
+//! [first seed]: those of bounds alone, which is held to the proved call before.
+mod bounds;
 mod fast;
 mod files;
 mod flat;
@@ -228,6 +230,11 @@ fn line(p: &Plan, row: &Row) {
     print_line((&p.name, row.name), calls.iter().map(|&call| turn(call, p)).collect());
 }
 
+fn header() {
+    print!("{:<38} {:<10} {:>10}", "input", "call", "proved");
+    println!(" {:>10} {:>7} {:>10} {:>7} {:>7}", "fast", "/ fast", "port", "/ port", "/ naive");
+}
+
 fn print_line((input, call): (&str, &str), mut turns: Vec<Turn>) {
     let times = medians(&mut turns);
     let ratio = |i: usize| times.get(i).map_or("-".to_string(), |t| format!("{:.2}", t.1));
@@ -343,26 +350,32 @@ fn idle_plans() -> [Plan; 3] {
 fn main() {
     let given: Vec<String> = std::env::args().skip(1).collect();
     let amount = |i: usize, usual: u64| given.get(i).map_or(usual, |a| a.parse().expect("a number"));
-    let (plans, orders, searches, nested) = (plans(), orders::plans(), search::rows(), flat::rows());
     let (first, inputs) = (amount(2, 0), amount(1, 50_000));
-    if given.first().is_some_and(|word| word == "flatten") {
-        return flat::table(&nested);
+    let asked = |word: &str| given.first().is_some_and(|first| first == word);
+    if asked("bounds") {
+        let half_filled = bounds::rows();
+        bounds::hold(first, inputs);
+        return bounds::table(&half_filled);
     }
+    if asked("flatten") {
+        return flat::table(&flat::rows());
+    }
+    let (plans, orders, searches, nested, half_filled) = (plans(), orders::plans(), search::rows(), flat::rows(), bounds::rows());
     hold_rows(&plans);
     hold_rows(&orders);
     hold(first, inputs);
     hold_written(first, inputs);
     search::hold(first, inputs);
     flat::hold(first, inputs);
-    if given.first().is_some_and(|word| word == "hold") {
+    bounds::hold(first, inputs);
+    if asked("hold") {
         return;
     }
     println!("Times and ratios (the proved call's time by the other's) are medians of {ROUNDS} rounds of one run, {SLOW} for calls over 20 ms; in a");
     println!("round every program has its turn, about 1 ms.");
     println!("fast: Rust for speed alone, by its own algorithms; port: the proved code in Rust, statement by statement; naive: the second checker.");
     println!("search: begin and every step; step: one step and then the next, on sets that no step changes.\n");
-    print!("{:<38} {:<10} {:>10}", "input", "call", "proved");
-    println!(" {:>10} {:>7} {:>10} {:>7} {:>7}", "fast", "/ fast", "port", "/ port", "/ naive");
+    header();
     for p in &plans {
         ASSIGNED.iter().for_each(|row| line(p, row));
     }
@@ -373,4 +386,5 @@ fn main() {
         print_line(row.names(), row.turns());
     }
     flat::table(&nested);
+    bounds::table(&half_filled);
 }

@@ -1,9 +1,11 @@
 //! The calls as the proved code has them, statement by statement, with no proofs. It reads rules and terms from the file's bytes, keeps a set
 //! of rules still to look at and, for each variable, the set of rules that read it at a kept position.
 
+mod bounds;
 mod normal;
 mod search;
 
+pub use bounds::bounds_call;
 pub use normal::normalize_call;
 pub use search::{begin_call, components_call, step_call};
 use search::{close, mark_edges, share, WORDS};
@@ -615,8 +617,37 @@ fn tables(file: &[u8], k: Counts) -> Tables {
     t
 }
 
+/// The bit of a rule's mask that says that the rule gives what lifts of its head stop at.
+const FREE: u32 = 31;
+
+/// What is given to a head where lifts stop, if `cut` says that they do: the stop itself where the mask says so, else no more.
+fn stop_at(cut: bool, file: &[u8], head: usize, stop: i64, mask: u32, given: Option<i64>) -> Option<i64> {
+    if !cut {
+        return given;
+    }
+    if mask >> FREE & 1 == 1 {
+        return Some(stop);
+    }
+    let a = given?;
+    if is_before(file, head, stop, a) {
+        Some(stop)
+    } else {
+        Some(a)
+    }
+}
+
+/// The values that a run reads beside its model: standard ones, those at positions that are not read in the model, and where lifts stop, if they do.
+#[derive(Clone, Copy)]
+struct Ends<'a> {
+    assigned: &'a Values,
+    others: &'a Values,
+    stops: &'a Values,
+    cut: bool,
+}
+
 /// The values reach the least model, or a rule asks for more than its head's range has.
-fn run(file: &[u8], k: Counts, t: &Tables, assigned: &Values, model: &mut Values) -> bool {
+fn reckon(file: &[u8], k: Counts, t: &Tables, ends: Ends, model: &mut Values) -> bool {
+    let Ends { assigned, others, stops, cut } = ends;
     for v in 0..k.variables {
         model[v] = if is_founded(file, v) { start(file, v) } else { assigned[v] };
     }
@@ -628,7 +659,8 @@ fn run(file: &[u8], k: Counts, t: &Tables, assigned: &Values, model: &mut Values
         waiting[i / 64] -= 1 << (i % 64);
         let v = rule_value(file, t.offsets[i]);
         let head = v[1] as usize;
-        if let Some(a) = gives(v, t.masks[i], model, assigned) {
+        let mask = t.masks[i];
+        if let Some(a) = stop_at(cut, file, head, stops[head], mask, gives(v, mask, model, others)) {
             if is_before(file, head, model[head], a) {
                 if is_before(file, head, far(file, head), a) {
                     return false;
@@ -641,6 +673,10 @@ fn run(file: &[u8], k: Counts, t: &Tables, assigned: &Values, model: &mut Values
         }
     }
     true
+}
+
+fn run(file: &[u8], k: Counts, t: &Tables, assigned: &Values, model: &mut Values) -> bool {
+    reckon(file, k, t, Ends { assigned, others: assigned, stops: assigned, cut: false }, model)
 }
 
 fn open(file: &[u8], assignment: &[u8], room: usize, bytes: usize) -> Result<Counts, u64> {
@@ -673,6 +709,12 @@ pub fn read_call(file: &[u8]) -> u64 {
     }
 }
 
+fn write_values(values: &Values, variables: usize, buffer: &mut [u8]) {
+    for v in 0..variables {
+        buffer[2 * v..2 * v + 2].copy_from_slice(&(values[v] as i16).to_be_bytes());
+    }
+}
+
 pub fn least_call(file: &[u8], assignment: &[u8], buffer: &mut [u8]) -> u64 {
     let k = match open(file, assignment, buffer.len(), 2) {
         Ok(k) => k,
@@ -687,9 +729,7 @@ pub fn least_call(file: &[u8], assignment: &[u8], buffer: &mut [u8]) -> u64 {
     if !run(file, k, &t, &assigned, &mut model) {
         return pack(9, 0, 0, 0);
     }
-    for v in 0..k.variables {
-        buffer[2 * v..2 * v + 2].copy_from_slice(&(model[v] as i16).to_be_bytes());
-    }
+    write_values(&model, k.variables, buffer);
     pack(8, 0, 0, 0)
 }
 

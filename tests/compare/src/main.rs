@@ -1,10 +1,12 @@
 //! Compares the proved calls, through libfounded.a, with the second checker on seeded inputs: every answer and every byte of the lent buffers and
-//! around them. Small programs are tried by brute force, and a smaller number of inputs goes through the three programs. A twentieth of the inputs
-//! more are files to be written anew, a twentieth are nested files, if their number is not given, and a fiftieth are walks over edges.
+//! around them. Small programs are tried by brute force, and a smaller number of inputs goes through the four programs. A twentieth of the inputs
+//! more are files to be written anew, a twentieth are nested files and a twentieth half-filled plans, if their numbers are not given, and a fiftieth
+//! are walks over edges.
 //!
 //! compare [first seed] [inputs] [small programs] [inputs of each program] [path of the printing one] [path of the one that writes anew]
-//!     [path of the one that flattens] [nested files]
+//!     [path of the one that flattens] [path of the one that bounds] [nested files] [half-filled plans]
 
+mod halves;
 mod nested;
 mod walk;
 
@@ -254,12 +256,15 @@ fn main() {
     brute_force(first, small, &mut failures);
     walk::walks(first, inputs / 50, &mut failures);
     walk::brute_force(first, small, &mut failures);
-    nested::flattenings(first, amount(7, inputs / 20), &mut failures);
+    nested::flattenings(first, amount(8, inputs / 20), &mut failures);
     nested::brute_force(first, small, &mut failures);
+    halves::half_filled(first, amount(9, inputs / 20), &mut failures);
+    halves::brute_force(first, small, &mut failures);
     if prints > 0 {
         program(given.get(4).expect("the printing program's path"), first, prints, &mut failures);
         normal_program(given.get(5).expect("the path of the program that writes anew"), first, prints, &mut failures);
         nested::program(given.get(6).expect("the path of the program that flattens"), first, prints, &mut failures);
+        halves::program(given.get(7).expect("the path of the program that bounds"), first, prints, &mut failures);
     }
     for failure in failures.iter().take(20) {
         println!("differs: {failure}");

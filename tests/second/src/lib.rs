@@ -3,13 +3,15 @@
 //! structures, plain searches, naive iteration.
 //!
 //! The calls are `read`, `least`, `check` and `normalize`, `begin`, `step` and
-//! `components`, `flatten`, and `print`, `print_normal` and `print_flat` for the
-//! programs. Each has a twin ending in `_with` that takes a [`Wrong`]: a deliberate
-//! mistake, used to see whether the generator would notice it. `Wrong::Nothing` is
-//! the checker.
+//! `components`, `flatten`, `bounds`, and `print`, `print_normal`, `print_flat` and
+//! `print_bounds` for the programs. Each has a twin ending in `_with` that takes a
+//! [`Wrong`]: a deliberate mistake, used to see whether the generator would notice it.
+//! `Wrong::Nothing` is the checker.
 
 pub mod above;
 pub mod anew;
+pub mod bounded;
+pub mod bounds;
 pub mod brute;
 pub mod calls;
 pub mod flat;
@@ -35,6 +37,7 @@ pub mod tree;
 pub mod walk;
 pub mod wrong;
 
+pub use bounds::Bounded;
 pub use calls::{Reading, Solved, Verdict};
 pub use normal::Normal;
 pub use walk::Begun;
@@ -95,4 +98,15 @@ pub fn flatten(nested: &[u8], buffer: &mut [u8]) -> Normal {
 /// What the program that flattens prints for this standard input.
 pub fn print_flat(input: &[u8]) -> Vec<u8> {
     flat::print_flat_with(input, Wrong::Nothing)
+}
+
+/// How far each founded variable can be lifted inside lent ranges; a refusal writes
+/// nothing.
+pub fn bounds(file: &[u8], ranges: &[u8], buffer: &mut [u8]) -> Bounded {
+    bounds::bounds_with(file, ranges, buffer, Wrong::Nothing)
+}
+
+/// What the program of the bounds prints for this standard input.
+pub fn print_bounds(input: &[u8]) -> Vec<u8> {
+    bounds::print_bounds_with(input, Wrong::Nothing)
 }

@@ -6,7 +6,8 @@ macro_rules! mistakes {
         $($(#[$says:meta])* $name:ident,)*;
         $($(#[$tells:meta])* $normal:ident,)*;
         $($(#[$shows:meta])* $walk:ident,)*;
-        $($(#[$points:meta])* $nested:ident,)*
+        $($(#[$points:meta])* $nested:ident,)*;
+        $($(#[$marks:meta])* $ranged:ident,)*
     ) => {
         #[derive(Clone, Copy, Debug, PartialEq, Eq)]
         pub enum Wrong {
@@ -15,6 +16,7 @@ macro_rules! mistakes {
             $($(#[$tells])* $normal,)*
             $($(#[$shows])* $walk,)*
             $($(#[$points])* $nested,)*
+            $($(#[$marks])* $ranged,)*
         }
 
         impl Wrong {
@@ -26,6 +28,8 @@ macro_rules! mistakes {
             pub const WALK: &'static [Wrong] = &[$(Wrong::$walk,)*];
             /// Mistakes of flattening.
             pub const NESTED: &'static [Wrong] = &[$(Wrong::$nested,)*];
+            /// Mistakes of bounds.
+            pub const RANGED: &'static [Wrong] = &[$(Wrong::$ranged,)*];
         }
     };
 }
@@ -919,4 +923,281 @@ mistakes! {
     FlatAtEnd,
     /// The output is written in its normal form.
     FlatNormal,
+    ;
+    // What is refused.
+    /// A file that is not valid is bounded.
+    BoundsThirteenNever,
+    /// 13 is tried after 14, 20 and 15.
+    BoundsThirteenLast,
+    /// 20 is tried before 14, on the ranges that are there.
+    TwentyBeforeFourteen,
+    /// 15 is tried before 20.
+    FifteenBeforeTwenty,
+    /// 15 is tried before 14 and 20.
+    FifteenBeforeBoth,
+    /// Ranges are asked for 2 bytes a variable.
+    RangesAskTwo,
+    /// Ranges that are too long are taken.
+    RangesMoreTaken,
+    /// Ranges that are too short are taken.
+    RangesLessTaken,
+    /// Ranges of any whole number of variables are taken.
+    RangesAnyWhole,
+    /// Up to three bytes left over are taken.
+    RangesRounded,
+    /// Ranges are read with the low byte first.
+    RangesLittle,
+    /// The high is read before the low.
+    RangesHighFirst,
+    /// All lows are read before all highs.
+    RangesLowsFirst,
+    /// The place of 14 is the ranges' length.
+    BoundsFourteenHasPlace,
+    /// The place of 15 is the buffer's length.
+    BoundsFifteenHasPlace,
+    /// The place of 20 is that of the variable's field.
+    TwentyAtField,
+    /// The place of 20 is that of the range.
+    TwentyAtRange,
+    /// The place of 20 is the variable's number.
+    TwentyAtVariable,
+    /// No range is judged.
+    TwentyNever,
+    /// Only ranges of founded variables are judged.
+    TwentyFoundedOnly,
+    /// Only ranges of standard variables are judged.
+    TwentyStandardOnly,
+    /// Ranges of variables of kind 2 are not judged.
+    TwentyNotAbove,
+    /// Only the first range is judged.
+    TwentyFirstOnly,
+    /// The first of several ranges is not judged.
+    TwentyFirstOut,
+    /// Only the last range is judged.
+    TwentyLastOnly,
+    /// The last of several ranges is not judged.
+    TwentyLastOut,
+    /// An empty range passes.
+    TwentyEmptyPasses,
+    /// Only empty ranges are refused.
+    TwentyEmptyOnly,
+    /// A range of one value is refused.
+    TwentySingleRefused,
+    /// Low and high are compared as numbers without a sign.
+    TwentyUnsigned,
+    /// A range may leave the declared one at its low.
+    TwentyLowPasses,
+    /// A range may leave the declared one at its high.
+    TwentyHighPasses,
+    /// A range may leave the declared one by one at its low.
+    TwentyLowLate,
+    /// A range may leave the declared one by one at its high.
+    TwentyHighLate,
+    /// A range may not begin at the declared low.
+    TwentyLowEarly,
+    /// A range may not end at the declared high.
+    TwentyHighEarly,
+    /// A founded variable's range without its starting end is refused.
+    TwentyWithoutStart,
+    /// Four bytes a variable are asked of the buffer.
+    BoundsAskFour,
+    /// Twelve bytes a variable are asked of the buffer.
+    BoundsAskTwelve,
+    /// Two bytes a founded variable are asked of the buffer.
+    BoundsAskFounded,
+    /// Nothing is asked of the buffer.
+    BoundsAskNothing,
+    /// A buffer one byte short is good enough for the bounds.
+    BoundsOneShort,
+    /// A buffer just long enough is too short for the bounds.
+    BoundsMustBeLonger,
+    /// An empty buffer is too short for the bounds of the empty file.
+    BoundsNoneRefused,
+    /// A refusal of bounds writes a byte.
+    BoundsRefusedWrite,
+    // Where lifts start and stop.
+    /// Lifts start at the lent range's starting end.
+    StartsAtLent,
+    /// So do those of kind 1.
+    StartsAtLentBelow,
+    /// So do those of kind 2.
+    StartsAtLentAbove,
+    /// Lifts stop at the declared far end.
+    StopsAtDeclared,
+    /// So do those of kind 1.
+    StopsAtDeclaredBelow,
+    /// So do those of kind 2.
+    StopsAtDeclaredAbove,
+    /// Lifts stop where two bytes end.
+    StopsNowhere,
+    /// A rule that gives more than the far end lifts nothing.
+    PastIsNothing,
+    /// So does one for kind 2.
+    PastIsNothingAbove,
+    /// Nothing is written where a rule gives more than the far end.
+    PastIsNone,
+    /// Nothing is written where a bound stays before the lent range.
+    BeforeIsNone,
+    /// A bound is brought into the lent range by nothing.
+    LiftsIntoRange,
+    /// So is one of kind 2.
+    LiftsIntoRangeAbove,
+    /// A bound that has moved is brought into the lent range.
+    MovedIntoRange,
+    /// A lift goes as far as it may.
+    LiftsAllTheWay,
+    /// So does one of kind 2.
+    LiftsAllTheWayAbove,
+    /// Far ends are drawn in to the bounds again and again.
+    DrawnInAgain,
+    /// Rules are gone through once for the bounds.
+    BoundsOneRound,
+    /// Rules are gone through twice for the bounds.
+    BoundsTwoRounds,
+    /// Rules are gone through 40 times for the bounds and no more.
+    BoundsFortyRounds,
+    /// Constraints of one variable draw in its far end.
+    ConstraintsDrawIn,
+    /// Nothing is written where a constraint is not met by the bounds.
+    ConstraintUnmetNone,
+    /// Idle rules are left out.
+    BoundsIdleOut,
+    // Where positions are read.
+    /// A kept variable is read at its lent far end.
+    KeptAtLentFar,
+    /// So is one of kind 2.
+    KeptAtLentFarAbove,
+    /// A kept variable is read at its lent starting end.
+    KeptAtLentNear,
+    /// A kept variable is read at its declared far end.
+    KeptAtDeclaredFar,
+    /// A kept variable is read at its declared starting end.
+    KeptAtDeclaredStart,
+    /// A kept variable is read no nearer than its lent range.
+    KeptIntoRange,
+    /// So is one of kind 2.
+    KeptIntoRangeAbove,
+    /// A kept variable that is single is read at its value.
+    SingleNotKept,
+    /// So is one of kind 2.
+    SingleNotKeptAbove,
+    /// A kept literal is read at the lent far end.
+    LiteralsNotKept,
+    /// The head in its own body is read at its far end.
+    OwnHeadAtFar,
+    /// Founded variables that are not kept are read at the bounds so far.
+    FoundedAtBound,
+    /// So are those of kind 2.
+    FoundedAtBoundAbove,
+    /// Founded variables that are not kept are read at their declared end.
+    FoundedAtDeclared,
+    /// So are those of kind 2.
+    FoundedAtDeclaredAbove,
+    /// Founded variables that are not kept are read at their far end.
+    FoundedAtFar,
+    /// Standard variables are read at their declared end.
+    StandardAtDeclared,
+    /// Standard variables are read at the end that demands least.
+    StandardAtOther,
+    /// Standard variables are read at their low.
+    StandardAtLow,
+    /// Standard variables are read at their high.
+    StandardAtHigh,
+    /// A rising variable that is not kept is read at its low.
+    RisingAtLow,
+    /// A falling variable that is not kept is read at its high.
+    FallingAtHigh,
+    /// Literals that are not kept are read at the end that demands least.
+    LiteralsAtOther,
+    /// Plain terms that are not kept are read at the end that demands least.
+    PlainAtOther,
+    /// In a rule for kind 2 the ends of plain terms do not swap.
+    AboveEndsUnswapped,
+    /// In a rule for kind 2 the ends of literals swap, too.
+    AboveLiteralsEndsSwap,
+    /// The ends of variables of kind 2 swap.
+    EndsByKind,
+    // Mixed variables.
+    /// A mixed variable that is single lets the head reach its far end.
+    MixedSingleFar,
+    /// So does one in a rule for kind 2.
+    MixedSingleFarAbove,
+    /// A rule with a mixed variable that is single gives nothing.
+    MixedSingleNothing,
+    /// A founded mixed variable that is single is read at the bound so far.
+    MixedSingleBound,
+    /// A founded mixed variable that is single is read at its declared starting end.
+    MixedSingleStart,
+    /// A mixed variable with two values is read at the first.
+    MixedTwoSingle,
+    /// A mixed variable is read at its low.
+    MixedAtLow,
+    /// So it is in rules for kind 2.
+    MixedAtLowAbove,
+    /// A mixed variable is read at its high.
+    MixedAtHigh,
+    /// So it is in rules for kind 2.
+    MixedAtHighAbove,
+    /// A mixed variable is read where its rule demands most.
+    MixedAtUtmost,
+    /// So it is in rules for kind 2.
+    MixedAtUtmostAbove,
+    /// A founded mixed variable is read at the bound so far.
+    MixedAtBound,
+    /// A rule with a mixed variable that is not single gives nothing.
+    MixedNothing,
+    /// So does one for kind 2.
+    MixedNothingAbove,
+    /// A founded mixed variable that is not single gives nothing.
+    MixedStandardOnly,
+    /// A standard mixed variable that is not single gives nothing.
+    MixedFoundedOnly,
+    /// A mixed variable lifts only where its rule can give more than the start.
+    MixedIfGives,
+    /// A mixed variable of an idle rule gives nothing.
+    MixedIdleOut,
+    /// So does one of an idle rule for kind 2.
+    MixedIdleOutAbove,
+    /// A variable is mixed by its lent range.
+    MixedByLent,
+    /// A variable is mixed where 0 is in its lent range.
+    MixedAroundZero,
+    /// A variable is kept, and mixed, by its lent range.
+    KeptByLent,
+    /// A mixed variable lets the head reach its declared far end.
+    MixedToDeclared,
+    /// So does one in a rule for kind 2.
+    MixedToDeclaredAbove,
+    // What is written.
+    /// A standard variable's high is written.
+    StandardHigh,
+    /// A standard variable's declared low is written.
+    StandardDeclared,
+    /// Standard variables have no place among the bounds.
+    StandardLeftOut,
+    /// The bytes of standard variables are not written.
+    StandardUnwritten,
+    /// The bytes of variables that are not lifted are not written.
+    UnmovedUnwritten,
+    /// The steps from the starting end are written.
+    BoundsAsSteps,
+    /// Bounds are written with the low byte first.
+    BoundsLittle,
+    /// The byte after the bounds is changed.
+    BoundsClear,
+    /// The bounds stand at the end of the buffer.
+    BoundsAtEnd,
+    // What is printed.
+    /// 61,000 bytes are the most that is read.
+    BoundsPrintLess,
+    /// 61,025 bytes are the most that is read.
+    BoundsPrintOneLess,
+    /// 61,027 bytes are the most that is read.
+    BoundsPrintOneMore,
+    /// Bounds of kind 2 print `most`.
+    BoundsPrintMost,
+    /// Standard variables are printed, too.
+    BoundsPrintStandard,
+    /// Variables that are not lifted are not printed.
+    BoundsPrintMoved,
 }

@@ -2,6 +2,7 @@
 
 use std::io::{Read, Write};
 use std::process::{Command, Stdio};
+use std::str::FromStr;
 
 /// Clasp's exit codes when it has been through the whole search.
 const ALL_FOUND: i32 = 30;
@@ -12,11 +13,28 @@ pub fn answers(text: &str, variables: usize) -> Result<Vec<Vec<i64>>, String> {
     listed(text)?.iter().map(|atoms| assignment(atoms, variables)).collect()
 }
 
+/// The assignments of the answer sets of the text, for each of so many lists those of
+/// the answer sets that have its atom `list`.
+pub fn chosen(text: &str, variables: usize, lists: usize) -> Result<Vec<Vec<Vec<i64>>>, String> {
+    let mut found = vec![Vec::new(); lists];
+    for atoms in listed(text)? {
+        let is_list = |atom: &&str| atom.starts_with("list(");
+        let (list, rest): (Vec<&str>, Vec<&str>) = atoms.split_whitespace().partition(is_list);
+        let number = match list.as_slice() {
+            [one] => one["list(".len()..].trim_end_matches(')').parse::<usize>().ok(),
+            _ => None,
+        };
+        let of = number.and_then(|k| found.get_mut(k)).ok_or(format!("another list: {atoms}"))?;
+        of.push(assignment(&rest.join(" "), variables)?);
+    }
+    Ok(found)
+}
+
 /// The atoms of the only answer set of the text, each with its numbers.
-pub fn only(text: &str) -> Result<Vec<(String, Vec<usize>)>, String> {
+pub fn only<N: FromStr>(text: &str) -> Result<Vec<(String, Vec<N>)>, String> {
     let sets = listed(text)?;
     let [atoms] = sets.as_slice() else { return Err(format!("{} answer sets", sets.len())) };
-    let numbers = |list: &str| list.split(',').map(|n| n.parse().ok()).collect::<Option<Vec<usize>>>();
+    let numbers = |list: &str| list.split(',').map(|n| n.parse().ok()).collect::<Option<Vec<N>>>();
     let atom = |atom: &str| {
         let (name, rest) = atom.split_once('(')?;
         Some((name.to_string(), numbers(rest.strip_suffix(')')?)?))

@@ -1,15 +1,19 @@
 //! Compares the proved check with an answer set solver: for each small
 //! program, the assignments called stable against the answer sets of its
 //! translation. The same on the file written anew. The rounds of the walk over
-//! edges against the answer set of a program that says what a walk is.
+//! edges against the answer set of a program that says what a walk is. The bounds of
+//! half-filled plans against that of one that says what they are.
 //!
 //! solver [first seed] [programs]                  compares, then tries the wrong readings
 //! solver --reading NAME [first seed] [programs]   compares under another reading
+//! solver --bounds [first seed] [programs]         the bounds of half-filled plans alone
 //! solver --show SEED                              prints a program and its translation
 
 mod anew;
 mod answers;
+mod bounds;
 mod families;
+mod half;
 mod inputs;
 mod mistakes;
 mod proved;
@@ -260,28 +264,39 @@ fn main() {
             return;
         }
     }
+    let alone = given.first().is_some_and(|a| a == "--bounds");
+    if alone {
+        given.remove(0);
+    }
     let mut reading = Reading::Right;
     if given.first().is_some_and(|a| a == "--reading") {
         reading = given.get(1).and_then(|name| Reading::named(name)).expect("the name of a reading");
         given.drain(..2);
     }
     let amount = |i: usize, usual: u64| given.get(i).map_or(usual, |a| a.parse().expect("a number"));
-    let cases = cases(amount(0, 0), amount(1, 400) as usize);
-    let mut failed = compare(&cases, reading) > 0;
-    if reading == Reading::Right {
-        for &other in Reading::OTHERS {
-            failed |= compare(&cases, other) > 0;
+    let (first, programs) = (amount(0, 0), amount(1, 400));
+    let (mut failed, mut failures) = (false, Vec::new());
+    if !alone {
+        let cases = cases(first, programs as usize);
+        failed |= compare(&cases, reading) > 0;
+        if reading == Reading::Right {
+            for &other in Reading::OTHERS {
+                failed |= compare(&cases, other) > 0;
+            }
+            failed |= anew::compare(&cases) > 0;
+            failures.extend(sharp(&cases));
+            failures.extend(anew::sharp(&cases));
+            failures.extend(count(&cases));
+            failures.extend(walk::compare(first, programs));
         }
-        failed |= anew::compare(&cases) > 0;
-        let mut failures = sharp(&cases);
-        failures.extend(anew::sharp(&cases));
-        failures.extend(count(&cases));
-        failures.extend(walk::compare(amount(0, 0), amount(1, 400)));
-        for failure in &failures {
-            println!("failed: {failure}");
-        }
-        failed |= !failures.is_empty();
     }
+    if reading == Reading::Right {
+        failures.extend(bounds::compare(first, programs));
+    }
+    for failure in &failures {
+        println!("failed: {failure}");
+    }
+    failed |= !failures.is_empty();
     println!("{}", if failed { "solver comparison failed" } else { "solver comparison passed" });
     std::process::exit(i32::from(failed));
 }

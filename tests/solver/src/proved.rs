@@ -1,7 +1,10 @@
 //! The proved calls, through libfounded.a: the check on every assignment in the
-//! ranges, a file written anew, and the walk over its edges.
+//! ranges, a file written anew, the walk over its edges, and the bounds of half-filled
+//! plans.
 
-use second::program::Program;
+use second::bounds::Span;
+use second::gen::ranged;
+use second::program::{signed, Program};
 
 extern "C" {
     fn founded_check(
@@ -23,11 +26,24 @@ extern "C" {
         buffer: *mut u8,
         room: usize,
     ) -> bool;
+    fn founded_bounds(
+        file: *const u8,
+        length: usize,
+        ranges: *const u8,
+        n: usize,
+        buffer: *mut u8,
+        room: usize,
+    ) -> u64;
 }
 
 const REFUSED: u64 = 6;
 const WRITTEN: u64 = 10;
 const BEGUN: u64 = 11;
+const BOUNDED: u64 = 12;
+
+/// Bytes lent beyond those that are written, and what is in them.
+const BEYOND: usize = 3;
+const FILL: u8 = 0xA5;
 
 #[derive(Clone, Debug, PartialEq, Eq)]
 pub enum Word {
@@ -107,6 +123,20 @@ pub fn walked(file: &[u8], variables: usize) -> Option<Walked> {
     let refused = (read & 0xFF == REFUSED).then_some((read >> 24 & 0xFFFF) as usize);
     let other = refused.is_some() && read >> 8 & 0xFFFF != 13;
     (written && !other).then_some(Walked { sets: all, firsts, refused })
+}
+
+/// The bounds for lent ranges, a number for each variable. Nothing where the call
+/// answers or writes what is not due.
+pub fn bounds(file: &[u8], lent: &[Span]) -> Option<Vec<i64>> {
+    let ranges = ranged::bytes(lent);
+    let mut buffer = vec![FILL; 2 * lent.len() + BEYOND];
+    // SAFETY: each pointer is lent with the length of its buffer.
+    let packed = unsafe {
+        let (f, r, b) = (file.as_ptr(), ranges.as_ptr(), buffer.as_mut_ptr());
+        founded_bounds(f, file.len(), r, ranges.len(), b, buffer.len())
+    };
+    let kept = buffer[2 * lent.len()..].iter().all(|byte| *byte == FILL);
+    (packed == BOUNDED && kept).then(|| (0..lent.len()).map(|v| signed(&buffer, 2 * v)).collect())
 }
 
 /// Every assignment in the ranges of a program, with the check's word on a file.

@@ -25,7 +25,7 @@ pub fn direction(program: &Program, rule: &Rule, position: usize) -> Direction {
     direction_by(program, rule, position, Reading::Right)
 }
 
-fn direction_by(program: &Program, rule: &Rule, position: usize, reading: Reading) -> Direction {
+pub fn direction_by(program: &Program, rule: &Rule, position: usize, reading: Reading) -> Direction {
     let term = &rule.terms[position];
     let (low, high) = (program.variables[term.variable].low, program.variables[term.variable].high);
     let way = match term.op {

@@ -39,9 +39,9 @@ pub fn not_idle(program: &Program, from: usize) -> String {
     program.rules.iter().enumerate().map(says).collect()
 }
 
-struct Translation<'a> {
-    program: &'a Program,
-    reading: Reading,
+pub struct Translation<'a> {
+    pub program: &'a Program,
+    pub reading: Reading,
 }
 
 impl Translation<'_> {
@@ -203,7 +203,7 @@ impl Translation<'_> {
     /// divisor". 000 states such rules without dividing, as "2x >= y" in example
     /// 1: more than n is given where n, taken divisor times, is below the sum;
     /// less than n where the sum is not above n - 1, taken divisor times.
-    fn past(&self, rule: &Rule, n: &str) -> String {
+    pub fn past(&self, rule: &Rule, n: &str) -> String {
         let (c, divisor) = (rule.c, rule.divisor);
         let above = self.above(rule.head);
         match (rule.form, above, self.reading) {
@@ -267,7 +267,7 @@ impl Translation<'_> {
 
     /// What the rule gives, as `V`, and when it gives anything (01, rule forms);
     /// of form 8 the sum alone, as `S`.
-    fn given(&self, rule: &Rule) -> Vec<String> {
+    pub fn given(&self, rule: &Rule) -> Vec<String> {
         let c = rule.c;
         let all: Vec<String> = (0..rule.terms.len()).map(|i| format!("X{i}")).collect();
         let holds = |i: usize| self.literal(&rule.terms[i], i, true);

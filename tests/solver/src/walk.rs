@@ -205,7 +205,7 @@ fn solved(cases: &[Stepped], mistake: Mistake) -> Result<Vec<Found>, String> {
         from += case.program.rules.len();
     }
     let mut found: Vec<Found> = cases.iter().map(|_| Found::default()).collect();
-    for (name, numbers) in answers::only(&text)? {
+    for (name, numbers) in answers::only::<usize>(&text)? {
         let one = found.get_mut(numbers[0]).ok_or("another program")?;
         let rest = numbers[1..].to_vec();
         match name.as_str() {

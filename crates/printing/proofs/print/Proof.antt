@@ -5,18 +5,20 @@ use Prim.Native.Nat.{ℕ, _+_, _≤_}
 use native.Mathlib.Omega.{arith}
 use lib.ListN.{length}
 use Rattle.entries.specs.Text.{answerLine}
-use Rattle.printing.specs.Prints.{announced, misframed}
-use Rattle.printing.proofs.PrintLaws.{framed, printed-refusal, printed-told}
+use Rattle.framing.specs.Framing.{announced, misframed}
+use Rattle.framing.proofs.FramingLaws.{framed}
+use Rattle.printing.specs.Prints.{maxInput}
+use Rattle.printing.proofs.PrintLaws.{printed-refusal, printed-told}
 use borrow.Author.Needs.{needs}
 use Rattle.printing.proofs.print.Statement.{statement}
 use Rattle.printing.proofs.print.Tie as tie
 
 -- the framing, as the test tells it
-framed-is : (c : tie.Else1) → misframed (c .before .before .before .before .args .input .now) ≡ false
+framed-is : (c : tie.Else1) → misframed maxInput (c .before .before .before .before .args .input .now) ≡ false
 framed-is c = cc
 
 right : (c : tie.Else1) → let s = c .before .before .before .before .args .input .now in (2 ≤ length s) × (2 + announced s ≤ length s)
-right c = framed _ (framed-is c)
+right c = framed maxInput _ (framed-is c)
 
 is-misframed-requires : tie.Need-is-misframed-requires
 is-misframed-requires c κs = search needs

@@ -1,5 +1,6 @@
 //! The calls written for speed alone: one pass that tries each field, rules and constraints as structs over slices of the file, graphs and
 //! lists of readers only where they are needed and as large as the file, and an end as soon as the answer is known.
+mod bounds;
 mod flat;
 mod graph;
 mod normal;
@@ -9,6 +10,7 @@ mod search;
 mod set;
 
 use crate::port::pack;
+pub use bounds::bounds_call;
 pub use flat::flatten_call;
 pub use normal::normalize_call;
 use read::{Program, Refusal, Skip};

@@ -117,11 +117,13 @@ fn all_turned(variables: &[Variable], values: &Values) -> Values {
     turns
 }
 
-/// The model of a run, turned, with the turned assignment. In `least` no value passes its far end; in `check` none passes the assigned one, since the
-/// assignment is a model, and the run ends when none is short of it.
-struct Run<'a, const CHECK: bool> {
+/// The model of a run, turned, with the turned goal. Rising places that are not kept are read in `ups`, falling ones in `downs`. In `least` no value
+/// passes its far end. A run with a `GOAL` ends when no value is short of it: in `check` the assigned one, past which no rule lifts, since the
+/// assignment is a model, and in `bounds` the lent far end, where lifts are `CUT` off.
+struct Run<'a, const GOAL: bool, const CUT: bool> {
     program: &'a Program<'a>,
-    assigned: &'a Values,
+    ups: &'a Values,
+    downs: &'a Values,
     goal: Values,
     model: Values,
     short: usize,
@@ -133,16 +135,16 @@ enum End {
     NoModel,
 }
 
-impl<const CHECK: bool> Run<'_, CHECK> {
-    /// To a turned value.
+impl<const GOAL: bool, const CUT: bool> Run<'_, GOAL, CUT> {
+    /// To a turned value, or to where lifts are cut off.
     fn raise(&mut self, head: u8, to: i32) -> Result<(), End> {
         let h = head as usize;
         let v = &self.program.variables[h];
-        if !CHECK && to > if from_above(v) { -(low(v) as i32) } else { high(v) as i32 } {
+        if !GOAL && to > if from_above(v) { -(low(v) as i32) } else { high(v) as i32 } {
             return Err(End::NoModel);
         }
-        self.model[h] = to as i16;
-        if CHECK && self.model[h] == self.goal[h] {
+        self.model[h] = if CUT { to.min(self.goal[h] as i32) } else { to } as i16;
+        if GOAL && self.model[h] == self.goal[h] {
             self.short -= 1;
             if self.short == 0 {
                 return Err(End::NoneShort);
@@ -151,19 +153,20 @@ impl<const CHECK: bool> Run<'_, CHECK> {
         Ok(())
     }
 
-    /// A head of the check that has its assigned value rises no more.
+    /// A head that has reached its goal rises no more.
     fn full(&self, head: u8) -> bool {
-        CHECK && self.model[head as usize] == self.goal[head as usize]
+        GOAL && self.model[head as usize] == self.goal[head as usize]
     }
 
     fn run(&mut self) -> Result<(), End> {
-        let (mut ups, mut downs) = (*self.assigned, *self.assigned);
-        for (x, v) in self.program.variables.iter().enumerate() {
+        let (mut ups, mut downs) = (*self.ups, *self.downs);
+        for (x, v) in self.program.variables.iter().enumerate().filter(|(_, v)| founded(v)) {
             let read = if from_above(v) { &mut downs } else { &mut ups };
             read[x] = turned(v, self.model[x]);
         }
-        for _ in 0..3 {
-            let mut raised = false;
+        let mut before = usize::MAX;
+        for sweep in 0.. {
+            let mut raised = 0;
             for rule in &self.program.rules {
                 if self.full(rule.head) {
                     continue;
@@ -173,17 +176,22 @@ impl<const CHECK: bool> Run<'_, CHECK> {
                 if let Some(to) = more(self.program.variables, rule, &ups, &downs, than) {
                     if rule.down {
                         self.raise(rule.head, -to)?;
-                        downs[h] = to as i16;
+                        downs[h] = -self.model[h];
                     } else {
                         self.raise(rule.head, to)?;
-                        ups[h] = to as i16;
+                        ups[h] = self.model[h];
                     }
-                    raised = true;
+                    raised += 1;
                 }
             }
-            if !raised {
+            if raised == 0 {
                 return Ok(());
             }
+            // from the third on, another only where it raises less than half as often as the one before it
+            if sweep >= 2 && 2 * raised >= before {
+                break;
+            }
+            before = raised;
         }
         let reduct = Reduct::of(self);
         let mut waits = vec![0u64; reduct.lifts.len().div_ceil(64)];
@@ -196,7 +204,7 @@ impl<const CHECK: bool> Run<'_, CHECK> {
     /// Whether a rule of the reduct raises its head.
     fn lift(&mut self, reduct: &Reduct, lift: &Lift) -> Result<bool, End> {
         let given = lift.gives(&reduct.terms, &self.model);
-        if given <= self.model[lift.head as usize] as i32 {
+        if given <= self.model[lift.head as usize] as i32 || CUT && self.full(lift.head) {
             return Ok(false);
         }
         self.raise(lift.head, given)?;
@@ -324,14 +332,14 @@ struct Reduct {
 }
 
 impl Reduct {
-    fn of<const CHECK: bool>(run: &Run<CHECK>) -> Reduct {
+    fn of<const GOAL: bool, const CUT: bool>(run: &Run<GOAL, CUT>) -> Reduct {
         let n = run.program.variables.len();
         let mut lifts = Vec::new();
         let mut terms = Vec::new();
         let mut graph = Graph::new(n);
         for rule in run.program.rules.iter().filter(|r| !run.full(r.head)) {
             let start = terms.len();
-            let Some(mut lift) = reduced(run.program, rule, run.assigned, &mut terms) else {
+            let Some(mut lift) = reduced(run.program, rule, run.ups, run.downs, &mut terms) else {
                 terms.truncate(start);
                 continue;
             };
@@ -379,12 +387,13 @@ impl Reduct {
 }
 
 /// A rule with all but its kept places replaced, and turned; nothing where a replaced literal does not hold.
-fn reduced(program: &Program, rule: &Rule, assigned: &Values, terms: &mut Vec<Kept>) -> Option<Lift> {
+fn reduced(program: &Program, rule: &Rule, ups: &Values, downs: &Values, terms: &mut Vec<Kept>) -> Option<Lift> {
     let variable = |t: &Term| &program.variables[t[0] as usize];
     let down = rule.down;
     // a plain place that what is given rises with
     let kept = |t: &Term| founded(variable(t)) && from_above(variable(t)) == down;
-    let value = |t: &Term| assigned[t[0] as usize];
+    let (more, less) = if down { (downs, ups) } else { (ups, downs) };
+    let value = |t: &Term| more[t[0] as usize];
     let turn = |z: i32| if down { -z } else { z };
     let c = turn(rule.c as i32);
     let mut lift = Lift { kind: Kind::Sum, head: rule.head, component: 0, number: 0, start: 0, end: 0, c, most: i32::MAX };
@@ -393,7 +402,7 @@ fn reduced(program: &Program, rule: &Rule, assigned: &Values, terms: &mut Vec<Ke
             let x = variable(t);
             if founded(x) && from_above(x) == (t[1] == 2) {
                 terms.push((t[0], if from_above(x) { 1 - number(t) } else { number(t) }));
-            } else if !holds(t, assigned, assigned) {
+            } else if !holds(t, ups, downs) {
                 return None;
             }
         }
@@ -407,7 +416,8 @@ fn reduced(program: &Program, rule: &Rule, assigned: &Values, terms: &mut Vec<Ke
                 if founded(x) && from_above(x) == (down ^ (k < 0)) {
                     terms.push((t[0], k.abs()));
                 } else {
-                    lift.c += turn(k as i32 * value(t) as i32);
+                    let z = if k > 0 { more[t[0] as usize] } else { less[t[0] as usize] };
+                    lift.c += turn(k as i32 * z as i32);
                 }
             }
             if rule.form == 8 {
@@ -482,7 +492,7 @@ fn start(program: &Program, assigned: &Values) -> Values {
 
 pub fn least(program: &Program, assigned: &Values) -> Option<Values> {
     let (goal, model) = (all_turned(program.variables, assigned), start(program, assigned));
-    let mut run = Run::<false> { program, assigned, goal, model, short: 0 };
+    let mut run = Run::<false, false> { program, ups: assigned, downs: assigned, goal, model, short: 0 };
     run.run().is_ok().then(|| all_turned(program.variables, &run.model))
 }
 
@@ -490,7 +500,7 @@ pub fn least(program: &Program, assigned: &Values) -> Option<Values> {
 pub fn short(program: &Program, assigned: &Values) -> Option<(Values, Set)> {
     let (goal, model) = (all_turned(program.variables, assigned), start(program, assigned));
     let short = model.iter().zip(&goal).filter(|(a, b)| a != b).count();
-    let mut run = Run::<true> { program, assigned, goal, model, short };
+    let mut run = Run::<true, false> { program, ups: assigned, downs: assigned, goal, model, short };
     if short == 0 || run.run().is_err() {
         return None;
     }
@@ -501,4 +511,24 @@ pub fn short(program: &Program, assigned: &Values) -> Option<(Values, Set)> {
         }
     }
     Some((all_turned(program.variables, &run.model), set))
+}
+
+/// The bounds inside these ranges; these heads reach their lent far ends at once.
+pub fn bounds(program: &Program, lows: &Values, highs: &Values, free: impl Iterator<Item = u8>) -> Values {
+    let (mut goal, mut model) = (*lows, *lows);
+    for (x, v) in program.variables.iter().enumerate() {
+        if from_above(v) {
+            (goal[x], model[x]) = (-lows[x], -high(v));
+        } else if founded(v) {
+            (goal[x], model[x]) = (highs[x], low(v));
+        }
+    }
+    free.for_each(|head| model[head as usize] = goal[head as usize]);
+    let short = model.iter().zip(&goal).filter(|(a, b)| a != b).count();
+    let mut run = Run::<true, true> { program, ups: highs, downs: lows, goal, model, short };
+    if short > 0 {
+        // it ends early where no value is short of its goal
+        let _ = run.run();
+    }
+    all_turned(program.variables, &run.model)
 }

@@ -4,7 +4,9 @@
 //! selftest [inputs] [small programs] [inputs for each wrong variant]
 
 use second::anew::{self, lend};
-use second::brute::{self, Anew, Nests, Tried};
+use second::bounded;
+use second::bounds::print_bounds_with;
+use second::brute::{self, Anew, Halves, Nests, Tried};
 use second::flattened;
 use second::gen::walks::Case;
 use second::mirror::{self, Turned};
@@ -33,7 +35,10 @@ fn main() {
     flattenings(amount(0, 60_000) / 2, &mut failures);
     flat_force(amount(1, 12_000) / 2, &mut failures);
     flat_variants(amount(2, 20_000), &mut failures);
-    let lists = [Wrong::ALL, Wrong::NORMAL, Wrong::WALK, Wrong::NESTED];
+    half_filled(amount(0, 60_000) / 4, &mut failures);
+    half_force(amount(1, 12_000) / 2, &mut failures);
+    half_variants(amount(2, 20_000), &mut failures);
+    let lists = [Wrong::ALL, Wrong::NORMAL, Wrong::WALK, Wrong::NESTED, Wrong::RANGED];
     println!("wrong variants: {}", lists.concat().len());
     for failure in failures.iter().take(40) {
         println!("FAILED {failure}");
@@ -295,6 +300,56 @@ fn flat_force(programs: u64, failures: &mut Vec<String>) {
     for (name, count) in tried.each() {
         if programs >= 1_000 && count < 50 {
             failures.push(format!("brute force tried too little: nested files, {name} {count}"));
+        }
+    }
+}
+
+/// The sentences about bounds, and what the program prints.
+fn half_filled(cases: u64, failures: &mut Vec<String>) {
+    let mut tally = Tally::default();
+    for seed in 0..cases {
+        let case = gen::ranged::case(seed);
+        if let Err(what) = bounded::try_case(&brute::OWN, bounded::OWN, &case, &mut tally) {
+            failures.push(format!("half-filled plan {seed}, {}: {what}", case.label));
+        }
+        bounded::try_printed(&second::print_bounds, seed, &mut tally)
+            .unwrap_or_else(|what| failures.push(format!("half-filled plan {seed}, printed: {what}")));
+    }
+    println!("half-filled plans {cases}");
+    failures.extend(counted(&tally, bounded::required(), cases));
+}
+
+/// Mistakes of bounds, those of their program, and those of reading that they show.
+fn half_variants(bound: u64, failures: &mut Vec<String>) {
+    let at = |seed: u64| {
+        let case = gen::ranged::case(seed);
+        let right = bounded::see(&case, Wrong::Nothing);
+        move |wrong| bounded::see(&case, wrong) == right
+    };
+    let called: Vec<Wrong> =
+        Wrong::RANGED.iter().copied().filter(|wrong| !bounded::PRINTED.contains(wrong)).collect();
+    find(&called, bound, "half-filled plan", at, failures);
+    find(bounded::READ, bound, "half-filled plan", at, failures);
+    let printed = |seed: u64| {
+        let input = gen::ranged::print_input(seed);
+        move |wrong| print_bounds_with(&input, wrong) == second::print_bounds(&input)
+    };
+    find(bounded::PRINTED, bound, "half-filled plan, printed", printed, failures);
+}
+
+/// The models and the stable assignments of small half-filled plans.
+fn half_force(programs: u64, failures: &mut Vec<String>) {
+    let mut tried = Halves::default();
+    for seed in 0..programs {
+        let (file, lists) = gen::ranged::small(seed);
+        if let Err(what) = brute::try_bounds(bounded::OWN, &file, &lists, &mut tried) {
+            failures.push(format!("small half-filled plan {seed}: {what}"));
+        }
+    }
+    println!("brute force, half-filled plans {tried:?}");
+    for (name, count) in tried.each() {
+        if programs >= 1_000 && count < 50 {
+            failures.push(format!("brute force tried too little: half-filled plans, {name} {count}"));
         }
     }
 }

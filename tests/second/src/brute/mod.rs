@@ -2,7 +2,8 @@
 //! but the taking apart of fields is written a second time in `defs`, where all
 //! founded variables are mirrored to start at their low.
 
-mod defs;
+pub(crate) mod defs;
+mod halves;
 mod nests;
 mod tried;
 mod walks;
@@ -13,8 +14,9 @@ use crate::reader::{parse_fields, Refusal};
 use crate::wrong::Wrong;
 use crate::{Reading, Solved, Verdict};
 use defs::{choices, constraint_met, Small, OUT};
+pub use halves::try_bounds;
 pub use nests::try_nested;
-pub use tried::{Anew, Nests, Stepped, Tried};
+pub use tried::{Anew, Halves, Nests, Stepped, Tried};
 pub use walks::{try_walk, try_walks, walks};
 
 /// The calls that are tried.

@@ -151,3 +151,42 @@ counts! {
     least_rule,
     least_constraint,
 }
+
+// Of bounds.
+counts! {
+    Halves, programs models;
+    /// Files that are refused as not valid.
+    invalid,
+    /// Ranges that were lent, and those that are all single.
+    ranges,
+    all_single,
+    /// Ranges with a standard variable that is not single.
+    standard_not_single,
+    /// Stable assignments inside the ranges.
+    inside,
+    /// Ranges with a stable assignment inside, with one inside and one outside, and
+    /// with all of them outside.
+    some_inside,
+    some_inside_not_all,
+    none_inside,
+    /// Ranges of which one is empty when drawn in to the bounds; those of files that
+    /// have a stable assignment.
+    empty,
+    empty_of_stable,
+    /// Ranges drawn in and not empty, and those with a stable assignment inside.
+    drawn_in,
+    drawn_in_around,
+    /// Ranges by which a variable of kind 1 is lifted, one of kind 2, and both.
+    below_lifted,
+    above_lifted,
+    both_lifted,
+    /// Ranges with a bound at a lent far end that is not the declared one.
+    at_lent_far,
+    /// Rules with a mixed variable that is single; with one that is not, the head
+    /// lifted; those that are idle.
+    mixed_single,
+    mixed_far,
+    mixed_idle,
+    /// Stable assignments inside ranges with a mixed variable that is not single.
+    mixed_stable,
+}

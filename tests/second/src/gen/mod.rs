@@ -16,6 +16,7 @@ pub mod little;
 pub mod nested;
 pub mod prng;
 pub mod programs;
+pub mod ranged;
 pub mod slack;
 pub mod spoil;
 pub mod trees;

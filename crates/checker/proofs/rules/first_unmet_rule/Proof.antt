@@ -4,6 +4,7 @@ use native.Mathlib.Omega.{arith}
 use Rattle.program.specs.Program.{Program}
 use Rattle.tables.specs.Laid.{Placed}
 use Rattle.meaning.specs.Stable.{RuleMet}
+use Rattle.run.proofs.RunLaws.{at-stands, some-stands, looked-reduct}
 use Rattle.run.proofs.StepLaws.{demands-more, demands-enough}
 use Rattle.checker.proofs.MetLaws.{laid-rules, laid-stands, rule-unmet-at, rule-met-at, rules-met}
 use borrow.Author.Needs.{needs}
@@ -24,7 +25,7 @@ look-requires : tie.Need-look-requires Inv-loop μ-loop
 look-requires c κs =
     let b = c .before .before .before in
     let t = laid-stands (b .pre .0) (c .before .loop .i) (c .loop-test .taken) in
-    (t .0, (t .1, (b .pre .1, b .pre .1)))
+    (t .0, (some-stands (t .1), (b .pre .1, b .pre .1)))
 
 enum-known-found : tie.Need-enum-known-found Inv-loop μ-loop
 enum-known-found c = search needs
@@ -35,7 +36,8 @@ returns c =
     let l = c .before .before .before .before .before .loop in
     λ P p. let h = c .before .before .before .before .loop-test .taken in
     rule-unmet-at (b .pre .0) (valued (b .args .assigned .now)) (l .i) h P p (l .inv .1 P p)
-    (demands-more P _ _ _ (c .before .before .before .look .ensures P (p .stands (l .i) (let e = laid-rules (b .pre .0) p in omega arith))) (c .before .found .given .1))
+    (let h = p .stands (l .i) (let e = laid-rules (b .pre .0) p in omega arith) in
+    demands-more P _ _ _ _ (looked-reduct h (b .args .assigned .now) (b .args .assigned .now) (b .args .assigned .now) (c .before .before .before .look .ensures P (at-stands h))) (c .before .found .given .1))
 
 enum-told : tie.Need-enum-told Inv-loop μ-loop
 enum-told c = search needs
@@ -53,7 +55,8 @@ loop-again c =
     let h = c .before .before .before .loop-test .taken in (
       omega arith,
       λ P p. rule-met-at (b .pre .0) (valued (b .args .assigned .now)) (l .i) P (l .inv .1 P p)
-          (demands-enough P _ _ _ (c .before .before .look .ensures P (p .stands (l .i) (let e = laid-rules (b .pre .0) p in omega arith))) (c .enum-told .given .1)),
+          (let h = p .stands (l .i) (let e = laid-rules (b .pre .0) p in omega arith) in
+          demands-enough P _ _ _ _ (looked-reduct h (b .args .assigned .now) (b .args .assigned .now) (b .args .assigned .now) (c .before .before .look .ensures P (at-stands h))) (c .enum-told .given .1)),
     )
 
 returns-2 : tie.Need-returns-2 Inv-loop μ-loop

@@ -11,7 +11,8 @@ use Rattle.program.specs.Program.{ruleOf, variablesAt}
 use Rattle.report.specs.Report.{asksMost, asksLeast}
 use Rattle.conditions.specs.Asking.{AsksMore, askedInto}
 use Rattle.conditions.proofs.AskLaws.{grown-none, grown-more}
-use Rattle.conditions.proofs.AskedLaws.{rules-few, rule-here, asked-all}
+use Rattle.tables.proofs.LaidLaws.{rules-few, rule-here}
+use Rattle.conditions.proofs.AskedLaws.{asked-all}
 use Rattle.conditions.proofs.asked.asked.Statement.{statement}
 use Rattle.conditions.proofs.asked.asked.Tie as tie
 

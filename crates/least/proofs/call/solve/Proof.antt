@@ -5,6 +5,7 @@ use Rattle.reader.proofs.Published.{reads-accepts, limited}
 use Rattle.reduct.proofs.AssignedLaws.{in-ranges, zero-past, one-valuation}
 use Rattle.least.proofs.CallLaws.{model-small, a-model, a-none}
 use Rattle.reduct.proofs.Fills.{zeros}
+use Rattle.meaning.specs.Reduct.{reduct}
 use Rattle.run.specs.Running.{EndsWith}
 use Rattle.tables.specs.Tabled.{readersWords}
 use Rattle.format.specs.Limits.{maxVariables}
@@ -49,7 +50,7 @@ write-values-requires c κs = let b = c .before .before .before .before .before 
     let y = reads-accepts r in
     let run = c .before .before .before .before .run in
     let m = run .last .1 .1 .1 .1 .1 .1 .0 in
-    let x = subst (λ (q : Ending). EndsWith (y .meant) θ (valued m) q) (c .before .before .enum-told .given .1) (run .ensures .1 (y .meant) (y .accepts)) in
+    let x = subst (λ (q : Ending). EndsWith (y .meant) (reduct (y .meant)) θ (valued m) q) (c .before .before .enum-told .given .1) (run .ensures .1 (y .meant) (y .accepts)) in
     ((limited r .few-variables, h), model-small s k r a w e h i θ p m x)
 
 enum-told-2 : tie.Need-enum-told-2
@@ -73,7 +74,7 @@ returns c = let b = c .before .before .before .before .before .before .before .b
     let y = reads-accepts r in
     let run = c .before .before .before .before .before .before .before .run in
     let m = run .last .1 .1 .1 .1 .1 .1 .0 in
-    let x = subst (λ (q : Ending). EndsWith (y .meant) θ (valued m) q) (c .before .before .before .before .before .enum-told .given .1) (run .ensures .1 (y .meant) (y .accepts)) in
+    let x = subst (λ (q : Ending). EndsWith (y .meant) (reduct (y .meant)) θ (valued m) q) (c .before .before .before .before .before .enum-told .given .1) (run .ensures .1 (y .meant) (y .accepts)) in
     a-model s k r a w e h i θ p (valued m) _ x (c .before .before .write-values .ensures)
 
 returns-2 : tie.Need-returns-2
@@ -91,7 +92,7 @@ returns-2 c = let b = c .before .before .before .before .before .before .before 
     let y = reads-accepts r in
     let run = c .before .before .run in
     let m = run .last .1 .1 .1 .1 .1 .1 .0 in
-    let x = subst (λ (q : Ending). EndsWith (y .meant) θ (valued m) q) (c .enum-told2 .given .1) (run .ensures .1 (y .meant) (y .accepts)) in
+    let x = subst (λ (q : Ending). EndsWith (y .meant) (reduct (y .meant)) θ (valued m) q) (c .enum-told2 .given .1) (run .ensures .1 (y .meant) (y .accepts)) in
     a-none s k r a w e h i θ p x
 
 pub solve-spec : {M : Type 1} → statement M

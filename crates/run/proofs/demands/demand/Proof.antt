@@ -10,7 +10,9 @@ gives-requires : tie.Need-gives-requires
 gives-requires c κs = let s = c .before .before in (here-evaluable (s .pre .0 .here) (c .value-at .ensures), (here-headed (s .pre .0 .here) (c .value-at .ensures), s .pre .1))
 
 returns : tie.Need-returns
-returns c = λ P i h. here-as h (c .before .value-at .ensures) (c .before .before .before .args .model .now) (c .before .before .before .args .assigned .now) (c .gives .ensures)
+returns c =
+    let a = c .before .before .before .args in
+    λ P i h. here-as h (c .before .value-at .ensures) (a .mask) (a .model .now) (a .others .now) (c .gives .ensures)
 
 pub demand-spec : {M : Type 1} → statement M
 demand-spec = tie.close (tie.spec value-at-requires gives-requires returns)

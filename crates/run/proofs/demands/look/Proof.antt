@@ -1,4 +1,4 @@
--- What the rule gives is held against its head's value, in the order of the head's variable.
+-- What the rule gives is stopped where it stops, and held against its head's value, in the order of the head's variable.
 use Prim.Native.Nat.{ℕ}
 use mathlib.Core.Path.{_≡_, ap, _∙_}
 use lib.IntN.{ℤ, pos}
@@ -6,7 +6,7 @@ use lib.ListN.{getD}
 use mir.Syntax.{w64}
 use mir.Val.{toZ, ofZ}
 use Rattle.run.specs.Running.{headOf}
-use Rattle.run.proofs.RunLaws.{head-lies, here-head, head-field, head-variable, demanded}
+use Rattle.run.proofs.RunLaws.{head-lies, here-head, head-field, head-variable, looked}
 use borrow.Author.Needs.{needs}
 use Rattle.run.proofs.demands.look.Statement.{statement}
 use Rattle.run.proofs.demands.look.Tie as tie
@@ -41,21 +41,33 @@ mul-value c = search needs
 element-copy-out-value : tie.Need-element-copy-out-value
 element-copy-out-value c = search needs
 
+mul-stop : tie.Need-mul-stop
+mul-stop c = search needs
+
+element-copy-out-stop : tie.Need-element-copy-out-stop
+element-copy-out-stop c = search needs
+
+stop-at-requires : tie.Need-stop-at-requires
+stop-at-requires c κs = search needs
+
 exceeds-requires : tie.Need-exceeds-requires
 exceeds-requires c κs = search needs
 
 returns : tie.Need-returns
 returns c =
-    let a = c .before .before .before .before .before .before .before .before .before .args in
-    let x = c .before .before .wide in
+    let a = c .before .before .before .before .before .before .before .before .before .before .before .args in
+    let x = c .before .before .before .before .wide in
     let v : ℤ = getD (a .model .now) (x .result) (pos 0) in
+    let w : ℤ = getD (a .stops .now) (x .result) (pos 0) in
     let z : toZ w64 (ofZ w64 v) ≡ v = search needs in
+    let y : toZ w64 (ofZ w64 w) ≡ w = search needs in
     λ P h.
-    let e : x .result ≡ headOf P (a .i) = x .ensures .0 ∙ here-head h (c .before .before .before .before .head-at .ensures) in
-    demanded P _ _ (a .i) (c .exceeds .ensures)
-    (head-variable h (c .before .before .before .before .head-at .ensures) (c .before .before .before .variable .ensures))
-    (c .before .before .before .before .before .demand .ensures P (a .i) h)
+    let e : x .result ≡ headOf P (a .i) = x .ensures .0 ∙ here-head h (c .before .before .before .before .before .before .head-at .ensures) in
+    looked P _ (a .cut) (a .stops .now) (a .others .now) (a .model .now) (a .i) (c .exceeds .ensures) (c .before .stop-at .ensures)
+    (head-variable h (c .before .before .before .before .before .before .head-at .ensures) (c .before .before .before .before .before .variable .ensures))
+    (c .before .before .before .before .before .before .before .demand .ensures P (a .i) h)
     (z ∙ ap (λ (k : ℕ). getD (a .model .now) k (pos 0)) e)
+    (y ∙ ap (λ (k : ℕ). getD (a .stops .now) k (pos 0)) e)
 
 pub look-spec : {M : Type 1} → statement M
 look-spec =
@@ -71,5 +83,8 @@ look-spec =
     wide-requires
     mul-value
     element-copy-out-value
+    mul-stop
+    element-copy-out-stop
+    stop-at-requires
     exceeds-requires
     returns)

@@ -6,25 +6,27 @@ use mir.Val.{toZ, ofZ}
 use Rattle.format.specs.Limits.{maxRules}
 use Rattle.words.specs.Bit.{has, sizeBelow}
 use Rattle.program.specs.Program.{Program}
-use Rattle.run.specs.Running.{MetOutside, Inside}
-use Rattle.tables.specs.Laid.{Placed}
+use Rattle.meaning.specs.Reduct.{Reckoning}
+use Rattle.run.specs.Running.{AsAssigned, Reckons, MetOutside, Inside}
 use Rattle.tables.specs.Tabled.{rowWords}
+use Rattle.run.proofs.RunLaws.{reckons-demanded}
 use Rattle.run.proofs.StepLaws.{takes-at, takes-none, demands-more, demands-enough, none-waiting, taken-inside, taken-less, taken-met, taken-raise, taken-stands, taken-rule}
 use borrow.Author.Needs.{needs}
 use Rattle.run.proofs.demands.step.Statement.{statement}
-use Rattle.program.specs.Readings.{valued}
+use Rattle.program.specs.Readings.{Valuation, valued}
 use Rattle.run.proofs.demands.step.Tie as tie
 
 abbrev Inv-loop : tie.InvT-loop
-Inv-loop file offsets masks model assigned waiting₀ waiting =
+Inv-loop file offsets masks model others stops cut waiting₀ waiting =
     (length waiting ≡ rowWords) × Inside (has waiting) (has waiting₀)
-    × ((P : Program) → Placed file P offsets masks → MetOutside P (valued assigned) (valued model) (has waiting₀) → MetOutside P (valued assigned) (valued model) (has waiting))
+    × ((P : Program) (R : Reckoning) (θ : Valuation) → Reckons file P R θ offsets masks others stops cut → AsAssigned P θ model
+    → MetOutside P R θ (valued model) (has waiting₀) → MetOutside P R θ (valued model) (has waiting))
 
 abbrev μ-loop : tie.MeasureT-loop
-μ-loop file offsets masks model assigned waiting₀ waiting = sizeBelow (has waiting) maxRules
+μ-loop file offsets masks model others stops cut waiting₀ waiting = sizeBelow (has waiting) maxRules
 
 loop-holds : tie.Need-loop-holds Inv-loop μ-loop
-loop-holds c = (c .before .pre .1 .1, λ j e. e, λ P p o. o)
+loop-holds c = (c .before .pre .1 .1, λ j e. e, λ P R θ k a o. o)
 
 take-lowest-requires : tie.Need-take-lowest-requires Inv-loop μ-loop
 take-lowest-requires c κs = c .before .loop .inv .0
@@ -40,7 +42,7 @@ returns c =
     let l = c .before .before .before .before .loop in
     let t = c .before .before .take-lowest in
     let n = takes-none (has (l .waiting)) (has (t .last .0)) (t .ensures .1) (c .enum-told .given .1) in
-    (t .ensures .0, (λ j e. l .inv .1 j (n .inside j e), λ P p o. none-waiting P _ _ (p .accepts) (l .inv .2 P p o) n))
+    (t .ensures .0, (λ j e. l .inv .1 j (n .inside j e), λ P R θ p a o. none-waiting P R θ _ (p .accepts) (l .inv .2 P R θ p a o) n))
 
 look-requires : tie.Need-look-requires Inv-loop μ-loop
 look-requires c κs =
@@ -64,9 +66,10 @@ returns-2 c =
       t .ensures .0,
       (
         λ j e. l .inv .1 j (taken-inside k j e),
-        λ P p o.
-            let h = taken-rule k (s .pre .0) (l .inv .1) p in
-            rw z (taken-raise k P _ _ (l .inv .2 P p o) h (demands-more P _ _ _ (c .before .before .before .look .ensures P (p .stands _ h)) (f .1))),
+        λ P R θ p a o.
+            let h = taken-rule k (s .pre .0) (l .inv .1) (p .accepts) in
+            rw z (taken-raise k P R θ _ (l .inv .2 P R θ p a o) h
+            (demands-more P R θ _ _ (reckons-demanded p (s .args .model .now) a _ h (c .before .before .before .look .ensures P (p .stands _ h))) (f .1))),
       ),
     )
 
@@ -87,9 +90,10 @@ loop-again c =
     let k = takes-at (has (l .waiting)) (has (t .last .0)) (t .ensures .1) (c .before .before .before .before .i .given .1) in (
       t .ensures .0,
       λ j e. l .inv .1 j (taken-inside k j e),
-      λ P p o.
-          let h = taken-rule k (s .pre .0) (l .inv .1) p in
-          taken-met k P _ _ (l .inv .2 P p o) (demands-enough P _ _ _ (c .before .before .look .ensures P (p .stands _ h)) (c .enum-told2 .given .1)),
+      λ P R θ p a o.
+          let h = taken-rule k (s .pre .0) (l .inv .1) (p .accepts) in
+          taken-met k P R θ _ (l .inv .2 P R θ p a o)
+          (demands-enough P R θ _ _ (reckons-demanded p (s .args .model .now) a _ h (c .before .before .look .ensures P (p .stands _ h))) (c .enum-told2 .given .1)),
     )
 
 pub step-spec : {M : Type 1} → statement M

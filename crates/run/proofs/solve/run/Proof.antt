@@ -1,37 +1,21 @@
--- At the starting ends every model is above, and every rule waits.
-use Rattle.tables.specs.Tabled.{rowWords}
-use Rattle.words.proofs.Bits.{none-in}
-use Rattle.reader.proofs.Published.{limited}
-use Rattle.run.proofs.StartLaws.{begun}
-use borrow.Author.Needs.{needs}
+-- The tables of the file are those of the reduct.
+use Rattle.run.proofs.StartLaws.{reduct-tasks, some-task}
 use Rattle.run.proofs.solve.run.Statement.{statement}
 use Rattle.run.proofs.solve.run.Tie as tie
 
-start-values-requires : tie.Need-start-values-requires
-start-values-requires c κs = let b = c .before .before in let f = limited (b .pre .0) in ((f .inside, f .few-variables), b .pre .1 .1 .1 .1)
-
-slice-aggregate-fill-bits : tie.Need-slice-aggregate-fill-bits
-slice-aggregate-fill-bits c = search needs
-
-fill-bits-requires : tie.Need-fill-bits-requires
-fill-bits-requires c κs = limited (c .before .before .before .before .pre .0) .few-rules
-
-solve-requires : tie.Need-solve-requires
-solve-requires c κs = let b = c .before .before .before .before .before .before .before .before in (
-  begun _ _ (b .pre .0) _ _ _ _ _ _ _ _ (b .pre .1 .1 .0) (b .pre .1 .0) (b .pre .1 .1 .1 .0)
-      (c .before .before .before .before .before .start-values .ensures .1) (none-in rowWords) (c .before .before .before .fill-bits .ensures .1),
-  (c .before .before .before .before .before .start-values .ensures .0, c .before .before .before .fill-bits .ensures .0),
-)
+reckon-requires : tie.Need-reckon-requires
+reckon-requires c κs =
+    let b = c .before .before in
+    let a = b .args in
+    let p = b .pre in
+    (p .0, (some-task _ _ (p .0) (a .assigned .now) (a .assigned .now) _ _ _ (p .1 .1 .0) (p .1 .0), (p .1 .1 .1 .0, p .1 .1 .1 .1)))
 
 returns : tie.Need-returns
-returns c = search needs
+returns c =
+    let b = c .before .before .before in
+    let a = b .args in
+    let p = b .pre in
+    (c .reckon .ensures .0, λ P x. c .reckon .ensures .1 P _ (reduct-tasks _ _ (p .0) (a .assigned .now) (a .assigned .now) _ _ _ (p .1 .1 .0) (p .1 .0) P x))
 
 pub run-spec : {M : Type 1} → statement M
-run-spec =
-    tie.close
-    (tie.spec
-    start-values-requires
-    slice-aggregate-fill-bits
-    fill-bits-requires
-    solve-requires
-    returns)
+run-spec = tie.close (tie.spec reckon-requires returns)

@@ -7,7 +7,9 @@ use mir.Val.{toZ, ofZ}
 use borrow.Author.Tests.{not-true, not-false}
 use borrow.Author.Needs.{needs}
 use Rattle.format.specs.Limits.{maxVariables}
-use Rattle.program.specs.Program.{variablesAt}
+use Rattle.program.specs.Program.{Program, variablesAt}
+use Rattle.program.specs.Readings.{Valuation}
+use Rattle.meaning.specs.Reduct.{Reckoning}
 use Rattle.meaning.proofs.Steps.{gap}
 use Rattle.tables.specs.Tabled.{rowWords}
 use Rattle.run.specs.Running.{Running}
@@ -16,17 +18,21 @@ use Rattle.run.proofs.solve.solve.Statement.{statement}
 use Rattle.run.proofs.solve.solve.Tie as tie
 
 abbrev Inv-loop : tie.InvT-loop
-Inv-loop file offsets masks readers model₀ assigned waiting₀ model waiting =
-    Running file offsets masks readers assigned model waiting × (length model ≡ maxVariables) × (length waiting ≡ rowWords)
+Inv-loop file offsets masks readers model₀ others stops cut waiting₀ model waiting =
+    ((P : Program) (R : Reckoning) (θ : Valuation) → Running file P R θ offsets masks readers others stops cut model₀ waiting₀
+    → Running file P R θ offsets masks readers others stops cut model waiting) × (length model ≡ maxVariables) × (length waiting ≡ rowWords)
 
 abbrev μ-loop : tie.MeasureT-loop
-μ-loop file offsets masks readers model₀ assigned waiting₀ model waiting = gap (variablesAt file maxVariables) model
+μ-loop file offsets masks readers model₀ others stops cut waiting₀ model waiting = gap (variablesAt file maxVariables) model
 
 loop-holds : tie.Need-loop-holds Inv-loop μ-loop
-loop-holds c = let p = c .before .pre in (p .0, p .1 .0, p .1 .1)
+loop-holds c = let p = c .before .pre in (λ P R θ k. k, p .1 .0, p .1 .1)
 
 step-requires : tie.Need-step-requires Inv-loop μ-loop
-step-requires c κs = let i = c .before .before .loop .inv in (run-ready (i .0), (run-small (i .0), i .2))
+step-requires c κs =
+    let i = c .before .before .loop .inv in
+    let k = i .0 _ _ _ (c .before .before .before .before .pre .0 .run) in
+    (run-ready k, (run-small k, i .2))
 
 enum-known-next : tie.Need-enum-known-next Inv-loop μ-loop
 enum-known-next c = search needs
@@ -38,39 +44,43 @@ returns : tie.Need-returns Inv-loop μ-loop
 returns c =
     let i = c .before .before .before .before .before .loop .inv in
     let d = c .before .before .step .ensures in
-    (i .1, (d .0, run-done (i .0) (run-ended (i .0) _ (d .1 .1) (c .enum-told .given .1))))
+    (i .1, (d .0, λ P R θ k₀. let k = i .0 P R θ k₀ in run-done k (run-ended k _ (d .1 .1) (c .enum-told .given .1))))
 
 mul-head-at : tie.Need-mul-head-at Inv-loop μ-loop
 mul-head-at c =
     let l = c .before .before .before .before .before .before .loop in
+    let k = l .inv .0 _ _ _ (c .before .before .before .before .before .before .before .before .pre .0 .run) in
     let d = c .before .before .before .step .ensures in
     let n = c .before .next .given in
-    let x = run-stepped (l .inv .0) _ (d .1 .1) (n .1) in
-    let m = run-among (l .inv .0) _ x in omega arith
+    let x = run-stepped k _ (d .1 .1) (n .1) in
+    let m = run-among k _ x in omega arith
 
 element-copy-out-head-at : tie.Need-element-copy-out-head-at Inv-loop μ-loop
 element-copy-out-head-at c =
     let l = c .before .before .before .before .before .before .loop in
+    let k = l .inv .0 _ _ _ (c .before .before .before .before .before .before .before .before .pre .0 .run) in
     let d = c .before .before .before .step .ensures in
     let n = c .before .next .given in
-    let x = run-stepped (l .inv .0) _ (d .1 .1) (n .1) in
-    let m = run-among (l .inv .0) _ x in search needs
+    let x = run-stepped k _ (d .1 .1) (n .1) in
+    let m = run-among k _ x in search needs
 
 head-at-requires : tie.Need-head-at-requires Inv-loop μ-loop
 head-at-requires c κs =
     let l = c .before .before .before .before .before .before .before .loop in
+    let k = l .inv .0 _ _ _ (c .before .before .before .before .before .before .before .before .before .pre .0 .run) in
     let d = c .before .before .before .before .step .ensures in
     let n = c .before .before .next .given in
-    let x = run-stepped (l .inv .0) _ (d .1 .1) (n .1) in
-    run-head (l .inv .0) _ x
+    let x = run-stepped k _ (d .1 .1) (n .1) in
+    run-head k _ x
 
 variable-requires : tie.Need-variable-requires Inv-loop μ-loop
 variable-requires c κs =
     let l = c .before .before .before .before .before .before .before .before .loop in
+    let k = l .inv .0 _ _ _ (c .before .before .before .before .before .before .before .before .before .before .pre .0 .run) in
     let d = c .before .before .before .before .before .step .ensures in
     let n = c .before .before .before .next .given in
-    let x = run-stepped (l .inv .0) _ (d .1 .1) (n .1) in
-    run-field (l .inv .0) _ x (c .head-at .ensures)
+    let x = run-stepped k _ (d .1 .1) (n .1) in
+    run-field k _ x (c .head-at .ensures)
 
 raise-requires : tie.Need-raise-requires Inv-loop μ-loop
 raise-requires c κs =
@@ -82,13 +92,12 @@ returns-2 c =
     let l = c .before .before .before .before .before .before .before .before .before .before .before .before .before .loop in
     let d = c .before .before .before .before .before .before .before .before .before .before .step .ensures in
     let n = c .before .before .before .before .before .before .before .before .next .given in
-    let x = run-stepped (l .inv .0) _ (d .1 .1) (n .1) in
     let z : toZ w64 (ofZ w64 (n .0 .1 .0)) ≡ n .0 .1 .0 = search needs in
     let r = c .before .raise in (
       r .ensures .0,
       (
         r .ensures .1 .0,
-        no-lift (l .inv .0) _ x (c .before .before .before .before .before .head-at .ensures) (c .before .before .before .before .variable .ensures) z
+        λ P R θ k₀. let k = l .inv .0 P R θ k₀ in no-lift k _ (run-stepped k _ (d .1 .1) (n .1)) (c .before .before .before .before .before .head-at .ensures) (c .before .before .before .before .variable .ensures) z
             (r .last .1 .1 .1 .1 .0) (r .last .1 .1 .1 .1 .1 .0) (r .result) (r .ensures .1 .1) (not-true _ (c .if1 .taken)),
       ),
     )
@@ -96,12 +105,13 @@ returns-2 c =
 loop-less : tie.Need-loop-less Inv-loop μ-loop
 loop-less c =
     let l = c .before .before .before .before .before .before .before .before .before .before .before .before .before .loop in
+    let k = l .inv .0 _ _ _ (c .before .before .before .before .before .before .before .before .before .before .before .before .before .before .before .pre .0 .run) in
     let d = c .before .before .before .before .before .before .before .before .before .before .step .ensures in
     let n = c .before .before .before .before .before .before .before .before .next .given in
-    let x = run-stepped (l .inv .0) _ (d .1 .1) (n .1) in
+    let x = run-stepped k _ (d .1 .1) (n .1) in
     let z : toZ w64 (ofZ w64 (n .0 .1 .0)) ≡ n .0 .1 .0 = search needs in
     let r = c .before .raise in
-    lift-nearer (l .inv .0) _ x (c .before .before .before .before .before .head-at .ensures) (c .before .before .before .before .variable .ensures) z
+    lift-nearer k _ x (c .before .before .before .before .before .head-at .ensures) (c .before .before .before .before .variable .ensures) z
     (r .last .1 .1 .1 .1 .0) (r .last .1 .1 .1 .1 .1 .0) (r .result) (r .ensures .1 .1) (not-false _ (c .if1 .left)) (d .1 .0) (l .inv .1)
 
 loop-again : tie.Need-loop-again Inv-loop μ-loop
@@ -109,10 +119,11 @@ loop-again c =
     let l = c .before .before .before .before .before .before .before .before .before .before .before .before .before .loop in
     let d = c .before .before .before .before .before .before .before .before .before .before .step .ensures in
     let n = c .before .before .before .before .before .before .before .before .next .given in
-    let x = run-stepped (l .inv .0) _ (d .1 .1) (n .1) in
     let z : toZ w64 (ofZ w64 (n .0 .1 .0)) ≡ n .0 .1 .0 = search needs in
     let r = c .before .raise in (
-      lift-on (l .inv .0) _ x (c .before .before .before .before .before .head-at .ensures) (c .before .before .before .before .variable .ensures) z
+      λ P R θ k₀.
+          let k = l .inv .0 P R θ k₀ in
+          lift-on k _ (run-stepped k _ (d .1 .1) (n .1)) (c .before .before .before .before .before .head-at .ensures) (c .before .before .before .before .variable .ensures) z
           (r .last .1 .1 .1 .1 .0) (r .last .1 .1 .1 .1 .1 .0) (r .result) (r .ensures .1 .1) (not-false _ (c .if1 .left)) (d .1 .0) (l .inv .1),
       r .ensures .0,
       r .ensures .1 .0,

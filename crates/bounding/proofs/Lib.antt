@@ -1,0 +1,2 @@
+-- The laws of the call bounds.
+pub mod CallLaws

@@ -1,0 +1,2 @@
+// The call bounds.
+pub mod call;

@@ -1,0 +1,4 @@
+-- The laws of reading a rule with lent ranges.
+pub mod MaskLaws
+pub mod RangeLaws
+pub mod TaskLaws

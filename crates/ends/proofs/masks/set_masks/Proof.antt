@@ -1,0 +1,92 @@
+-- One rule after the other, each where the table says.
+use Prim.Native.Nat.{_-_, _≤_}
+use mathlib.Core.Path.{_≡_, _∙_}
+use native.Mathlib.Omega.{arith}
+use lib.ListN.{length, length-set}
+use borrow.Author.Needs.{needs}
+use Rattle.format.specs.Limits.{maxRules}
+use Rattle.program.specs.Program.{Program}
+use Rattle.program.specs.Reading.{Accepts}
+use Rattle.program.specs.Readings.{valued}
+use Rattle.tables.proofs.LaidLaws.{rules-few, rule-here}
+use Rattle.tables.proofs.TableLaws.{standing-here, few-here}
+use Rattle.ends.specs.Ends.{LentMasks}
+use Rattle.ends.proofs.MaskLaws.{mask-more, masks-whole}
+use Rattle.ends.proofs.masks.set_masks.Statement.{statement}
+use Rattle.ends.proofs.masks.set_masks.Tie as tie
+
+abbrev Inv-loop : tie.InvT-loop
+Inv-loop file offsets lows highs masks₀ n rules i₀ masks i =
+    (i ≤ rules) × (rules ≤ maxRules) × (length masks ≡ maxRules)
+    × ((P : Program) → Accepts file P → LentMasks P (valued lows) (valued highs) i masks)
+
+abbrev μ-loop : tie.MeasureT-loop
+μ-loop file offsets lows highs masks₀ n rules i₀ masks i = rules - i
+
+loop-holds : tie.Need-loop-holds Inv-loop μ-loop
+loop-holds c = let s = c .before in
+    (omega arith, rules-few (s .args .file .now) (s .args .offsets .now) (s .args .counts) (s .pre .0) (s .pre .1 .0), s .pre .1 .1, λ P x j l. absurd (omega arith))
+
+mul-at : tie.Need-mul-at Inv-loop μ-loop
+mul-at c = search needs
+
+element-copy-out-at : tie.Need-element-copy-out-at Inv-loop μ-loop
+element-copy-out-at c = search needs
+
+value-at-requires : tie.Need-value-at-requires Inv-loop μ-loop
+value-at-requires c κs =
+    let s = c .before .before .before .before in
+    rule-here (s .args .file .now) (s .args .offsets .now) (s .args .counts) (s .pre .0) (s .pre .1 .0) _ (c .before .loop-test .taken) .inside
+
+mask-of-requires : tie.Need-mask-of-requires Inv-loop μ-loop
+mask-of-requires c κs =
+    let s = c .before .before .before .before .before in
+    let h = rule-here (s .args .file .now) (s .args .offsets .now) (s .args .counts) (s .pre .0) (s .pre .1 .0) _ (c .before .before .loop-test .taken) in
+    (standing-here h (c .value-at .ensures), few-here h (c .value-at .ensures))
+
+mul-masks : tie.Need-mul-masks Inv-loop μ-loop
+mul-masks c = search needs
+
+element-write-masks : tie.Need-element-write-masks Inv-loop μ-loop
+element-write-masks c = search needs
+
+add-i : tie.Need-add-i Inv-loop μ-loop
+add-i c = search needs
+
+loop-less : tie.Need-loop-less Inv-loop μ-loop
+loop-less c = search needs
+
+loop-again : tie.Need-loop-again Inv-loop μ-loop
+loop-again c =
+    let s = c .before .before .before .before .before .before in
+    let l = c .before .before .before .before .loop in (
+      omega arith,
+      omega arith,
+      length-set (l .masks) (l .i) (c .mask-of .result) ∙ l .inv .2,
+      mask-more (s .args .file .now) (s .args .offsets .now) (s .pre .0) (s .pre .1 .0) _ _ (l .i) (l .masks) (c .before .before .before .loop-test .taken) (omega arith)
+          (c .before .value-at .ensures) (c .mask-of .ensures) (l .inv .3),
+    )
+
+returns : tie.Need-returns Inv-loop μ-loop
+returns c =
+    let s = c .before .before .before in
+    let l = c .before .loop in
+    (l .inv .2, masks-whole (s .args .file .now) (s .args .offsets .now) (s .pre .0) (s .pre .1 .0) _ _ (l .masks) (omega arith) (l .inv .3))
+
+pub set-masks-spec : {M : Type 1} → statement M
+set-masks-spec =
+    tie.close
+    (tie.spec
+    Inv-loop
+    μ-loop
+    loop-holds
+    mul-at
+    element-copy-out-at
+    value-at-requires
+    mask-of-requires
+    mul-masks
+    element-write-masks
+    add-i
+    loop-less
+    loop-again
+    returns)

@@ -1,0 +1,3 @@
+// What a run with lent ranges starts from: the ranges, the ends at which variables are read and lifts stop, and the mask of each rule.
+pub mod masks;
+pub mod ranges;

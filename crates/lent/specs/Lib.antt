@@ -1,0 +1,5 @@
+pub mod Ranges
+pub mod Lent
+pub mod BoundsCall
+pub mod BoundsDemands
+pub mod Sentences
