@@ -232,7 +232,3 @@ module _ {P : Program} (p : Promises P) {low high : Valuation} (f : Fitting P lo
         let q = kept-rises (P .variables) r j k in
         lent-before f (subst (λ b. AtOrBefore 𝒮 x (cond b (m x) (θ x)) (cond b (m′ x) (θ′ x))) (founded-lent x (q .1)) (less x Rising (j, l, refl, q .0)))));
   }
-
-  -- a head is founded
-  pub lent-head-founded : (i : ℕ) → i < length (P .rules) → T (isFounded (𝒮 .variable (𝒮 .head i)))
-  lent-head-founded i h = is-test (founded-lent (ruleIn (P .rules) i .head) (p .rules i h .head-founded))
