@@ -1,12 +1,14 @@
 -- Readings by their size, and one more position of a body.
 use Prim.Native.Nat.{ℕ, zero, suc, _+_, _-_, _*_, _^_, _<_, _≤_}
-use mathlib.Core.Path.{_≡_, refl, sym, ap, _∙_}
+use mathlib.Core.Path.{_≡_, refl, sym, ap, _∙_, subst}
 use mathlib.Core.List.{List}
-use mathlib.Core.Bool.{Bool, true, false, not, cond, _&&_, _||_, or-false}
+use mathlib.Core.Bool.{Bool, true, false, not, cond, _&&_, _||_, or-false, and-false}
 use native.Mathlib.Nat.{mul-le-mul, lt-of-le-of-lt}
 use native.Mathlib.Numerals.{add-one}
 use native.Mathlib.Omega.{arith}
-use lib.Dec.{lit<}
+use lib.Dec.{lit<, eqb}
+use borrow.Author.Tests.{eqb-true, eqb-false}
+use mathlib.Core.Logic.{_≢_}
 use lib.IntN.{ℤ, pos, natAbs, _+ℤ_, _*ℤ_}
 use lib.Signed.{ltZ}
 use lib.ListN.{length, getD}
@@ -133,3 +135,15 @@ hold-none ts at = refl
 pub hold-more : (ts : List Term) (at : ℕ → ℤ) (n : ℕ) → (allHold ts at n && holds (termIn ts n) (at n)) ≡ allHold ts at (n + 1)
 unfolding allHold
 hold-more ts at n = rw add-one
+
+pub hold-fails : (ts : List Term) (at : ℕ → ℤ) (i n : ℕ) → i < n → holds (termIn ts i) (at i) ≡ false → allHold ts at n ≡ false
+unfolding allHold
+hold-fails ts at i zero h e = let f : ⊥ = omega arith in absurd f
+hold-fails ts at i (suc n) h e = go (λ l. hold-fails ts at i n l e) (eqb i n) refl
+  where
+    go : (i < n → allHold ts at n ≡ false) → (t : Bool) → eqb i n ≡ t → (allHold ts at n && holds (termIn ts n) (at n)) ≡ false
+    go before true q =
+        let k : i ≡ n = eqb-true i n q in
+        let f : holds (termIn ts n) (at n) ≡ false = subst (λ j. holds (termIn ts j) (at j) ≡ false) k e in
+        rw f (and-false (allHold ts at n))
+    go before false q = let l : i ≢ n = eqb-false i n q in rw (before (omega arith)) refl

@@ -177,11 +177,12 @@ pub fn all_hold(
         (readingOf kept (now (first .entry)) (now (second .entry)) (termsOf (now (body .entry)))) (length (termsOf (now (body .entry)))) ⌝ }
 {
     let n = body.len() / 4;
-    let mut all = true;
     for i in 0..n {
-        all = all & is_met(body, i, kept, first, second);
+        if !is_met(body, i, kept, first, second) {
+            return false;
+        }
     }
-    all
+    true
 }
 
 // Whether some literal of a body holds.
@@ -196,9 +197,10 @@ pub fn any_holds(
         (λ i. holds (termIn (termsOf (now (body .entry))) i) (readingOf kept (now (first .entry)) (now (second .entry)) (termsOf (now (body .entry))) i)) ⌝ }
 {
     let n = body.len() / 4;
-    let mut any = false;
     for i in 0..n {
-        any = any | is_met(body, i, kept, first, second);
+        if is_met(body, i, kept, first, second) {
+            return true;
+        }
     }
-    any
+    false
 }

@@ -41,11 +41,8 @@ pub fn size(a: i64) -> i64
 pub fn holds(t: Term, value: i64) -> bool
     ensures { λ r. ⌜ r ≡ holds t value ⌝ }
 {
-    let op = t.op;
-    let number = t.number;
-    match op {
-        1 => value >= number,
-        2 => value < number,
-        0 | 3..=255 => true,
-    }
+    let below = value < t.number;
+    let from = (t.op != 1) | !below;
+    let to = (t.op != 2) | below;
+    from & to
 }

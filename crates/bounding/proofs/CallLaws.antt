@@ -33,12 +33,12 @@ use Rattle.lent.specs.BoundsCall.{rangeBytes, turned, BoundsCall, within-bounds
 use Rattle.lent.proofs.Fits.{Fitting, ranges-fitting, lent-within}
 use Rattle.lent.proofs.Ends.{ends-model}
 use Rattle.lent.proofs.Calls.{all-fit, lent-called}
-use Rattle.tables.specs.Tabled.{TablesOf}
-use Rattle.run.specs.Running.{Task, SomeTask, EndsWith}
+use Rattle.tables.specs.Laid.{Laid}
+use Rattle.run.specs.Running.{Basis, SomeBasis, EndsWith}
 use Rattle.run.specs.declared.Ending.{Ending}
 use Rattle.run.specs.declared.Ending.the-variants as ending
 use Rattle.ends.specs.Ends.{otherEnd, otherEnds, stopEnd, stopEnds, FitIs, LentMasks}
-use Rattle.ends.proofs.TaskLaws.{lent-task}
+use Rattle.ends.proofs.TaskLaws.{lent-basis}
 use Rattle.bounding.specs.Writing.{BoundsWritten, FitsFile}
 
 -- ---- the ranges as loaded
@@ -112,15 +112,15 @@ module _ (s : List ℕ) (k : Counts) (r : AcceptedAs s k) where
       z v ∙ sym (low-past (fit (x .meant) (x .accepts)) v (omega (arith, x .variables-are)))
 
   -- what the run relies on
-  module _ (low high : Valuation) (fit : FitsFile s low high) {os ks rs : List ℕ} (t : TablesOf s os ks rs) (ms : List ℕ)
+  module _ (low high : Valuation) (fit : FitsFile s low high) {os ks : List ℕ} (t : Laid s k os ks) (ms : List ℕ)
       (masks : (P : Program) → Accepts s P → LentMasks P low high (length (P .rules)) ms) (zs others stops : List ℤ) (z : (v : ℕ) → valued zs v ≡ pos 0)
       (o : Filled (otherEnds (variablesAt s (k .variables)) low high) (k .variables) zs others)
       (e : Filled (stopEnds (variablesAt s (k .variables)) low high) (k .variables) zs stops) where
-    pub bound-task : (P : Program) → Accepts s P → Task s P (lent P low high) low os ms rs others stops true
-    bound-task P x = lent-task x (t P x) low high (fit P x) ms (masks P x) others stops (others-whole low high fit zs others z P x o) (stops-whole low high fit zs stops z P x e)
+    pub bound-basis : (P : Program) → Accepts s P → Basis s P (lent P low high) low os ms others stops true
+    bound-basis P x = lent-basis (t .placed P x) low high (fit P x) ms (masks P x) others stops (others-whole low high fit zs others z P x o) (stops-whole low high fit zs stops z P x e)
 
-    pub some-task : SomeTask s low os ms rs others stops true
-    some-task = let x = reads-accepts r in record { program = x .meant; reckoning = lent (x .meant) low high; task = bound-task (x .meant) (x .accepts) }
+    pub some-basis : SomeBasis s low os ms others stops true
+    some-basis = let x = reads-accepts r in record { program = x .meant; reckoning = lent (x .meant) low high; basis = bound-basis (x .meant) (x .accepts) }
 
   -- the run ends in the bounds, for there is a model
   pub ends-bounds : (low high : Valuation) → FitsFile s low high → (m : Valuation) (e : Ending) → ((P : Program) → Accepts s P → EndsWith P (lent P low high) low m e)

@@ -16,8 +16,7 @@ use lent::Bounding;
 use meaning::Denied;
 use program::Counts;
 use program::Reading;
-use run::solve::reckon;
-use tables::Tables;
+use solving::reckon;
 use tables::fill_tables;
 
 // What the call asks of its ranges and of its buffer.
@@ -52,13 +51,12 @@ fn bound(
         → BoundsWritten P (valued (now (lows .entry))) (valued (now (highs .entry))) (now (buffer .entry)) (now (buffer .exit))) ⌝ }
 {
     let n = counts.variables;
-    let mut offsets = [0usize; Format::MAX_RULES];
+    let mut offsets = [0u16; Format::MAX_RULES];
     let mut masks = [0u32; Format::MAX_RULES];
-    let mut readers = [0u64; Tables::READERS];
     let mut others = [0i64; Format::MAX_VARIABLES];
     let mut stops = [0i64; Format::MAX_VARIABLES];
     let mut model = [0i64; Format::MAX_VARIABLES];
-    fill_tables(file, counts, &mut offsets, &mut masks, &mut readers);
+    fill_tables(file, counts, &mut offsets, &mut masks);
     set_masks(file, counts, &offsets, lows, highs, &mut masks);
     ranges::set_ends(file, n, lows, highs, &mut others, &mut stops);
     reckon(
@@ -66,7 +64,6 @@ fn bound(
         counts,
         &offsets,
         &masks,
-        &readers,
         lows,
         &others,
         &stops,

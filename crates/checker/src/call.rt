@@ -8,7 +8,7 @@ ghost use Rattle.meaning.specs.Founded.{Within};
 ghost use Rattle.meaning.specs.Reduct.{system};
 ghost use Rattle.meaning.specs.Stable.{RuleMet};
 ghost use Rattle.reader.specs.Parts.{constraintPlace};
-ghost use Rattle.tables.specs.Tabled.{TablesOf};
+ghost use Rattle.tables.specs.Laid.{Laid};
 ghost use Rattle.verdict.specs.Checks.{answerOf, Judged, Checks, checkBytes};
 ghost use Rattle.verdict.specs.Demands.{Demands};
 ghost use Rattle.program.specs.Readings.{valued};
@@ -21,7 +21,6 @@ use meaning::Opening;
 use program::Counts;
 use reduct::loading;
 use reduct::loading::Outside;
-use tables::Tables;
 use tables::fill_tables;
 use verdict::Verdict;
 use words::Found;
@@ -44,15 +43,13 @@ fn check_constraints(
     file: &[u8],
     counts: Counts,
     start: usize,
-    offsets: &[usize; Format::MAX_RULES],
+    offsets: &[u16; Format::MAX_RULES],
     masks: &[u32; Format::MAX_RULES],
-    readers: &[u64; Tables::READERS],
     values: &[i64; Format::MAX_VARIABLES],
     report: &mut [u8],
 ) -> Verdict
-    requires { ⌜ AcceptedAs (now file) counts ⌝ }
+    requires { ⌜ Laid (now file) counts (now offsets) (now masks) ⌝ }
     requires { ⌜ ((P : Program) → Accepts (now file) P → start ≡ constraintPlace (now file) P 0) ⌝ }
-    requires { ⌜ TablesOf (now file) (now offsets) (now masks) (now readers) ⌝ }
     requires { ⌜ ((P : Program) → Accepts (now file) P → Within (system P) (valued (now values))) ⌝ }
     requires { ⌜ ((P : Program) → Accepts (now file) P → (i : ℕ) → i < length (P .rules) → RuleMet P (valued (now values)) i) ⌝ }
     requires { ⌜ checkBytes * counts .variables ≤ length (now report) ⌝ }
@@ -61,7 +58,7 @@ fn check_constraints(
     let unmet = first_unmet_constraint(file, start, counts, values);
     match unmet {
         Found::At(i) => Verdict::Constraint(i),
-        Found::Nothing => compare(file, counts, offsets, masks, readers, values, report),
+        Found::Nothing => compare(file, counts, offsets, masks, values, report),
     }
 }
 
@@ -77,24 +74,14 @@ fn check_rules(
     requires { ⌜ checkBytes * counts .variables ≤ length (now report) ⌝ }
     ensures { λ r. ⌜ ((P : Program) → Accepts (now (file .entry)) P → Judged P (valued (now (values .entry))) (now (report .entry)) (answerOf r) (now (report .exit))) ⌝ }
 {
-    let mut offsets = [0usize; Format::MAX_RULES];
+    let mut offsets = [0u16; Format::MAX_RULES];
     let mut masks = [0u32; Format::MAX_RULES];
-    let mut readers = [0u64; Tables::READERS];
-    let start = fill_tables(file, counts, &mut offsets, &mut masks, &mut readers);
+    let start = fill_tables(file, counts, &mut offsets, &mut masks);
     let unmet = first_unmet_rule(file, counts, &offsets, &masks, values);
     match unmet {
         Found::At(i) => Verdict::Rule(i),
         Found::Nothing => {
-            check_constraints(
-                file,
-                counts,
-                start,
-                &offsets,
-                &masks,
-                &readers,
-                values,
-                report,
-            )
+            check_constraints(file, counts, start, &offsets, &masks, values, report)
         }
     }
 }

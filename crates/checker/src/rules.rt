@@ -16,7 +16,7 @@ use words::Found;
 pub fn first_unmet_rule(
     file: &[u8],
     counts: Counts,
-    offsets: &[usize; Format::MAX_RULES],
+    offsets: &[u16; Format::MAX_RULES],
     masks: &[u32; Format::MAX_RULES],
     assigned: &[i64; Format::MAX_VARIABLES],
 ) -> Found

@@ -3,9 +3,9 @@ ghost use Prim.Native.Nat.{_*_, _≤_};
 ghost use lib.ListN.{length};
 ghost use Rattle.words.specs.Bit.{has};
 ghost use Rattle.program.specs.Program.{Program};
-ghost use Rattle.program.specs.Reading.{AcceptedAs, Accepts};
+ghost use Rattle.program.specs.Reading.{Accepts};
 ghost use Rattle.meaning.specs.Stable.{Meets};
-ghost use Rattle.tables.specs.Tabled.{TablesOf};
+ghost use Rattle.tables.specs.Laid.{Laid};
 ghost use Rattle.verdict.specs.Checks.{answerOf, Judged, checkBytes};
 ghost use Rattle.comparison.specs.Shows.{entryCount, ShowsSets};
 ghost use Rattle.program.specs.Readings.{valued};
@@ -18,8 +18,7 @@ use conditions::short::in_parts;
 use conditions::short::short_set;
 use format::Format;
 use program::Counts;
-use run::solve::run;
-use tables::Tables;
+use solving::run;
 use verdict::Verdict;
 
 // The set is shown, with its conditions.
@@ -47,21 +46,19 @@ fn show(
 pub fn compare(
     file: &[u8],
     counts: Counts,
-    offsets: &[usize; Format::MAX_RULES],
+    offsets: &[u16; Format::MAX_RULES],
     masks: &[u32; Format::MAX_RULES],
-    readers: &[u64; Tables::READERS],
     assigned: &[i64; Format::MAX_VARIABLES],
     report: &mut [u8],
 ) -> Verdict
-    requires { ⌜ AcceptedAs (now file) counts ⌝ }
-    requires { ⌜ TablesOf (now file) (now offsets) (now masks) (now readers) ⌝ }
+    requires { ⌜ Laid (now file) counts (now offsets) (now masks) ⌝ }
     requires { ⌜ ((P : Program) → Accepts (now file) P → Meets P (valued (now assigned))) ⌝ }
     requires { ⌜ checkBytes * counts .variables ≤ length (now report) ⌝ }
     ensures { λ r. ⌜ ((P : Program) → Accepts (now (file .entry)) P → Judged P (valued (now (assigned .entry))) (now (report .entry)) (answerOf r) (now (report .exit))) ⌝ }
 {
     let n = counts.variables;
     let mut model = [0i64; Format::MAX_VARIABLES];
-    run(file, counts, offsets, masks, readers, assigned, &mut model);
+    run(file, counts, offsets, masks, assigned, &mut model);
     let set = short_set(file, n, assigned, &model);
     if set.count() == 0 {
         return Verdict::Stable;

@@ -16,6 +16,7 @@ use parts::places::value_at;
 use parts::rules;
 use program::Counts;
 use sets::Set;
+use tables::place_of;
 
 // What the rule whose field stands at `at` asks, where its head is in the set.
 fn ask_field(before: Asked, file: &[u8], variables: usize, at: usize, set: Set) -> Asked
@@ -31,7 +32,7 @@ fn ask_field(before: Asked, file: &[u8], variables: usize, at: usize, set: Set) 
 }
 
 // The variables with a condition 'at most' and those with one 'at least', from the rules with a head in the set.
-pub fn asked(file: &[u8], counts: Counts, offsets: &[usize; Format::MAX_RULES], set: Set) -> Asked
+pub fn asked(file: &[u8], counts: Counts, offsets: &[u16; Format::MAX_RULES], set: Set) -> Asked
     requires { ⌜ AcceptedAs (now file) counts ⌝ }
     requires { ⌜ OffsetsOf (now file) (now offsets) ⌝ }
     ensures { λ r. ⌜ ((P : Program) → Accepts (now (file .entry)) P → (v : ℕ) → has (r .most .words) v ≡ asked P (has (set .words)) asksMost v) ⌝ }
@@ -46,7 +47,7 @@ pub fn asked(file: &[u8], counts: Counts, offsets: &[usize; Format::MAX_RULES], 
     };
     let mut i = 0;
     while i < rules {
-        let at = offsets[i];
+        let at = place_of(offsets, i);
         let next = ask_field(all, file, n, at, set);
         all = next;
         i += 1;

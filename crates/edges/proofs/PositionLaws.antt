@@ -5,7 +5,7 @@ use mathlib.Core.List.{List}
 use mathlib.Core.Bool.{Bool, true, false, _||_, _&&_, or-false, or-comm, or-assoc}
 use lib.ListN.{length}
 use lib.Dec.{eqb}
-use Rattle.reach.specs.Rows.{Marked}
+use Rattle.reach.specs.Rows.{Marked, MarkedWhere}
 use Rattle.program.specs.Tables.{anyBelow}
 use Rattle.program.specs.Program.{Rule}
 use Rattle.program.specs.Directions.{direction, isMixed}
@@ -83,6 +83,12 @@ module _ (vs : List Variable) (r : Rule) where
         go a b true true u w = rw (← u, ← w, e)
         go a b true false u w = rw (← u, ← w)
         go a b false z u w = rw (← u)
+
+    -- either, by a test
+    pub draws-where : {t t′ : ℕ → ℕ → Bool} (test : Bool) (h x : ℕ) → drawsEdge vs r i ≡ test
+        → h ≡ r .head → x ≡ bodyVariable r i → MarkedWhere test t t′ h x → Grown t t′ (drawsAt vs r i)
+    draws-where true h x e p q m = draws-one h x e p q (record { is = m .is })
+    draws-where {t} false h x e p q m = record { is = λ a b ha hb. m .is a b ha hb ∙ draws-none t e .is a b ha hb }
 
     pub offends-none : (t : ℕ → ℕ → Bool) → isMixed (direction vs r i) ≡ false → false ≡ offendsAt t vs r i
     unfolding offendsAt

@@ -12,7 +12,7 @@ use positions::Opened;
 use positions::open_rule;
 use positions::position_at;
 use reach::Rows;
-use reach::mark;
+use reach::mark_where;
 
 pub mod mixed;
 
@@ -36,12 +36,9 @@ fn mark_position(
     let d = p.direction;
     let mixed = d.is_mixed();
     let draws = kept | mixed;
-    if !draws {
-        return;
-    }
     let head = format::wide(rule.head);
     let x = format::wide(p.variable);
-    mark(rows, head, x);
+    mark_where(rows, head, x, draws);
 }
 
 // The edges that the rule draws.

@@ -1,7 +1,8 @@
 -- What a rule is found to give, by its mask and the ends of the ranges, is what it gives with lent ranges; so the run to the bounds is a run.
 use Prim.Native.Nat.{ℕ, _<_}
 use mathlib.Core.Path.{_≡_, refl, sym, ap, _∙_}
-use mathlib.Core.Bool.{Bool, true, false, not, cond, _&&_, _||_}
+use mathlib.Core.Logic.{_⊎_, inl, inr}
+use mathlib.Core.Bool.{Bool, true, false, not, cond, _&&_, _||_, true≢false}
 use mathlib.Core.List.{List}
 use native.Mathlib.Omega.{arith}
 use borrow.Author.Tests.{eqb-true}
@@ -11,8 +12,7 @@ use lib.ListN.{length, getD}
 use lib.Signed.{leZ}
 use Rattle.format.proofs.Int.{int}
 use Rattle.program.specs.Program.{Program, Rule, variableIn, ruleIn}
-use Rattle.program.specs.Reading.{Accepts}
-use Rattle.program.specs.Variables.{isFounded, swaps, cutOff, inRange}
+use Rattle.program.specs.Variables.{isFounded, fromAbove, swaps, far, notPast, cutOff, inRange}
 use Rattle.program.specs.Directions.{away, direction, opposite, isRising, isMixed}
 use Rattle.program.specs.Evaluate.{evaluate}
 use Rattle.program.specs.Evaluable.{Evaluable}
@@ -29,12 +29,13 @@ use Rattle.bodies.specs.Readings.{readingOf}
 use Rattle.meaning.specs.Founded.{Within}
 use Rattle.meaning.specs.Reduct.{system}
 use Rattle.meaning.proofs.InRanges.{value-small}
-use Rattle.lent.specs.Lent.{lentReading, undecided, lentGives, lent}
+use Rattle.lent.specs.Lent.{lentReading, lentVariable, undecided, lentGives, lent}
 use Rattle.lent.proofs.Fits.{Fitting, lent-narrows, low-within}
 use Rattle.lent.proofs.LentLaws.{lent-laws, lent-gives, decided-single}
-use Rattle.lent.proofs.LentGiven.{demanding-single, lent-given-end, lent-same-given}
-use Rattle.tables.specs.Tabled.{Tabled}
-use Rattle.run.specs.Running.{stopped, Task}
+use Rattle.lent.proofs.LentGiven.{demanding-single, lent-given-end}
+use Rattle.tables.specs.Laid.{Placed}
+use Rattle.run.specs.Running.{stopped, Basis}
+use Rattle.run.proofs.RunLaws.{at-stands}
 use Rattle.ends.specs.Ends.{otherEnd, otherEnds, stopEnd, stopEnds, inModel, LentMask, LentMasks}
 
 -- ---- one position
@@ -108,22 +109,40 @@ others-within {P} {low} {high} f = record {
       (λ t. let r = f .range v in and-both (leZ (x .low) (high v)) (leZ (high v) (x .high)) (omega (int, r .from, r .ordered)) (r .to .le));
 }
 
-pub lent-task : {s offsets kepts readers : List ℕ} {P : Program} → Accepts s P → Tabled s P (length (P .rules)) offsets kepts readers
+-- what is read in the model is kept, or standard
+kept-or-standard : (vs : List Variable) (r : Rule) (j : ℕ) → inModel vs r j ≡ true → (kept vs r j ≡ true) ⊎ T (not (isFounded (variableIn vs (bodyVariable r j))))
+unfolding inModel
+kept-or-standard vs r j = go (kept vs r j) (isFounded (variableIn vs (bodyVariable r j))) (isRising (opposite (direction vs r j)))
+  where
+    go : (a b c : Bool) → (a || (not b && c)) ≡ true → (a ≡ true) ⊎ T (not b)
+    go true b c e = inl refl
+    go false true c e = absurd (true≢false (sym e))
+    go false false c e = inr tt
+
+-- lifts stop at the far end of the lent range
+stop-far : (x : Variable) (low high a : ℤ) → T (notPast x a (stopEnd x low high)) → T (notPast (lentVariable x low high) a (far (lentVariable x low high)))
+unfolding stopEnd lentVariable notPast far swaps
+stop-far x low high a = cases (fromAbove x)
+    (λ t. T (cond t (leZ (cond t low high) a) (leZ a (cond t low high))) → T (cond t (leZ (cond t (cond t low (x .low)) (cond t (x .high) high)) a) (leZ a (cond t (cond t low (x .low)) (cond t (x .high) high)))))
+    (λ t h. h) (λ t h. h)
+
+pub lent-basis : {s offsets kepts : List ℕ} {P : Program} → Placed s P offsets kepts
     → (low high : Valuation) → Fitting P low high → (masks : List ℕ) → LentMasks P low high (length (P .rules)) masks → (others stops : List ℤ)
     → ((v : ℕ) → valued others v ≡ otherEnds (P .variables) low high v) → ((v : ℕ) → valued stops v ≡ stopEnds (P .variables) low high v)
-    → Task s P (lent P low high) low offsets masks readers others stops true
-lent-task {P = P} a t low high f masks k others stops o z = record {
+    → Basis s P (lent P low high) low offsets masks others stops true
+lent-basis {P = P} t low high f masks k others stops o z = record {
   reckons = record {
-    accepts = a;
-    stands = λ i h. record { accepts = a; among = h; placed = t .place-is i h };
+    accepts = t .accepts;
+    stands = λ i h. at-stands (t .stands i h);
     narrows = lent-narrows f;
-    finds = λ i h m s. lent-found (P .variables) low high (λ v. f .range v .ordered .le) (ruleIn (P .rules) i) (promised-evaluable (accepts-promises a .rules i h)) (getD masks i 0) (k i h)
+    finds = λ i h m s. lent-found (P .variables) low high (λ v. f .range v .ordered .le) (ruleIn (P .rules) i) (promised-evaluable (accepts-promises (t .accepts) .rules i h)) (getD masks i 0) (k i h)
         m others stops o z s;
+    keeps = λ i h j l b. kept-or-standard (P .variables) (ruleIn (P .rules) i) j (sym (k i h .read j l) ∙ b);
+    ranged = record { inside = λ v. rw (o v) (others-within f .inside v) };
+    ends = λ v b n. record { le = stop-far (variableIn (P .variables) v) (low v) (high v) b (rw (z v) at (n .to-stop refl)) };
   };
-  laws = lent-laws (accepts-promises a) f;
+  laws = lent-laws (accepts-promises (t .accepts)) f;
   assigned = low-within f;
-  small = λ v. rw (o v) (value-small (accepts-promises a) (others-within f) v);
-  readers-are = t .reader-is;
-  unread = λ i h m m⁺ x b is e. lent-same-given P low high (ruleIn (P .rules) i) m m⁺ x b is e (promised-evaluable (accepts-promises a .rules i h));
+  small = λ v. rw (o v) (value-small (accepts-promises (t .accepts)) (others-within f) v);
   inside = λ i h m b e q. record { le = lent-given-end (P .variables) low high (ruleIn (P .rules) i) m b e };
 }

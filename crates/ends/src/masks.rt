@@ -22,6 +22,7 @@ use positions::open_rule;
 use positions::position_at;
 use program::Counts;
 use reduct::kept::moved_up;
+use tables::place_of;
 
 // How a position is read: whether in the model, and whether it is mixed with a range that is not single.
 pub struct Way {
@@ -96,7 +97,7 @@ fn mask_of(
 pub fn set_masks(
     file: &[u8],
     counts: Counts,
-    offsets: &[usize; Format::MAX_RULES],
+    offsets: &[u16; Format::MAX_RULES],
     lows: &[i64; Format::MAX_VARIABLES],
     highs: &[i64; Format::MAX_VARIABLES],
     masks: &mut [u32; Format::MAX_RULES],
@@ -111,7 +112,7 @@ pub fn set_masks(
     let rules = counts.rules;
     let mut i = 0;
     while i < rules {
-        let at = offsets[i];
+        let at = place_of(offsets, i);
         let value = value_at(file, at);
         let mask = mask_of(file, n, value, lows, highs);
         masks[i] = mask;

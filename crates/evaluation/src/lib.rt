@@ -1,4 +1,4 @@
 // What a rule gives and what a constraint asks, from the bytes of the file.
 pub mod constraints;
-mod quotients;
+pub mod quotients;
 pub mod rules;

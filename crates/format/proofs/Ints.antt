@@ -7,13 +7,13 @@ use native.Mathlib.Nat.{le-refl, mul-le-mul, lt-of-le-of-lt, le-trans, le-of-eq}
 use native.Mathlib.Omega.{arith}
 use lib.Dec.{T, ltb}
 use borrow.Author.Tests.{ltb-true, ltb-false, le-ltb}
-use lib.IntN.{ℤ, pos, negsuc, negℤ, natAbs, subℕ, _+ℤ_, _*ℤ_}
+use lib.IntN.{ℤ, pos, negsuc, negℤ, natAbs, subℕ, _+ℤ_, _-ℤ_, _*ℤ_}
 use lib.Signed.{mag, ltZ, _≤ℤ_, ltZ-no}
-use mir.Syntax.{w16, w64}
+use mir.Syntax.{w8, w16, w64}
 use mir.Val.{SFits, toZ, ofZ, sel}
 use mir.Facts.{toZ-ofZ, ofZ-toZ, toZ-pos, fits-ofZ}
 use Rattle.format.specs.Numbers.{big, signed, bytesOf, beyond}
-use Rattle.format.proofs.Int.{up, dn, int, neg-is, sum-is}
+use Rattle.format.proofs.Int.{≡-out, int, neg-is, sum-is, product-is}
 
 abs-neg : (z : ℤ) → natAbs (negℤ z) ≡ natAbs z
 abs-neg (pos zero) = refl
@@ -56,24 +56,46 @@ sfits-abs z m h k = record { sfits = lt-of-le-of-lt (mag-le z) (omega arith) }
 pub back : (z : ℤ) (m : ℕ) → natAbs z ≤ m → m < 2 ^ 63 → toZ w64 (ofZ w64 z) ≡ z
 back z m h k = toZ-ofZ (sfits-abs z m h k)
 
--- sixteen bits read as signed, by a test and a difference
-pub low16 : (n : ℕ) → n < 32768 → toZ w64 n ≡ toZ w16 n
-low16 n h = toZ-pos w64 (omega arith) ∙ sym (toZ-pos w16 h)
+-- a byte read as signed: the byte, turned by 128, less 128
+pub turned : (h : ℕ) → h < 256 → toZ w64 ((h + 128) % 256) -ℤ pos 128 ≡ toZ w8 h
+turned h k = let e : toZ w64 ((h + 128) % 256) ≡ pos ((h + 128) % 256) = toZ-pos w64 (omega arith) in rw e (go (ltb h 128) refl)
+  where
+    go : (t : Bool) → ltb h 128 ≡ t → pos ((h + 128) % 256) -ℤ pos 128 ≡ sel t (pos h) (negsuc (256 - suc h))
+    go true e = omega (int, ltb-true h 128 e, sum-is (pos ((h + 128) % 256)) (negℤ (pos 128)))
+    go false e = omega (int, ltb-false h 128 e, sum-is (pos ((h + 128) % 256)) (negℤ (pos 128)))
 
-pub high16 : (n : ℕ) → 32768 ≤ n → toZ w16 n ≡ negsuc (65536 - suc n)
-high16 n h = ap (λ (t : Bool). sel t (pos n) (negsuc (65536 - suc n))) (le-ltb n 32768 h)
+byte-small : (h : ℕ) → h < 256 → natAbs (toZ w8 h) ≤ 128
+byte-small h k = go (ltb h 128) refl
+  where
+    go : (t : Bool) → ltb h 128 ≡ t → natAbs (sel t (pos h) (negsuc (256 - suc h))) ≤ 128
+    go true e = omega (arith, ltb-true h 128 e)
+    go false e = omega (arith, ltb-false h 128 e)
 
--- a number of two bytes and a small number: an i64, and z, where it is z in ℤ
-pub plus-small : (n : ℕ) (d : ℤ) → n < 65536 → natAbs d ≤ 65536 → SFits w64 (toZ w64 n +ℤ d)
-plus-small n d h l =
-    let e : toZ w64 n ≡ pos n = toZ-pos w64 (omega arith) in
-    rw e (sfits-abs (pos n +ℤ d) (n + natAbs d) (abs-add (pos n) d) (omega arith))
+-- two bytes, of which the high one is read as signed
+whole : (h l : ℕ) → h < 256 → l < 256 → toZ w8 h *ℤ pos 256 +ℤ pos l ≡ signed h l
+whole h l k m = go (ltb h 128) refl
+  where
+    go : (t : Bool) → ltb h 128 ≡ t → sel t (pos h) (negsuc (256 - suc h)) *ℤ pos 256 +ℤ pos l ≡ toZ w16 (big h l)
+    go true e =
+        let q : toZ w16 (big h l) ≡ pos (big h l) = toZ-pos w16 (omega (arith, ltb-true h 128 e)) in
+        omega (int, ≡-out q, sum-is (pos h *ℤ pos 256) (pos l), product-is (pos h) (pos 256))
+    go false e =
+        let b : 32768 ≤ big h l = omega (arith, ltb-false h 128 e) in
+        let q : toZ w16 (big h l) ≡ negsuc (65536 - suc (big h l)) = ap (λ (t : Bool). sel t (pos (big h l)) (negsuc (65536 - suc (big h l)))) (le-ltb (big h l) 32768 b) in
+        omega (int, ≡-out q, sum-is (negsuc (256 - suc h) *ℤ pos 256) (pos l), product-is (negsuc (256 - suc h)) (pos 256))
 
-pub plus-is : (n : ℕ) (d z : ℤ) → n < 65536 → natAbs d ≤ 65536 → n + up d + dn z ≡ up z + dn d → toZ w64 (ofZ w64 (toZ w64 n +ℤ d)) ≡ z
-plus-is n d z h l q =
-    let e : toZ w64 n ≡ pos n = toZ-pos w64 (omega arith) in
-    let s : pos n +ℤ d ≡ z = omega (int, q, sum-is (pos n) d) in
-    toZ-ofZ (plus-small n d h l) ∙ rw e s
+-- the steps of that in the machine
+pub top-fits : (h : ℕ) → h < 256 → SFits w64 (toZ w64 ((h + 128) % 256) -ℤ pos 128)
+top-fits h k = rw (turned h k) (sfits-abs (toZ w8 h) 128 (byte-small h k) (omega arith))
+
+top-is : (h : ℕ) → h < 256 → toZ w64 (ofZ w64 (toZ w64 ((h + 128) % 256) -ℤ pos 128)) ≡ toZ w8 h
+top-is h k = toZ-ofZ (top-fits h k) ∙ turned h k
+
+high-fits : (h : ℕ) → h < 256 → SFits w64 (toZ w8 h *ℤ pos 256)
+high-fits h k = sfits-abs (toZ w8 h *ℤ pos 256) 32768 (abs-mul-le (toZ w8 h) (pos 256) 128 256 (byte-small h k) (omega arith)) (omega arith)
+
+pub times-fits : (h : ℕ) → h < 256 → SFits w64 (toZ w64 (ofZ w64 (toZ w64 ((h + 128) % 256) -ℤ pos 128)) *ℤ pos 256)
+times-fits h k = rw (top-is h k) (high-fits h k)
 
 -- two bytes are a small number
 pub signed-small : (high low : ℕ) → high < 256 → low < 256 → natAbs (signed high low) ≤ 32768
@@ -82,6 +104,21 @@ signed-small high low h k = go (ltb (big high low) 32768) refl
     go : (t : Bool) → ltb (big high low) 32768 ≡ t → natAbs (sel t (pos (big high low)) (negsuc (65536 - suc (big high low)))) ≤ 32768
     go true e = omega (arith, ltb-true (big high low) 32768 e)
     go false e = omega (arith, ltb-false (big high low) 32768 e)
+
+-- the sum of the high byte's part and the low byte is an i64, and the number
+pub sum-fits : (h l : ℕ) → h < 256 → l < 256
+    → SFits w64 (toZ w64 (ofZ w64 (toZ w64 (ofZ w64 (toZ w64 ((h + 128) % 256) -ℤ pos 128)) *ℤ pos 256)) +ℤ toZ w64 l)
+sum-fits h l k m =
+    let t : toZ w64 (ofZ w64 (toZ w64 (ofZ w64 (toZ w64 ((h + 128) % 256) -ℤ pos 128)) *ℤ pos 256)) ≡ toZ w8 h *ℤ pos 256 = rw (top-is h k) (toZ-ofZ (high-fits h k)) in
+    let e : toZ w64 l ≡ pos l = toZ-pos w64 (omega arith) in
+    rw (t, e) (rw (whole h l k m) (sfits-abs (signed h l) 32768 (signed-small h l k m) (omega arith)))
+
+pub number-is : (h l : ℕ) → h < 256 → l < 256
+    → toZ w64 (ofZ w64 (toZ w64 (ofZ w64 (toZ w64 (ofZ w64 (toZ w64 ((h + 128) % 256) -ℤ pos 128)) *ℤ pos 256)) +ℤ toZ w64 l)) ≡ signed h l
+number-is h l k m =
+    let t : toZ w64 (ofZ w64 (toZ w64 (ofZ w64 (toZ w64 ((h + 128) % 256) -ℤ pos 128)) *ℤ pos 256)) ≡ toZ w8 h *ℤ pos 256 = rw (top-is h k) (toZ-ofZ (high-fits h k)) in
+    let e : toZ w64 l ≡ pos l = toZ-pos w64 (omega arith) in
+    toZ-ofZ (sum-fits h l k m) ∙ rw (t, e) (whole h l k m)
 
 -- a number in two's complement, written and read back
 pub read-written : (z : ℤ) → natAbs z < 32768 → signed (ofZ w16 z / 256) (ofZ w16 z % 256) ≡ z

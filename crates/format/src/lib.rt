@@ -66,12 +66,8 @@ pub fn joined(high: u8, low: u8) -> usize
 pub fn number(high: u8, low: u8) -> i64
     ensures { λ r. ⌜ r ≡ signed high low ⌝ }
 {
-    let n = high as u64 * 256 + low as u64;
-    if n < 32768 {
-        n as i64
-    } else {
-        n as i64 - 65536
-    }
+    let top = (high as u64 + 128) % 256;
+    (top as i64 - 128) * 256 + low as i64
 }
 
 // The unsigned number of the two bytes at i.

@@ -5,7 +5,7 @@ use mathlib.Core.List.{List}
 use mathlib.Core.Bool.{Bool, true, false, not, cond}
 use native.Mathlib.Omega.{arith}
 use lib.Dec.{eqb}
-use lib.IntN.{ℤ, pos, natAbs}
+use lib.IntN.{ℤ, pos, natAbs, _+ℤ_}
 use lib.Signed.{ltZ}
 use lib.ListN.{length, set, length-set}
 use lib.Seq.{getD-set-same, getD-set-other}
@@ -13,11 +13,11 @@ use borrow.Author.Count.{below-more}
 use borrow.Author.Tests.{eqb-true, eqb-false}
 use Rattle.format.specs.Limits.{maxVariables, maxNumber}
 use Rattle.words.specs.Bit.{bit}
-use Rattle.program.specs.Program.{Rule, ruleOf, variableIn, variablesAt}
-use Rattle.program.specs.Directions.{direction}
+use Rattle.program.specs.Program.{Rule, ruleOf, termForm, divisorOf, variableIn, variablesAt}
+use Rattle.program.specs.Directions.{direction, isMixed, isRising}
 use Rattle.program.specs.Variables.{swaps, start, notPast, noMore}
 use Rattle.program.specs.Evaluate.{evaluate}
-use Rattle.program.specs.Evaluable.{Small, Evaluable}
+use Rattle.program.specs.Evaluable.{Small, hasLiterals, Evaluable}
 use Rattle.program.specs.Readings.{valued, bodyVariable}
 use Rattle.program.specs.Idle.{furthest, nearest, demanding, mostAt, most, lows, highs, isIdle}
 use Rattle.program.specs.declared.Direction.{Direction}
@@ -25,7 +25,8 @@ use Rattle.program.specs.declared.Direction.the-variants.{Rising, Falling, Mixe
 use Rattle.program.specs.declared.Given.{Given}
 use Rattle.program.specs.declared.Given.the-variants.{Nothing, Value}
 use Rattle.program.specs.declared.Variable.{Variable}
-use Rattle.program.proofs.Gives.{evaluate-same}
+use Rattle.program.proofs.Conditions.{never}
+use Rattle.program.proofs.Gives.{enough-of, amount-size, given-is, plain-hold, evaluate-same}
 use Rattle.program.proofs.IdleRules.{demanding-one}
 use Rattle.bodies.specs.Readings.{readingOf}
 use Rattle.idleness.specs.Most.{mostDeclared, Ready}
@@ -54,6 +55,22 @@ module _ (low high : ℤ) where
   pub nearest-zero : ltZ (pos 0) low ≡ false → ltZ high (pos 0) ≡ false → pos 0 ≡ nearest low high
   unfolding nearest
   nearest-zero h k = rw (h, k)
+
+-- a direction, by its tests
+pub is-mixed : (d : Direction) → isMixed d ≡ true → d ≡ Mixed
+is-mixed Rising e = absurd (never e refl)
+is-mixed Falling e = absurd (never e refl)
+is-mixed Mixed e = refl
+
+pub is-rising : (d : Direction) → isRising d ≡ true → d ≡ Rising
+is-rising Rising e = refl
+is-rising Falling e = absurd (never e refl)
+is-rising Mixed e = absurd (never e refl)
+
+pub is-falling : (d : Direction) → isMixed d ≡ false → isRising d ≡ false → d ≡ Falling
+is-falling Rising m e = absurd (never refl e)
+is-falling Falling m e = refl
+is-falling Mixed m e = absurd (never refl m)
 
 module _ (h : Variable) (d : Direction) (low high : ℤ) where
   pub demanding-rising : d ≡ Rising → high ≡ demanding h d low high
@@ -137,6 +154,14 @@ module _ (s : List ℕ) (n : ℕ) (v : List ℕ) where
 
 -- ---- the rule
 
+pub size-form : {form : ℕ} → form ≡ 5 → termForm form ≡ 5
+unfolding termForm
+size-form h = rw h
+
+-- a size has a position
+pub size-position : {s : List ℕ} {n : ℕ} {v : List ℕ} → Ready s n v → ruleOf v .form ≡ 5 → 0 < length (ruleOf v .terms)
+size-position p f = enough-of (p .evaluable) 5 (size-form f)
+
 -- what is given, by the machine's test
 module _ (x : Variable) {g : Given} where
   pub none-given : g ≡ Nothing → true ≡ noMore x g (start x)
@@ -159,6 +184,16 @@ module _ (vs : List Variable) (r : Rule) where
       either : {a : ℤ} (b : Bool) → cond b a a ≡ a
       either true = refl
       either false = refl
+
+  -- a size, by its one position
+  pub size-most : Evaluable r → r .form ≡ 5 → {z a : ℤ} → z ≡ mostDeclared vs r 0 → a ≡ r .c +ℤ pos (natAbs z) → Value a ≡ most vs r (lows vs) (highs vs)
+  unfolding most
+  size-most e f p q =
+      given-is r (mostDeclared vs r) (plain-hold (r .terms) (mostDeclared vs r) (length (r .terms)) (e .plain (ap hasLiterals five)))
+      (q ∙ ap (λ (z : ℤ). r .c +ℤ pos (natAbs z)) p ∙ sym (amount-size (r .c) (divisorOf r) (r .terms) (mostDeclared vs r) five))
+    where
+      five : termForm (r .form) ≡ 5
+      five = size-form f
 
   pub idle-is : {x : Variable} {g : Given} {b : Bool} → b ≡ noMore x g (start x) → x ≡ variableIn vs (r .head)
       → g ≡ most vs r (lows vs) (highs vs) → b ≡ isIdle vs r

@@ -20,6 +20,7 @@ use parts::variables;
 use positions::Opened;
 use positions::directions;
 use positions::open_rule;
+use positions::position_at;
 use program::Direction;
 use program::Given;
 use program::Variable;
@@ -49,16 +50,13 @@ fn demanding(h: Variable, d: Direction, low: i64, high: i64) -> i64
     requires { ⌜ (natAbs low ≤ maxNumber) × (natAbs high ≤ maxNumber) ⌝ }
     ensures { λ r. ⌜ r ≡ demanding h d low high ⌝ }
 {
-    match d {
-        Direction::Rising => high,
-        Direction::Falling => low,
-        Direction::Mixed => {
-            if h.is_from_above() {
-                return nearest(low, high);
-            }
-            furthest(low, high)
+    if d.is_mixed() {
+        if h.is_from_above() {
+            return nearest(low, high);
         }
+        return furthest(low, high);
     }
+    if d.is_rising() { high } else { low }
 }
 
 // Sets the variable at position i of the rule in a field's value to the value of its range at which the rule
@@ -117,6 +115,22 @@ fn is_no_more(x: Variable, given: Given) -> bool
         return true;
     };
     !x.is_before(x.start(), a)
+}
+
+// Whether the size in a field's value is idle.
+pub fn is_idle_size(file: &[u8], variables: usize, value: &[u8]) -> bool
+    requires { ⌜ Ready (now file) variables (now value) ⌝ }
+    requires { ⌜ ruleOf (now value) .form ≡ 5 ⌝ }
+    ensures { λ r. ⌜ r ≡ isIdle (variablesAt (now (file .entry)) variables) (ruleOf (now (value .entry))) ⌝ }
+{
+    let rule = open_rule(file, variables, value);
+    let header = rules::header(value);
+    let p = position_at(file, variables, value, rule, 0);
+    let d = p.direction;
+    let x = variables::variable(file, p.variable);
+    let most = demanding(rule.variable, d, x.low, x.high);
+    let given = Given::Value(numbers::plus(header.c, numbers::size(most)));
+    is_no_more(rule.variable, given)
 }
 
 // Whether the rule in a field's value is idle. The values are lent for it, and are left as numbers of the format's range.

@@ -16,8 +16,7 @@ use program::Counts;
 use reduct::loading;
 use reduct::loading::Outside;
 use run::Ending;
-use run::solve::run;
-use tables::Tables;
+use solving::run;
 use tables::fill_tables;
 
 // What the call asks of its buffer.
@@ -48,12 +47,11 @@ fn solve(
     ensures { λ r. ⌜ LeastCall (now (file .entry)) (now (assignment .entry)) (now (buffer .entry)) (answerOf r) (now (buffer .exit)) ⌝ }
 {
     let n = counts.variables;
-    let mut offsets = [0usize; Format::MAX_RULES];
+    let mut offsets = [0u16; Format::MAX_RULES];
     let mut masks = [0u32; Format::MAX_RULES];
-    let mut readers = [0u64; Tables::READERS];
     let mut model = [0i64; Format::MAX_VARIABLES];
-    fill_tables(file, counts, &mut offsets, &mut masks, &mut readers);
-    let ending = run(file, counts, &offsets, &masks, &readers, values, &mut model);
+    fill_tables(file, counts, &mut offsets, &mut masks);
+    let ending = run(file, counts, &offsets, &masks, values, &mut model);
     match ending {
         Ending::Model => {
             write_values(&model, n, buffer);

@@ -1,19 +1,20 @@
 -- Laws of rows: what each row has after words of the list are stored.
 use mathlib.Core.Path.{_≡_, refl, sym, ap, ap₂, _∙_}
 use mathlib.Core.Logic.{_≢_}
-use mathlib.Core.Bool.{Bool, _||_, _&&_, or-false}
+use mathlib.Core.Bool.{Bool, true, false, _||_, _&&_, or-false}
 use mathlib.Core.List.{List}
 use Prim.Native.Nat.{ℕ, _+_, _*_, _/_, _%_, _^_, _≤_, _<_}
 use native.Mathlib.Decide.{ℕ-discrete, decLt}
 use native.Mathlib.Omega.{arith}
 use lib.Dec.{eqb}
 use lib.ListN.{length, getD, set}
-use lib.Bits.{bitOr}
+use lib.Bits.{bitOr, or-zero-r}
+use lib.Seq.{set-getD}
 use borrow.Author.Tests.{eq-eqb, ne-eqb}
 use Rattle.format.specs.Limits.{maxVariables}
-use Rattle.words.specs.Bit.{wordBits, wordCount, bit, has}
-use Rattle.reach.specs.Rows.{rowsLength, rowHas, Marked, Joined}
-use Rattle.words.proofs.Bits.{bit-or, has-insert}
+use Rattle.words.specs.Bit.{wordBits, wordCount, bit, has, one-if}
+use Rattle.reach.specs.Rows.{rowsLength, rowHas, Marked, MarkedWhere, Joined}
+use Rattle.words.proofs.Bits.{bit-or, has-insert, one-shl}
 use Rattle.words.proofs.Joins.{Taken, taken-more}
 
 -- ws is vs where the first t words of row i have taken in those of row k
@@ -81,3 +82,19 @@ mark-law ws i v len hi hv = record {
   where
     one : (x : ℕ) → has (marked ws i v) x ≡ (eqb x (flat i v) || has ws x)
     one = let e = flat-word i v hv in let f = flat-bit i v hv in rw (e, f) at (has-insert ws (flat i v) (omega arith))
+
+-- row i takes in v where a test says so
+pub mark-where-law : (test : Bool) (ws : List ℕ) (i v : ℕ) → length ws ≡ rowsLength → i < maxVariables → v < maxVariables
+    → MarkedWhere test (rowHas ws)
+    (rowHas (set ws (wordCount * i + v / wordBits) (bitOr (getD ws (wordCount * i + v / wordBits) 0) (one-if test * 2 ^ (v % wordBits) % 2 ^ wordBits)))) i v
+mark-where-law true ws i v len hi hv = record { is = rw (one-shl (v % wordBits) (omega arith)) (mark-law ws i v len hi hv .is) }
+mark-where-law false ws i v len hi hv = record { is = λ a b ha hb. ap (λ (us : List ℕ). rowHas us a b) same }
+  where
+    at : ℕ
+    at = wordCount * i + v / wordBits
+
+    none : 0 * 2 ^ (v % wordBits) % 2 ^ wordBits ≡ 0
+    none = omega arith
+
+    same : set ws at (bitOr (getD ws at 0) (0 * 2 ^ (v % wordBits) % 2 ^ wordBits)) ≡ ws
+    same = ap (λ (n : ℕ). set ws at (bitOr (getD ws at 0) n)) none ∙ ap (set ws at) (or-zero-r (getD ws at 0)) ∙ set-getD ws at 0

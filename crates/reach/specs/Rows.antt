@@ -20,6 +20,10 @@ rowHas ws i j = bit (getD ws (wordCount * i + j / wordBits) 0) (j % wordBits)
 pub record Marked (r r′ : ℕ → ℕ → Bool) (i v : ℕ) : Type 0 where
   pub is : (a b : ℕ) → a < maxVariables → b < maxVariables → r′ a b ≡ ((eqb a i && eqb b v) || r a b)
 
+-- r′ is r where row i has taken in v, if the test says so
+pub record MarkedWhere (test : Bool) (r r′ : ℕ → ℕ → Bool) (i v : ℕ) : Type 0 where
+  pub is : (a b : ℕ) → a < maxVariables → b < maxVariables → r′ a b ≡ ((test && (eqb a i && eqb b v)) || r a b)
+
 -- r′ is r where row i has taken in row k
 pub record Joined (r r′ : ℕ → ℕ → Bool) (i k : ℕ) : Type 0 where
   pub is : (a b : ℕ) → b < maxVariables → r′ a b ≡ (r a b || (eqb a i && r k b))

@@ -7,8 +7,8 @@ ghost use mathlib.Core.Bool.{true};
 ghost use Prim.Native.Nat.{_+_, _*_, _<_, _≤_};
 ghost use lib.ListN.{length};
 ghost use Rattle.format.specs.Limits.{maxVariables};
-ghost use Rattle.words.specs.Bit.{wordCount};
-ghost use Rattle.reach.specs.Rows.{rowsLength, rowHas, Marked, Joined};
+ghost use Rattle.words.specs.Bit.{wordCount, one-if};
+ghost use Rattle.reach.specs.Rows.{rowsLength, rowHas, Marked, MarkedWhere, Joined};
 ghost use Rattle.reach.specs.Stepping.{Lent, TakenIn, Steps};
 ghost use Rattle.walks.specs.Walk.{Round, Rounds};
 
@@ -43,6 +43,25 @@ pub fn mark(rows: &mut [u64; Rows::LENGTH], i: usize, v: usize)
 {
     let at = Set::WORDS * i + v / Words::BITS;
     rows[at] = rows[at] | (1u64 << (v % Words::BITS));
+}
+
+// A test, as a number.
+fn as_number(test: bool) -> u64
+    ensures { λ r. ⌜ r ≡ one-if test ⌝ }
+{
+    if test { 1 } else { 0 }
+}
+
+// Row i takes in v where the test says so, without a branch.
+pub fn mark_where(rows: &mut [u64; Rows::LENGTH], i: usize, v: usize, test: bool)
+    requires { ⌜ (i < maxVariables) × (v < maxVariables) ⌝ }
+    requires { ⌜ length (now rows) ≡ rowsLength ⌝ }
+    ensures { λ _. ⌜ length (now (rows .exit)) ≡ rowsLength ⌝ }
+    ensures { λ _. ⌜ MarkedWhere test (rowHas (now (rows .entry))) (rowHas (now (rows .exit))) i v ⌝ }
+{
+    let one = as_number(test);
+    let at = Set::WORDS * i + v / Words::BITS;
+    rows[at] = rows[at] | (one << (v % Words::BITS));
 }
 
 // Row i takes in row k.

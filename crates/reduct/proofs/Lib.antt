@@ -2,3 +2,4 @@ pub mod Ranges
 pub mod Fills
 pub mod MaskLaws
 pub mod AssignedLaws
+pub mod KindLaws

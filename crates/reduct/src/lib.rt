@@ -1,3 +1,4 @@
 // The reduct, from the bytes of a file: which positions are kept, and the values.
 pub mod kept;
+mod kinds;
 pub mod loading;

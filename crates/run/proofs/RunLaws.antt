@@ -1,12 +1,14 @@
 -- What a rule of the file gives, and what it demands: the field at its place is the program's rule.
 use Prim.Native.Nat.{ℕ, _+_, _*_, _<_, _≤_}
 use mathlib.Core.Path.{_≡_, refl, sym, ap, _∙_, subst}
-use mathlib.Core.Bool.{Bool, true, false, not, cond}
+use mathlib.Core.Logic.{_⊎_, inl, inr}
+use mathlib.Core.Bool.{Bool, true, false, not, cond, _&&_}
 use mathlib.Core.List.{List}
 use native.Mathlib.Omega.{arith}
+use lib.Dec.{eqb}
 use lib.IntN.{ℤ}
 use lib.ListN.{length, getD}
-use borrow.Author.Tests.{not-true, not-false}
+use borrow.Author.Tests.{not-true, not-false, eq-eqb}
 use Rattle.words.specs.Bit.{bit}
 use Rattle.program.specs.Fields.{valueAt, nextAt}
 use Rattle.program.specs.Program.{Program, Rule, ruleOf, ruleIn, variableIn, variablesAt}
@@ -17,6 +19,7 @@ use Rattle.program.specs.Readings.{Valuation, bodyVariable, reading, gives, val
 use Rattle.program.specs.declared.Variable.{Variable}
 use Rattle.program.specs.declared.Given.{Given}
 use Rattle.program.specs.declared.Given.the-variants.{Nothing, Value}
+use Rattle.program.proofs.Conditions.{never, none-below}
 use Rattle.program.proofs.Gives.{evaluate-same}
 use Rattle.program.proofs.Tests.{cases}
 use Rattle.parts.specs.Values.{ruleHeader}
@@ -25,7 +28,8 @@ use Rattle.reader.specs.Parts.{RuleLies}
 use Rattle.reader.proofs.Published.{rule-lies, variable-lies, variable-at}
 use Rattle.meaning.specs.Reduct.{Reckoning, reduct}
 use Rattle.meaning.proofs.Narrowing.{narrows-past}
-use Rattle.tables.specs.Tabled.{MaskOf}
+use Rattle.meaning.proofs.Steps.{Raised}
+use Rattle.tables.specs.Tabled.{MaskOf, readAt}
 use Rattle.tables.specs.Laid.{RuleAt, Stands}
 use Rattle.run.specs.Running.{headOf, RuleStands, SomeRule, freeBit, stopped, foundBy, demandOf, LookedAt, Demanded, AsAssigned, Reckons}
 use Rattle.run.specs.declared.Demand.{Demand}
@@ -47,6 +51,13 @@ at-stands h = record { accepts = h .accepts; among = h .among; placed = h .place
 
 pub some-stands : {s : List ℕ} {at mask : ℕ} → Stands s at mask → SomeRule s at
 some-stands h = record { program = h .program; rule = h .rule; here = at-stands (h .here) }
+
+-- at a place that is the same
+pub stands-at : {s : List ℕ} {P : Program} {i at at′ : ℕ} → at ≡ at′ → RuleStands s P i at′ → RuleStands s P i at
+stands-at e h = rw e h
+
+pub some-at : {s : List ℕ} {at at′ : ℕ} → at ≡ at′ → SomeRule s at′ → SomeRule s at
+some-at e h = rw e h
 
 module _ {s : List ℕ} {P : Program} {i at : ℕ} (h : RuleStands s P i at) where
   pub lies : RuleLies s P i at
@@ -114,11 +125,37 @@ pub looked : (P : Program) (mask : ℕ) (cut : Bool) (stops others m : List ℤ)
     → z ≡ valued m (headOf P i) → b ≡ valued stops (headOf P i) → LookedAt P mask cut stops others m i d
 looked P mask cut stops others m i p q o f z b = cc
 
+-- positions of a rule that does not read x in the model
+same-read : (r : Rule) (mask : ℕ) (m m⁺ others : List ℤ) (x : ℕ) (b : ℤ) → Raised (valued m) (valued m⁺) x b → readAt r mask x ≡ false → (j : ℕ) → j < length (r .terms)
+    → readingOf mask m⁺ others (r .terms) j ≡ readingOf mask m others (r .terms) j
+unfolding readingOf readAt
+same-read r mask m m⁺ others x b is e j l = go (bit mask j) (none-below (length (r .terms)) (λ n. bit mask n && eqb (bodyVariable r n) x) e j l) (is (bodyVariable r j))
+  where
+    v : ℕ
+    v = bodyVariable r j
+
+    go : (t : Bool) → (t && eqb v x) ≡ false → (valued m⁺ v ≡ valued m v) ⊎ ((x ≡ v) × (valued m⁺ v ≡ b)) → cond t (valued m⁺ v) (valued others v) ≡ cond t (valued m v) (valued others v)
+    go true f (inl q) = q
+    go true f (inr q) = absurd (never (eq-eqb v x (sym (q .0))) f)
+    go false f q = refl
+
 module _ {s : List ℕ} {P : Program} {R : Reckoning} {θ : Valuation} {offsets masks : List ℕ} {others stops : List ℤ} {cut : Bool}
     (k : Reckons s P R θ offsets masks others stops cut) where
   pub reckons-demanded : (m : List ℤ) → AsAssigned P θ m → (i : ℕ) → i < length (P .rules) → {d : Demand} → LookedAt P (getD masks i 0) cut stops others m i d
       → Demanded P R θ (valued m) i d
   reckons-demanded m a i l = looked-demanded P R θ (getD masks i 0) cut stops others m i (narrows-past (k .narrows) (headOf P i)) (k .finds i l m a)
+
+  -- a rule that does not read x in the model gives what it gave, where x alone has changed
+  pub reckons-unread : (m m⁺ : List ℤ) → AsAssigned P θ m → AsAssigned P θ m⁺ → (x : ℕ) (b : ℤ) → Raised (valued m) (valued m⁺) x b → (i : ℕ) → i < length (P .rules)
+      → readAt (ruleIn (P .rules) i) (getD masks i 0) x ≡ false → R .gives i (valued m⁺) θ ≡ R .gives i (valued m) θ
+  reckons-unread m m⁺ a a⁺ x b is i l e =
+      let r = ruleIn (P .rules) i in
+      let mask = getD masks i 0 in
+      k .finds i l m⁺ a⁺
+      ∙ ap (stopped cut (variableIn (P .variables) (r .head)) (valued stops (r .head)) mask)
+      (evaluate-same r (readingOf mask m⁺ others (r .terms)) (readingOf mask m others (r .terms)) (same-read r mask m m⁺ others x b is e)
+      (rw (lies (k .stands i l) .is) (lies (k .stands i l) .evaluable)))
+      ∙ sym (k .finds i l m a)
 
 -- ---- no stops
 

@@ -1,51 +1,44 @@
 -- A run: the readers of a raised head, and what a raise keeps.
 use Prim.Native.Nat.{ℕ, _+_, _*_, _-_, _/_, _%_, _<_, _≤_}
 use mathlib.Core.Path.{_≡_, refl, sym, ap, ap₂, _∙_, subst}
-use mathlib.Core.Logic.{_⊎_, inl, inr}
-use mathlib.Core.Bool.{Bool, true, false, not, _||_, _&&_, true≢false}
+use mathlib.Core.Logic.{inl}
+use mathlib.Core.Bool.{Bool, true, false, not, _||_, true≢false}
 use mathlib.Core.List.{List}
 use native.Mathlib.Nat.{add-sub-cancel-left}
 use native.Mathlib.Decide.{ℕ-discrete}
 use native.Mathlib.Omega.{arith}
-use lib.Dec.{T, ltb, T-not}
-use lib.IntN.{ℤ, pos}
-use lib.ListN.{length, getD, set, take, drop}
-use lib.Seq.{getD-drop, getD-take, getD-set-same, getD-set-other}
-use borrow.Author.Tests.{ltb-true, lt-ltb, not-false}
+use lib.Dec.{T, ltb}
+use lib.IntN.{ℤ}
+use lib.ListN.{length, getD, take, drop}
+use lib.Seq.{getD-drop, getD-take}
+use borrow.Author.Tests.{ltb-true, lt-ltb}
 use Rattle.format.specs.Limits.{maxVariables, maxRules}
 use Rattle.words.specs.Bit.{wordBits, bit, has}
 use Rattle.program.specs.Program.{Program, variableIn, variablesAt, ruleIn, ruleOf}
-use Rattle.program.specs.Fields.{valueAt, nextAt}
-use Rattle.program.specs.Reading.{Accepts}
-use Rattle.parts.specs.Values.{ruleHeader}
+use Rattle.program.specs.Fields.{valueAt}
+use Rattle.program.specs.Variables.{far, notPast, started}
+use Rattle.program.specs.Readings.{Valuation, valued}
+use Rattle.program.specs.Evaluable.{Small}
 use Rattle.program.specs.declared.Given.the-variants.{Value}
-use Rattle.program.proofs.Conditions.{neither}
-use Rattle.program.proofs.Promises.{Promises, accepts-promises}
-use Rattle.reader.proofs.Published.{variables-length, variable-at, variable-lies, program-limited}
-use Rattle.meaning.specs.Founded.{GivenNoMore, Within, Model, Least, AtOrBefore}
+use Rattle.program.specs.declared.Variable.{Variable}
+use Rattle.program.proofs.Conditions.{neither, both}
+use Rattle.program.proofs.Promises.{accepts-promises}
+use Rattle.program.proofs.Variables.{past-refl, no-more-past}
+use Rattle.reader.proofs.Published.{program-limited}
+use Rattle.meaning.specs.Founded.{AtOrBefore, GivenNoMore, Within, Model, Least}
 use Rattle.meaning.specs.Reduct.{Reckoning, reckoned, reduct, system}
-use Rattle.meaning.specs.Narrowing.{Narrows}
-use Rattle.meaning.specs.Reads.{readsKept}
-use Rattle.tables.specs.Tabled.{Tabled, rowWords}
-use Rattle.run.specs.Running.{headOf, RuleMetIn, RuleStands, AsAssigned, Reckons, Task, MetOutside, Among, Inside, Ready, Raising, Stepped, RaisedTo, Lifted, Running}
-use Rattle.tables.specs.Laid.{RuleAt}
-use Rattle.tables.proofs.LaidLaws.{placed}
+use Rattle.meaning.proofs.InRanges.{within-small}
+use Rattle.meaning.proofs.Theory.{progress-start}
+use Rattle.meaning.proofs.Monotone.{laws}
+use Rattle.meaning.proofs.Narrowing.{reduct-narrows, narrows-started}
+use Rattle.meaning.proofs.Steps.{Raised, gap}
+use Rattle.tables.specs.Tabled.{rowWords, readAt, ReadersAre}
+use Rattle.tables.specs.Laid.{Placed}
+use Rattle.run.specs.Running.{headOf, RuleMetIn, RuleStands, SomeRule, AsAssigned, Reckons, Basis, Underway, MetOutside, Among, Inside, Ready, Lifting, Raising, Stepped, RaisedTo, Lifted, Running}
 use Rattle.run.specs.declared.Step.{Step}
 use Rattle.run.specs.declared.Step.the-variants.{Raise, Done}
-use Rattle.meaning.proofs.InRanges.{within-small}
-use Rattle.meaning.proofs.Theory.{Progress, progress-start, progress-raise, progress-done, under-given}
-use Rattle.meaning.proofs.Monotone.{laws, head-founded}
-use Rattle.meaning.proofs.Narrowing.{reduct-narrows, narrows-founded, narrows-past, narrows-started, narrows-within}
-use Rattle.meaning.proofs.Steps.{Raised, same-given, gap, gap-raised}
-use Rattle.run.proofs.RunLaws.{at-stands, found-reduct, head-lies, here-head, head-field, head-variable}
-use Rattle.program.specs.Variables.{isFounded, far, notPast, started}
-use Rattle.program.specs.Readings.{Valuation, valued}
-use Rattle.program.specs.declared.Variable.{Variable}
-use Rattle.program.specs.Evaluable.{Small}
-use Rattle.program.proofs.Gives.{promised-evaluable}
-use Rattle.program.proofs.Tests.{is-test}
-use Rattle.meaning.proofs.Laws.{at-refl, before-at}
-use Rattle.program.proofs.Variables.{past-refl, past-trans, far-last, no-more-past}
+use Rattle.run.proofs.RunLaws.{at-stands, found-reduct, here-head, head-field, head-variable, reckons-unread}
+use Rattle.run.proofs.RaiseLaws.{way-small, way-assigned, way-done, way-stands, way-among, head-few, way-over, way-raised, way-stored, way-on, way-risen, way-nearer}
 
 -- ---- rows
 
@@ -68,28 +61,8 @@ pub joined-row : (readers : List ℕ) (x start : ℕ) (new old : ℕ → Bool) �
 joined-row readers x start new old e h i l =
     h i ∙ ap (λ (b : Bool). old i || b) (rw (add-sub-cancel-left start rowWords, e) (row-bit readers x i l))
 
--- ---- one value is stored
+-- ---- what a raise answers
 
-pub raised-is : (m : List ℤ) (h : ℕ) (a : ℤ) → h < length m → Raised (valued m) (valued (set m h a)) h a
-raised-is m h a l v = go (ℕ-discrete v h)
-  where
-    go : Dec (v ≡ h) → (valued (set m h a) v ≡ valued m v) ⊎ ((h ≡ v) × (valued (set m h a) v ≡ a))
-    go (yes q) = inr (sym q, ap (valued (set m h a)) q ∙ getD-set-same m h a (pos 0) l)
-    go (no n) = inl (getD-set-other m h v a (pos 0) n)
-
-first : (a b : Bool) → (a && b) ≡ true → a ≡ true
-first true b h = refl
-first false b h = h
-
--- the test of the far end
-module _ (x : Variable) (a : ℤ) {t : Bool} (e : t ≡ not (notPast x a (far x))) where
-  pub past-far : t ≡ true → T (not (notPast x a (far x)))
-  past-far h = is-test (sym e ∙ h)
-
-  pub not-past-far : t ≡ false → T (notPast x a (far x))
-  not-past-far h = is-test (not-false (notPast x a (far x)) (sym e ∙ h))
-
--- what a raise answers
 module _ (y : Variable) (readers : List ℕ) (h : ℕ) (a : ℤ) (m m⁺ : List ℤ) (w w⁺ : List ℕ) {t : Bool} (l : Lifted y readers h a m m⁺ w w⁺ t) where
   pub lifted : t ≡ true → T (notPast y a (far y)) × RaisedTo readers h a m m⁺ w w⁺
   lifted e = rw e at l
@@ -100,37 +73,42 @@ module _ (y : Variable) (readers : List ℕ) (h : ℕ) (a : ℤ) (m m⁺ : List 
 -- ---- the reduct
 
 -- the tables of an accepted file, for the reduct of an assignment in its ranges
-pub reduct-task : {s offsets masks readers : List ℕ} {P : Program} → Accepts s P → Tabled s P (length (P .rules)) offsets masks readers → (θ stops : List ℤ)
-    → Within (system P) (valued θ) → Task s P (reduct P) (valued θ) offsets masks readers θ stops false
-reduct-task {s} {offsets} {masks} {readers} {P} a t θ stops w = record {
+pub reduct-basis : {s offsets masks : List ℕ} {P : Program} → Placed s P offsets masks → (θ stops : List ℤ) → Within (system P) (valued θ)
+    → Basis s P (reduct P) (valued θ) offsets masks θ stops false
+reduct-basis {P = P} t θ stops w = record {
   reckons = record {
-    accepts = a;
-    stands = λ i h. at-stands (stands i h);
+    accepts = t .accepts;
+    stands = λ i h. at-stands (t .stands i h);
     narrows = reduct-narrows P;
-    finds = λ i h m e. found-reduct (stands i h) stops m θ;
+    finds = λ i h m e. found-reduct (t .stands i h) stops m θ;
+    keeps = λ i h j l b. inl (sym (t .stands i h .masked j l) ∙ b);
+    ranged = w;
+    ends = λ v b n. record { le = n .to-far };
   };
-  laws = laws (accepts-promises a);
+  laws = laws (accepts-promises (t .accepts));
   assigned = w;
-  small = within-small (accepts-promises a) θ w;
-  readers-are = t .reader-is;
-  unread = λ i h m m⁺ x b is e. same-given P (ruleIn (P .rules) i) (valued θ) m m⁺ x b is e (promised-evaluable (accepts-promises a .rules i h));
+  small = within-small (accepts-promises (t .accepts)) θ w;
   inside = λ i h m b e q. record { le = q };
 }
-  where
-    stands : (i : ℕ) → i < length (P .rules) → RuleAt s P i (getD offsets i 0) (getD masks i 0)
-    stands = placed a t .stands
 
 -- ---- the start
 
-module _ {s : List ℕ} {P : Program} {R : Reckoning} {θ : Valuation} {offsets masks readers : List ℕ} {others stops : List ℤ} {cut : Bool}
-    (t : Task s P R θ offsets masks readers others stops cut) where
-  -- standard values as assigned, founded ones at their starting ends, and every rule waits
-  pub run-start : (m : List ℤ) → ((v : ℕ) → valued m v ≡ started (variableIn (P .variables) v) (θ v))
+module _ {s : List ℕ} {P : Program} {R : Reckoning} {θ : Valuation} {offsets masks : List ℕ} {others stops : List ℤ} {cut : Bool} where
+  -- standard values as assigned, founded ones at their starting ends
+  pub way-start : Basis s P R θ offsets masks others stops cut → (m : List ℤ) → ((v : ℕ) → valued m v ≡ started (variableIn (P .variables) v) (θ v))
+      → Underway s P R θ offsets masks others stops cut m
+  way-start b m is = record {
+    basis = b;
+    progress = progress-start {𝒮 = reckoned P R} (b .assigned) (valued m) (λ v. is v ∙ sym (narrows-started (b .reckons .narrows) v (θ v)));
+  }
+
+  -- every rule waits
+  pub run-start : {m : List ℤ} → Underway s P R θ offsets masks others stops cut m → (readers : List ℕ) → ReadersAre P (length (P .rules)) masks readers
       → (waiting : List ℕ) → ((i : ℕ) → i < maxRules → has waiting i ≡ ltb i (length (P .rules))) → Running s P R θ offsets masks readers others stops cut m waiting
-  run-start m is waiting all = record {
-    task = t;
-    progress = progress-start {𝒮 = reckoned P R} (t .assigned) (valued m) (λ v. is v ∙ sym (narrows-started (t .reckons .narrows) v (θ v)));
-    outside = λ i l e. absurd (true≢false (sym (all i (omega (arith, program-limited (t .reckons .accepts) .few-rules)) ∙ lt-ltb i (length (P .rules)) l) ∙ e));
+  run-start k readers r waiting all = record {
+    task = record { basis = k .basis; readers-are = r };
+    progress = k .progress;
+    outside = λ i l e. absurd (true≢false (sym (all i (omega (arith, program-limited (k .basis .reckons .accepts) .few-rules)) ∙ lt-ltb i (length (P .rules)) l) ∙ e));
     rules = λ i l e. ltb-true i (length (P .rules)) (sym (all i l) ∙ e);
   }
 
@@ -138,146 +116,112 @@ module _ {s : List ℕ} {P : Program} {R : Reckoning} {θ : Valuation} {offsets 
 
 module _ {s : List ℕ} {P : Program} {R : Reckoning} {θ : Valuation} {offsets masks readers : List ℕ} {others stops : List ℤ} {cut : Bool} {m : List ℤ} {waiting : List ℕ}
     (k : Running s P R θ offsets masks readers others stops cut m waiting) where
-  accepts : Accepts s P
-  accepts = k .task .reckons .accepts
+  abbrev reckons : Reckons s P R θ offsets masks others stops cut
+  reckons = k .task .basis .reckons
 
-  promises : Promises P
-  promises = accepts-promises accepts
-
-  narrows : Narrows P R
-  narrows = k .task .reckons .narrows
+  way : Underway s P R θ offsets masks others stops cut m
+  way = record { basis = k .task .basis; progress = k .progress }
 
   pub run-ready : Ready s offsets waiting
-  run-ready = record { program = P; stands = k .task .reckons .stands; rules = k .rules }
-
-  -- a value in a range of the reckoning lies in the declared one
-  pub run-small : Small m × Small others
-  run-small = (within-small promises m (narrows-within narrows (k .progress .within)), k .task .small)
+  run-ready = record { program = P; stands = reckons .stands; rules = k .rules }
 
   pub run-assigned : AsAssigned P θ m
-  run-assigned v n = k .progress .standard v (subst (λ (b : Bool). T (not b)) (sym (narrows-founded narrows v)) n)
+  run-assigned = way-assigned way
+
+  pub run-small : Small m × Small others
+  run-small = way-small way
 
   pub run-done : ((i : ℕ) → i < length (P .rules) → RuleMetIn P R θ (valued m) i) → Least (reckoned P R) θ (valued m)
-  run-done h = progress-done {𝒮 = reckoned P R} (k .progress) h
+  run-done = way-done way
 
   -- what a step answers, for the reckoning of the run
   module _ (w : List ℕ) {r : Step}
       (f : (Q : Program) (S : Reckoning) (ρ : Valuation) → Reckons s Q S ρ offsets masks others stops cut → AsAssigned Q ρ m → MetOutside Q S ρ (valued m) (has waiting)
       → Stepped Q S ρ (valued m) (has w) r) where
-    pub run-stepped : {i : ℕ} {a : ℤ} → r ≡ Raise i a → Raising P R θ (valued m) (has w) i a
-    run-stepped e = rw e at (f P R θ (k .task .reckons) run-assigned (k .outside))
+    pub run-raising : {i : ℕ} {a : ℤ} → r ≡ Raise i a → Raising P R θ (valued m) (has w) i a
+    run-raising e = rw e at (f P R θ reckons (way-assigned way) (k .outside))
+
+    pub run-stepped : {i : ℕ} {a : ℤ} → r ≡ Raise i a → Lifting P R θ (valued m) (has w) i a
+    run-stepped e = run-raising e .lifting
 
     pub run-ended : r ≡ Done → (i : ℕ) → i < length (P .rules) → RuleMetIn P R θ (valued m) i
-    run-ended e = rw e at (f P R θ (k .task .reckons) run-assigned (k .outside))
+    run-ended e = rw e at (f P R θ reckons (way-assigned way) (k .outside))
+
+  -- a variable is raised on the way, and its readers join a set
+  module _ (v : ℕ) (few : v < maxVariables) (b : ℤ) (w : List ℕ) {m⁺ : List ℤ} {w⁺ : List ℕ} (r : RaisedTo readers v b m m⁺ w w⁺)
+      (way⁺ : Underway s P R θ offsets masks others stops cut m⁺) (is : Raised (valued m) (valued m⁺) v b) where
+    -- a rule that stays outside gives what it gave
+    pub joined-same : (j : ℕ) → j < length (P .rules) → has w⁺ j ≡ false → (has w j ≡ false) × (R .gives j (valued m⁺) θ ≡ R .gives j (valued m) θ)
+    joined-same j l e = (none .0, reckons-unread reckons m m⁺ (way-assigned way) (way-assigned way⁺) v b is j l unread)
+      where
+        rule-few : j < maxRules
+        rule-few = omega (arith, program-limited (reckons .accepts) .few-rules)
+
+        none : (has w j ≡ false) × (has readers (maxRules * v + j) ≡ false)
+        none = neither (has w j) (has readers (maxRules * v + j)) (sym (r .waiting-is j rule-few) ∙ e)
+
+        unread : readAt (ruleIn (P .rules) j) (getD masks j 0) v ≡ false
+        unread = rw (lt-ltb j (length (P .rules)) l) at (sym (k .task .readers-are v j few rule-few) ∙ none .1)
+
+    -- and is met if it was, where no value has fallen back
+    pub joined-met : ((u : ℕ) → AtOrBefore (reckoned P R) u (valued m u) (valued m⁺ u)) → (j : ℕ) → j < length (P .rules) → has w⁺ j ≡ false
+        → RuleMetIn P R θ (valued m) j → RuleMetIn P R θ (valued m⁺) j
+    joined-met risen j l e h =
+        subst (λ g. GivenNoMore (reckoned P R) (headOf P j) g (valued m⁺ (headOf P j))) (sym (joined-same j l e .1))
+        (no-more-past (R .variable (headOf P j)) (R .gives j (valued m) θ) (valued m (headOf P j)) (valued m⁺ (headOf P j)) (risen (headOf P j) .le) h)
+
+    pub joined-rules : Inside (has w) (has waiting) → Among P (has w⁺)
+    joined-rules sub j l e = go (has w j) refl (sym (r .waiting-is j l) ∙ e)
+      where
+        go : (b : Bool) → has w j ≡ b → (b || has readers (maxRules * v + j)) ≡ true → j < length (P .rules)
+        go true q h = k .rules j l (sub j q)
+        go false q h =
+            ltb-true j (length (P .rules))
+            (both (ltb j (length (P .rules))) (readAt (ruleIn (P .rules) j) (getD masks j 0) v) (sym (k .task .readers-are v j few l) ∙ h) .0)
 
   -- a rule exceeds its head
-  module _ (w : List ℕ) {i : ℕ} {a : ℤ} (x : Raising P R θ (valued m) (has w) i a) where
+  module _ (w : List ℕ) {i : ℕ} {a : ℤ} (x : Lifting P R θ (valued m) (has w) i a) where
     here : RuleStands s P i (getD offsets i 0)
-    here = k .task .reckons .stands i (x .among)
+    here = way-stands way (x .among) (x .exceeds)
 
     pub run-among : i < maxRules
-    run-among = omega (arith, program-limited accepts .few-rules, x .among)
+    run-among = way-among way (x .among) (x .exceeds)
 
-    pub run-head : (nextAt s (getD offsets i 0) ≤ length s) × (ruleHeader ≤ length (valueAt s (getD offsets i 0)))
-    run-head = head-lies here
-
-    declared : headOf P i < length (P .variables)
-    declared = promises .rules i (x .among) .head-declared
+    pub run-rule : SomeRule s (getD offsets i 0)
+    run-rule = record { program = P; rule = i; here = here }
 
     few : headOf P i < maxVariables
-    few = omega (arith, declared, program-limited accepts .few-variables)
+    few = head-few way (x .among) (x .exceeds)
 
-    -- the head's variable, in the program and in the file
+    -- the head's variable
     abbrev head-in : Variable
     head-in = variableIn (P .variables) (headOf P i)
-
-    stands-in : variableIn (variablesAt s maxVariables) (headOf P i) ≡ head-in
-    stands-in = variable-at s maxVariables (headOf P i) few ∙ sym (variable-lies accepts (headOf P i) declared)
-
-    -- its order is that of the reckoning's variable
-    same-order : (b c : ℤ) → notPast (R .variable (headOf P i)) b c ≡ notPast head-in b c
-    same-order b c = narrows-past narrows (headOf P i) b c
-
-    -- beyond its declared range: no model
-    pub run-over : T (not (notPast head-in a (far head-in))) → (m′ : Valuation) → Model (reckoned P R) θ m′ → ⊥
-    run-over t m′ l =
-        let h = headOf P i in
-        let b : T (notPast (R .variable h) a (m′ h)) = rw (x .exceeds .gives-it) at (under-given (k .task .laws) (k .task .assigned) (k .progress) i (x .among) m′ l) in
-        T-not (notPast head-in a (far head-in)) t
-        (past-trans head-in a (m′ h) (far head-in) (subst T (same-order a (m′ h)) b) (far-last head-in (m′ h) (narrows .inside h (m′ h) (l .within .inside h))))
 
     -- within its range: the run goes on
     module _ (sub : Inside (has w) (has waiting)) (full : length m ≡ maxVariables) (t : T (notPast head-in a (far head-in)))
         {m⁺ : List ℤ} {w⁺ : List ℕ} (r : RaisedTo readers (headOf P i) a m m⁺ w w⁺) where
+      way⁺ : Underway s P R θ offsets masks others stops cut m⁺
+      way⁺ = way-on way (x .among) (x .exceeds) full t (r .model-is)
+
       is : Raised (valued m) (valued m⁺) (headOf P i) a
-      is = rw (r .model-is) (raised-is m (headOf P i) a (omega (arith, few, full)))
-
-      more : AtOrBefore (reckoned P R) (headOf P i) (valued m (headOf P i)) a
-      more = before-at (x .exceeds .more)
-
-      founded : T (isFounded (R .variable (headOf P i)))
-      founded = subst T (sym (narrows-founded narrows (headOf P i))) (head-founded promises i (x .among))
-
-      next : Progress (reckoned P R) θ (valued m⁺)
-      next =
-          progress-raise (k .task .laws) (k .task .assigned) (k .progress) i (x .among) founded a a (x .exceeds .gives-it)
-          (at-refl (headOf P i) a) more (k .task .inside i (x .among) (valued m) a (x .exceeds .gives-it) t) (valued m⁺) is
-
-      risen : (v : ℕ) → AtOrBefore (reckoned P R) v (valued m v) (valued m⁺ v)
-      risen v = go (is v)
-        where
-          go : (valued m⁺ v ≡ valued m v) ⊎ ((headOf P i ≡ v) × (valued m⁺ v ≡ a)) → AtOrBefore (reckoned P R) v (valued m v) (valued m⁺ v)
-          go (inl q) = rw q (at-refl v (valued m v))
-          go (inr q) = rw (q .1, ← q .0) more
+      is = way-raised way (x .among) (x .exceeds) full t (r .model-is)
 
       outside : MetOutside P R θ (valued m⁺) (has w⁺)
       outside j l e = go (ℕ-discrete j i)
         where
-          rule-few : j < maxRules
-          rule-few = omega (arith, program-limited accepts .few-rules)
-
-          none : (has w j ≡ false) × (has readers (maxRules * headOf P i + j) ≡ false)
-          none = neither (has w j) (has readers (maxRules * headOf P i + j)) (sym (r .waiting-is j rule-few) ∙ e)
-
-          unread : readsKept P (ruleIn (P .rules) j) (headOf P i) ≡ false
-          unread = rw (lt-ltb j (length (P .rules)) l) at (sym (k .task .readers-are (headOf P i) j few rule-few) ∙ none .1)
-
-          same : R .gives j (valued m⁺) θ ≡ R .gives j (valued m) θ
-          same = k .task .unread j l (valued m) (valued m⁺) (headOf P i) a is unread
+          same : (has w j ≡ false) × (R .gives j (valued m⁺) θ ≡ R .gives j (valued m) θ)
+          same = joined-same (headOf P i) few a w r way⁺ is j l e
 
           go : Dec (j ≡ i) → RuleMetIn P R θ (valued m⁺) j
           go (yes q) =
-              let g : R .gives i (valued m⁺) θ ≡ Value a = subst (λ (n : ℕ). R .gives n (valued m⁺) θ ≡ R .gives n (valued m) θ) q same ∙ x .exceeds .gives-it in
+              let g : R .gives i (valued m⁺) θ ≡ Value a = subst (λ (n : ℕ). R .gives n (valued m⁺) θ ≡ R .gives n (valued m) θ) q (same .1) ∙ x .exceeds .gives-it in
               subst (λ (n : ℕ). RuleMetIn P R θ (valued m⁺) n) (sym q)
               (subst (λ b. GivenNoMore (reckoned P R) (headOf P i) b (valued m⁺ (headOf P i))) (sym g)
-              (rw stored (past-refl (R .variable (headOf P i)) a)))
-            where
-              stored : valued m⁺ (headOf P i) ≡ a
-              stored = rw (r .model-is) (getD-set-same m (headOf P i) a (pos 0) (omega (arith, few, full)))
-          go (no n) =
-              subst (λ g. GivenNoMore (reckoned P R) (headOf P j) g (valued m⁺ (headOf P j))) (sym same)
-              (no-more-past (R .variable (headOf P j)) (R .gives j (valued m) θ) (valued m (headOf P j))
-              (valued m⁺ (headOf P j)) (risen (headOf P j) .le) (x .outside j l (none .0) n))
-
-      rules : Among P (has w⁺)
-      rules j l e = go (has w j) refl (sym (r .waiting-is j l) ∙ e)
-        where
-          go : (b : Bool) → has w j ≡ b → (b || has readers (maxRules * headOf P i + j)) ≡ true → j < length (P .rules)
-          go true q h = k .rules j l (sub j q)
-          go false q h =
-              ltb-true j (length (P .rules))
-              (first (ltb j (length (P .rules))) (readsKept P (ruleIn (P .rules) j) (headOf P i))
-              (sym (k .task .readers-are (headOf P i) j few l) ∙ h))
+              (rw (way-stored way (x .among) (x .exceeds) full t (r .model-is)) (past-refl (R .variable (headOf P i)) a)))
+          go (no n) = joined-met (headOf P i) few a w r way⁺ is (way-risen way (x .among) (x .exceeds) full t (r .model-is)) j l e (x .outside j l (same .0) n)
 
       pub run-on : Running s P R θ offsets masks readers others stops cut m⁺ w⁺
-      run-on = record { task = k .task; progress = next; outside = outside; rules = rules }
-
-      pub run-nearer : gap (variablesAt s maxVariables) m⁺ < gap (variablesAt s maxVariables) m
-      run-nearer =
-          rw (r .model-is)
-          (gap-raised (variablesAt s maxVariables) m (headOf P i) a (omega (arith, few, variables-length s maxVariables))
-          (omega (arith, full, variables-length s maxVariables))
-          (rw stands-in (subst (λ (b : Bool). T (not b)) (same-order a (valued m (headOf P i))) (x .exceeds .more .lt))) (rw stands-in t))
+      run-on = record { task = k .task; progress = way⁺ .progress; outside = outside; rules = joined-rules (headOf P i) few a w r way⁺ is sub }
 
     -- the same, of the code's head h with its variable y, and value b
     module _ {h : ℕ} (e : h ≡ ruleOf (valueAt s (getD offsets i 0)) .head) where
@@ -290,11 +234,11 @@ module _ {s : List ℕ} {P : Program} {R : Reckoning} {θ : Valuation} {offsets 
         as-head = rw (head-variable here e v, here-head here e, q) at l
 
         pub no-lift : t ≡ false → (m′ : Valuation) → Model (reckoned P R) θ m′ → ⊥
-        no-lift f = run-over (not-lifted head-in readers (headOf P i) a m m⁺ w w⁺ as-head f)
+        no-lift f = way-over way (x .among) (x .exceeds) (not-lifted head-in readers (headOf P i) a m m⁺ w w⁺ as-head f)
 
         module _ (f : t ≡ true) (sub : Inside (has w) (has waiting)) (full : length m ≡ maxVariables) where
           pub lift-on : Running s P R θ offsets masks readers others stops cut m⁺ w⁺
           lift-on = let r = lifted head-in readers (headOf P i) a m m⁺ w w⁺ as-head f in run-on sub full (r .0) (r .1)
 
           pub lift-nearer : gap (variablesAt s maxVariables) m⁺ < gap (variablesAt s maxVariables) m
-          lift-nearer = let r = lifted head-in readers (headOf P i) a m m⁺ w w⁺ as-head f in run-nearer sub full (r .0) (r .1)
+          lift-nearer = let r = lifted head-in readers (headOf P i) a m m⁺ w w⁺ as-head f in way-nearer way (x .among) (x .exceeds) full (r .0) (r .1 .model-is)

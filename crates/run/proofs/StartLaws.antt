@@ -1,54 +1,63 @@
 -- The run begins.
-use Prim.Native.Nat.{ℕ, _≤_}
-use mathlib.Core.Path.{_≡_, refl, sym, ap, _∙_}
+use Prim.Native.Nat.{ℕ, _<_, _≤_}
+use mathlib.Core.Path.{_≡_, refl, sym, ap, subst, _∙_}
 use mathlib.Core.Bool.{Bool, true, false, _||_}
 use mathlib.Core.List.{List}
 use lib.Dec.{ltb}
 use lib.IntN.{ℤ}
+use lib.ListN.{length, getD}
 use Rattle.words.specs.Bit.{has}
 use Rattle.program.specs.Program.{Program, variableIn, variablesAt}
 use Rattle.program.specs.Reading.{AcceptedAs, Accepts}
+use Rattle.program.specs.Variables.{started}
+use Rattle.program.specs.Readings.{Valuation, valued}
 use Rattle.program.specs.declared.Counts.{Counts}
-use Rattle.reader.proofs.Published.{reads-accepts, counts-of, variables-are}
+use Rattle.program.specs.declared.Variable.{Variable}
+use Rattle.reader.specs.Parts.{rulePlace}
+use Rattle.reader.proofs.Published.{reads-accepts, accepts-unique, counts-of, variables-are}
 use Rattle.meaning.specs.Founded.{Within}
 use Rattle.meaning.specs.Reduct.{Reckoning, reduct, system}
-use Rattle.tables.specs.Tabled.{TablesOf}
+use Rattle.tables.specs.Tabled.{ReadersAre}
+use Rattle.tables.specs.Laid.{Laid, OffsetsOf}
 use Rattle.reduct.specs.Filling.{Filled, starting}
 use Rattle.reduct.proofs.Ranges.{started-whole}
-use Rattle.run.specs.Running.{Task, SomeTask, Running}
-use Rattle.run.proofs.SolveLaws.{reduct-task, run-start}
-use Rattle.program.specs.Variables.{started}
-use Rattle.program.specs.Readings.{valued}
-use Rattle.program.specs.declared.Variable.{Variable}
+use Rattle.run.specs.Running.{Basis, SomeBasis, Underway, Running}
+use Rattle.run.proofs.SolveLaws.{reduct-basis, way-start, run-start}
 
 module _ (s : List ℕ) (k : Counts) (r : AcceptedAs s k) where
-  -- the first values and the first set, for a program that the file means
-  module _ {P : Program} {R : Reckoning} (θ : List ℤ) {os ms rs : List ℕ} {others stops : List ℤ} {cut : Bool} (t : Task s P R (valued θ) os ms rs others stops cut) where
-    pub begun : (m₀ m : List ℤ) (ws₀ ws : List ℕ)
-        → ((v : ℕ) → k .variables ≤ v → valued m₀ v ≡ valued θ v)
-        → Filled (starting (variablesAt s (k .variables)) (valued θ)) (k .variables) m₀ m
-        → ((n : ℕ) → has ws₀ n ≡ false)
-        → ((n : ℕ) → has ws n ≡ (ltb n (k .rules) || has ws₀ n))
-        → Running s P R (valued θ) os ms rs others stops cut m ws
-    unfolding starting
-    begun m₀ m ws₀ ws z f e g =
-        run-start t m
-        (λ v. started-whole s (k .variables) (valued θ) f z v
-        ∙ ap (λ (vs : List Variable). started (variableIn vs v) (valued θ v)) (sym (variables-are r (t .reckons .accepts))))
-        ws
-        (λ i l. g i ∙ ap (λ (b : Bool). ltb i (k .rules) || b) (e i) ∙ or-false (ltb i (k .rules)) ∙ ap (ltb i) (sym (counts-of r (t .reckons .accepts) .rules-are)))
-      where
-        or-false : (b : Bool) → (b || false) ≡ b
-        or-false true = refl
-        or-false false = refl
+  -- the first values, for a program that the file means
+  pub begun : {P : Program} {R : Reckoning} (θ : List ℤ) {os ms : List ℕ} {others stops : List ℤ} {cut : Bool} → Basis s P R (valued θ) os ms others stops cut
+      → (m₀ m : List ℤ) → ((v : ℕ) → k .variables ≤ v → valued m₀ v ≡ valued θ v) → Filled (starting (variablesAt s (k .variables)) (valued θ)) (k .variables) m₀ m
+      → Underway s P R (valued θ) os ms others stops cut m
+  unfolding starting
+  begun θ b m₀ m z f =
+      way-start b m
+      (λ v. started-whole s (k .variables) (valued θ) f z v ∙ ap (λ (vs : List Variable). started (variableIn vs v) (valued θ v)) (sym (variables-are r (b .reckons .accepts))))
 
-  -- the reduct's, where the assignment lies in its ranges
-  pub reduct-tasks : (θ stops : List ℤ) (os ms rs : List ℕ) → ((Q : Program) → Accepts s Q → Within (system Q) (valued θ)) → TablesOf s os ms rs
-      → (P : Program) → Accepts s P → Task s P (reduct P) (valued θ) os ms rs θ stops false
-  reduct-tasks θ stops os ms rs w t P a = reduct-task a (t P a) θ stops (w P a)
+  -- the first set, with the readers
+  pub all-wait : {P : Program} {R : Reckoning} {θ : Valuation} {os ms : List ℕ} {others stops : List ℤ} {cut : Bool} {m : List ℤ}
+      → Underway s P R θ os ms others stops cut m → (rs : List ℕ) → ((Q : Program) → Accepts s Q → ReadersAre Q (length (Q .rules)) ms rs)
+      → (ws₀ ws : List ℕ) → ((n : ℕ) → has ws₀ n ≡ false) → ((n : ℕ) → has ws n ≡ (ltb n (k .rules) || has ws₀ n))
+      → Running s P R θ os ms rs others stops cut m ws
+  all-wait {P} u rs a ws₀ ws e g =
+      run-start u rs (a P (u .basis .reckons .accepts)) ws
+      (λ i l. g i ∙ ap (λ (b : Bool). ltb i (k .rules) || b) (e i) ∙ or-false (ltb i (k .rules)) ∙ ap (ltb i) (sym (counts-of r (u .basis .reckons .accepts) .rules-are)))
+    where
+      or-false : (b : Bool) → (b || false) ≡ b
+      or-false true = refl
+      or-false false = refl
 
-  pub some-task : (θ stops : List ℤ) (os ms rs : List ℕ) → ((Q : Program) → Accepts s Q → Within (system Q) (valued θ)) → TablesOf s os ms rs
-      → SomeTask s (valued θ) os ms rs θ stops false
-  some-task θ stops os ms rs w t =
-      let x = reads-accepts r in
-      record { program = x .meant; reckoning = reduct (x .meant); task = reduct-tasks θ stops os ms rs w t (x .meant) (x .accepts) }
+-- where the rules of some reckoning's program stand
+pub way-offsets : {s : List ℕ} {P : Program} {R : Reckoning} {θ : Valuation} {os ms : List ℕ} {others stops : List ℤ} {cut : Bool} {m : List ℤ}
+    → Underway s P R θ os ms others stops cut m → OffsetsOf s os
+way-offsets {s} {os = os} u Q x =
+    subst (λ (P : Program). (i : ℕ) → i < length (P .rules) → getD os i 0 ≡ rulePlace s P i) (accepts-unique (u .basis .reckons .accepts) x)
+    (λ i h. u .basis .reckons .stands i h .placed)
+
+-- the reduct's, where the assignment lies in its ranges
+module _ {s : List ℕ} {k : Counts} {os ms : List ℕ} (l : Laid s k os ms) (θ stops : List ℤ) (w : (Q : Program) → Accepts s Q → Within (system Q) (valued θ)) where
+  pub reduct-bases : (P : Program) → Accepts s P → Basis s P (reduct P) (valued θ) os ms θ stops false
+  reduct-bases P a = reduct-basis (l .placed P a) θ stops (w P a)
+
+  pub some-basis : SomeBasis s (valued θ) os ms θ stops false
+  some-basis = let x = reads-accepts (l .accepted) in record { program = x .meant; reckoning = reduct (x .meant); basis = reduct-bases (x .meant) (x .accepts) }

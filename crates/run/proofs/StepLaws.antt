@@ -17,7 +17,7 @@ use Rattle.words.specs.declared.Found.the-variants.{At, Nothing}
 use Rattle.program.specs.Program.{Program}
 use Rattle.program.specs.Reading.{Accepts}
 use Rattle.reader.proofs.Published.{accepts-unique, program-limited}
-use Rattle.run.specs.Running.{SomeRule, MetOutside, RuleMetIn, Exceeds, Demanded, Inside, Taken, Empty, Takes, Ready, Raising}
+use Rattle.run.specs.Running.{SomeRule, MetOutside, RuleMetIn, Exceeds, Demanded, Inside, Dropped, Taken, Empty, Takes, Ready, Lifting, Raising}
 use Rattle.meaning.specs.Reduct.{Reckoning}
 use Rattle.tables.specs.Tabled.{rowWords}
 use Rattle.run.specs.declared.Demand.{Demand}
@@ -50,7 +50,7 @@ among-any {waiting = waiting} r a i l e =
 
 -- the search of the words is that of the rules
 pub lowest-taken : {old new : ℕ → Bool} {i n : ℕ} → n ≡ rowWords → LeastFrom old 0 (wordBits * n) i → ((j : ℕ) → new j ≡ (not (eqb j i) && old j)) → Taken old new i
-lowest-taken e f d = record { lowest = record { above = f .above; below = omega (arith, f .below); member = f .member; first = f .first }; dropped = d }
+lowest-taken e f d = record { lowest = record { above = f .above; below = omega (arith, f .below); member = f .member; first = f .first }; dropped = record { is = d } }
 
 pub none-taken : {old : ℕ → Bool} {n : ℕ} → n ≡ rowWords → NoneIn old 0 (wordBits * n) → Empty old old
 none-taken e f = record { none = λ i l h. f i l (omega arith); inside = λ j h. h }
@@ -60,31 +60,39 @@ pub none-waiting : {s : List ℕ} (P : Program) (R : Reckoning) (θ m : Valuatio
     → (i : ℕ) → i < length (P .rules) → RuleMetIn P R θ m i
 none-waiting P R θ m a o n i l = o i l (n .none i (omega arith) (omega (arith, program-limited a .few-rules)))
 
--- the lowest of the set leaves it
-module _ {old new : ℕ → Bool} {i : ℕ} (k : Taken old new i) where
-  pub taken-inside : Inside new old
-  taken-inside j e = go (eqb j i) (sym (k .dropped j) ∙ e)
+-- a rule leaves the set
+module _ {old new : ℕ → Bool} {i : ℕ} (d : Dropped old new i) where
+  pub dropped-inside : Inside new old
+  dropped-inside j e = go (eqb j i) (sym (d .is j) ∙ e)
     where
       go : (b : Bool) → (not b && old j) ≡ true → old j ≡ true
       go true q = absurd (true≢false (sym q))
       go false q = q
 
-  pub taken-less : sizeBelow new maxRules < sizeBelow old maxRules
-  taken-less = count-drop new old i maxRules (k .lowest .below) (k .lowest .member) (k .dropped)
-
   module _ (P : Program) (R : Reckoning) (θ m : Valuation) (o : MetOutside P R θ m old) where
     other : (j : ℕ) → j < length (P .rules) → new j ≡ false → (j ≡ i → ⊥) → RuleMetIn P R θ m j
-    other j l e n = o j l (sym (k .dropped j ∙ ap (λ (b : Bool). not b && old j) (ne-eqb j i n)) ∙ e)
+    other j l e n = o j l (sym (d .is j ∙ ap (λ (b : Bool). not b && old j) (ne-eqb j i n)) ∙ e)
 
-    pub taken-met : RuleMetIn P R θ m i → MetOutside P R θ m new
-    taken-met h j l e = go (ℕ-discrete j i)
+    pub dropped-met : RuleMetIn P R θ m i → MetOutside P R θ m new
+    dropped-met h j l e = go (ℕ-discrete j i)
       where
         go : Dec (j ≡ i) → RuleMetIn P R θ m j
         go (yes q) = rw q h
         go (no n) = other j l e n
 
-    pub taken-raise : {a : ℤ} → i < length (P .rules) → Exceeds P R θ m i a → Raising P R θ m new i a
-    taken-raise l x = record { among = l; exceeds = x; below = λ j h. o j (omega arith) (k .lowest .first j (omega arith) h); outside = other }
+    pub dropped-lifting : {a : ℤ} → i < length (P .rules) → Exceeds P R θ m i a → Lifting P R θ m new i a
+    dropped-lifting l x = record { among = l; exceeds = x; outside = other }
+
+-- the lowest of the set leaves it
+module _ {old new : ℕ → Bool} {i : ℕ} (k : Taken old new i) where
+  pub taken-less : sizeBelow new maxRules < sizeBelow old maxRules
+  taken-less = count-drop new old i maxRules (k .lowest .below) (k .lowest .member) (k .dropped .is)
+
+  pub taken-raise : (P : Program) (R : Reckoning) (θ m : Valuation) → MetOutside P R θ m old → {a : ℤ} → i < length (P .rules) → Exceeds P R θ m i a → Raising P R θ m new i a
+  taken-raise P R θ m o l x = record {
+    lifting = dropped-lifting (k .dropped) P R θ m o l x;
+    below = λ j h. o j (omega arith) (k .lowest .first j (omega arith) h);
+  }
 
   -- a rule of the set stands in the tables
   module _ {s offsets waiting : List ℕ} (r : Ready s offsets waiting) (n : Inside old (has waiting)) where

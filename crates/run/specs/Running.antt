@@ -1,10 +1,11 @@
 -- What holds on the way to the least model of a program P of a file s, read by a reckoning R, θ being the assignment and m the values reached. The reduct is one
 -- reckoning; a file with lent ranges is another.
-use Prim.Native.Nat.{ℕ, _+_, _*_, _<_}
+use Prim.Native.Nat.{ℕ, _+_, _*_, _<_, _≤_}
 use mathlib.Core.Path.{_≡_}
+use mathlib.Core.Logic.{_⊎_}
 use mathlib.Core.Bool.{Bool, true, false, not, cond, _||_, _&&_}
 use mathlib.Core.List.{List}
-use lib.Dec.{T, eqb, ltb}
+use lib.Dec.{T, eqb}
 use lib.IntN.{ℤ}
 use lib.ListN.{length, getD, set}
 use Rattle.format.specs.Limits.{maxVariables, maxRules}
@@ -12,7 +13,7 @@ use Rattle.words.specs.Bit.{bit, has, LeastFrom, NoneIn}
 use Rattle.words.specs.declared.Found.{Found}
 use Rattle.words.specs.declared.Found.the-variants.{At}
 use Rattle.words.specs.declared.Found.the-variants as found
-use Rattle.program.specs.Program.{Program, ruleIn, variableIn}
+use Rattle.program.specs.Program.{Program, ruleIn, variableIn, variablesAt}
 use Rattle.program.specs.Reading.{Accepts}
 use Rattle.program.specs.Evaluate.{evaluate}
 use Rattle.program.specs.Evaluable.{Small}
@@ -22,20 +23,24 @@ use Rattle.program.specs.declared.Given.the-variants.{Nothing, Value}
 use Rattle.bodies.specs.Readings.{readingOf}
 use Rattle.reader.specs.Parts.{rulePlace}
 use Rattle.meaning.specs.Founded.{AtOrBefore, GivenNoMore, Before, Within, Model, Least}
-use Rattle.meaning.specs.Reduct.{Reckoning, reckoned}
+use Rattle.meaning.specs.Reduct.{Reckoning, reckoned, system}
 use Rattle.meaning.specs.Narrowing.{Narrows}
-use Rattle.meaning.specs.Reads.{readsKept}
 use Rattle.meaning.proofs.Laws.{Laws}
 use Rattle.meaning.proofs.Theory.{Progress}
-use Rattle.meaning.proofs.Steps.{Raised}
+use Rattle.meaning.proofs.Steps.{gap}
+use Rattle.tables.specs.Tabled.{ReadersAre}
 use Rattle.run.specs.declared.Demand.{Demand}
 use Rattle.run.specs.declared.Demand.the-variants.{More, Enough}
 use Rattle.run.specs.declared.Step.{Step}
 use Rattle.run.specs.declared.Step.the-variants.{Raise, Done}
 use Rattle.run.specs.declared.Ending.{Ending}
 use Rattle.program.specs.Variables.{isFounded, far, notPast, cutOff}
-use Rattle.program.specs.Readings.{Valuation, valued}
+use Rattle.program.specs.Readings.{Valuation, valued, bodyVariable, kept}
 use Rattle.run.specs.declared.Ending.the-variants as ending
+use Rattle.run.specs.declared.Sweep.{Sweep}
+use Rattle.run.specs.declared.Sweep.the-variants as sweep
+use Rattle.run.specs.declared.Sweeping.{Sweeping}
+use Rattle.run.specs.declared.Sweeping.the-variants as sweeping
 
 -- the head of rule i
 abbrev pub headOf : Program → ℕ → ℕ
@@ -98,27 +103,47 @@ Demanded P R θ m i Enough = RuleMetIn P R θ m i
 abbrev pub AsAssigned : Program → Valuation → List ℤ → Type 0
 AsAssigned P θ m = (v : ℕ) → T (not (isFounded (variableIn (P .variables) v))) → valued m v ≡ θ v
 
+-- a is no further than the declared far end of variable v, nor than its stop where lifts stop
+pub record NoFurther (P : Program) (stops : List ℤ) (cut : Bool) (v : ℕ) (a : ℤ) : Type 0 where
+  pub to-far : T (notPast (variableIn (P .variables) v) a (far (variableIn (P .variables) v)))
+  pub to-stop : cut ≡ true → T (notPast (variableIn (P .variables) v) a (valued stops v))
+
+-- position j of rule i is kept, or its variable is standard
+abbrev pub KeptOrStandard : Program → ℕ → ℕ → Type 0
+KeptOrStandard P i j = let r = ruleIn (P .rules) i in (kept (P .variables) r j ≡ true) ⊎ T (not (isFounded (variableIn (P .variables) (bodyVariable r j))))
+
 -- what each rule is found to give, by the tables, is what it gives in the reckoning
 pub record Reckons (s : List ℕ) (P : Program) (R : Reckoning) (θ : Valuation) (offsets masks : List ℕ) (others stops : List ℤ) (cut : Bool) : Type 0 where
   pub accepts : Accepts s P
   pub stands : (i : ℕ) → i < length (P .rules) → RuleStands s P i (getD offsets i 0)
   pub narrows : Narrows P R
   pub finds : (i : ℕ) → i < length (P .rules) → (m : List ℤ) → AsAssigned P θ m → R .gives i (valued m) θ ≡ foundBy P (getD masks i 0) cut stops others m i
+  -- what is read in the model, and where the rest is read
+  pub keeps : (i : ℕ) → i < length (P .rules) → (j : ℕ) → j < length (ruleIn (P .rules) i .terms) → bit (getD masks i 0) j ≡ true → KeptOrStandard P i j
+  pub ranged : Within (system P) (valued others)
+  -- a value that is no further lies in the range of the reckoning
+  pub ends : (v : ℕ) (a : ℤ) → NoFurther P stops cut v a → AtOrBefore (reckoned P R) v a (far (R .variable v))
 
 -- what a run relies on
-pub record Task (s : List ℕ) (P : Program) (R : Reckoning) (θ : Valuation) (offsets masks readers : List ℕ) (others stops : List ℤ) (cut : Bool) : Type 0 where
+pub record Basis (s : List ℕ) (P : Program) (R : Reckoning) (θ : Valuation) (offsets masks : List ℕ) (others stops : List ℤ) (cut : Bool) : Type 0 where
   pub reckons : Reckons s P R θ offsets masks others stops cut
   pub laws : Laws (reckoned P R)
   pub assigned : Within (reckoned P R) θ
   pub small : Small others
-  -- the readers of x are the rules that read it at a kept position, and no other rule gives anything else where x is raised
-  pub readers-are : (x i : ℕ) → x < maxVariables → i < maxRules → has readers (maxRules * x + i) ≡ (ltb i (length (P .rules)) && readsKept P (ruleIn (P .rules) i) x)
-  pub unread : (i : ℕ) → i < length (P .rules) → (m m⁺ : Valuation) (x : ℕ) (a : ℤ) → Raised m m⁺ x a → readsKept P (ruleIn (P .rules) i) x ≡ false
-      → R .gives i m⁺ θ ≡ R .gives i m θ
   -- what is given inside the head's declared range is inside that of the reckoning
   pub inside : (i : ℕ) → i < length (P .rules) → (m : Valuation) (a : ℤ) → R .gives i m θ ≡ Value a
       → T (notPast (variableIn (P .variables) (headOf P i)) a (far (variableIn (P .variables) (headOf P i))))
       → AtOrBefore (reckoned P R) (headOf P i) a (far (R .variable (headOf P i)))
+
+-- and, with a waiting set, the readers of each variable
+pub record Task (s : List ℕ) (P : Program) (R : Reckoning) (θ : Valuation) (offsets masks readers : List ℕ) (others stops : List ℤ) (cut : Bool) : Type 0 where
+  pub basis : Basis s P R θ offsets masks others stops cut
+  pub readers-are : ReadersAre P (length (P .rules)) masks readers
+
+-- the values are on the way
+pub record Underway (s : List ℕ) (P : Program) (R : Reckoning) (θ : Valuation) (offsets masks : List ℕ) (others stops : List ℤ) (cut : Bool) (m : List ℤ) : Type 0 where
+  pub basis : Basis s P R θ offsets masks others stops cut
+  pub progress : Progress (reckoned P R) θ (valued m)
 
 -- ---- one step
 
@@ -134,10 +159,14 @@ Among P waiting = (i : ℕ) → i < maxRules → waiting i ≡ true → i < leng
 abbrev pub Inside : (ℕ → Bool) → (ℕ → Bool) → Type 0
 Inside new old = (j : ℕ) → new j ≡ true → old j ≡ true
 
+-- rule i leaves the set
+pub record Dropped (old new : ℕ → Bool) (i : ℕ) : Type 0 where
+  pub is : (j : ℕ) → new j ≡ (not (eqb j i) && old j)
+
 -- rule i is the lowest of the set, and leaves it
 pub record Taken (old new : ℕ → Bool) (i : ℕ) : Type 0 where
   pub lowest : LeastFrom old 0 maxRules i
-  pub dropped : (j : ℕ) → new j ≡ (not (eqb j i) && old j)
+  pub dropped : Dropped old new i
 
 -- no rule is in the set, and none joins it
 pub record Empty (old new : ℕ → Bool) : Type 0 where
@@ -155,12 +184,16 @@ pub record Ready (s offsets waiting : List ℕ) : Type 0 where
   pub stands : (i : ℕ) → i < length (program .rules) → RuleStands s program i (getD offsets i 0)
   pub rules : Among program (has waiting)
 
--- rule i is the lowest that exceeds its head, and every other rule outside the set is met
-pub record Raising (P : Program) (R : Reckoning) (θ m : Valuation) (waiting : ℕ → Bool) (i : ℕ) (a : ℤ) : Type 0 where
+-- rule i exceeds its head, and every other rule outside the set is met
+pub record Lifting (P : Program) (R : Reckoning) (θ m : Valuation) (waiting : ℕ → Bool) (i : ℕ) (a : ℤ) : Type 0 where
   pub among : i < length (P .rules)
   pub exceeds : Exceeds P R θ m i a
-  pub below : (j : ℕ) → j < i → RuleMetIn P R θ m j
   pub outside : (j : ℕ) → j < length (P .rules) → waiting j ≡ false → (j ≡ i → ⊥) → RuleMetIn P R θ m j
+
+-- rule i is the lowest that does
+pub record Raising (P : Program) (R : Reckoning) (θ m : Valuation) (waiting : ℕ → Bool) (i : ℕ) (a : ℤ) : Type 0 where
+  pub lifting : Lifting P R θ m waiting i a
+  pub below : (j : ℕ) → j < i → RuleMetIn P R θ m j
 
 -- what a step answers: the raise to make, or that every rule is met
 abbrev pub Stepped : Program → Reckoning → Valuation → Valuation → (ℕ → Bool) → Step → Type 0
@@ -168,6 +201,11 @@ Stepped P R θ m waiting (Raise i a) = Raising P R θ m waiting i a
 Stepped P R θ m waiting Done = (i : ℕ) → i < length (P .rules) → RuleMetIn P R θ m i
 
 -- ---- one raise
+
+-- the value a is stored at the head h, whose variable is x, or is past its far end
+abbrev pub Stored : Variable → ℕ → ℤ → List ℤ → List ℤ → Bool → Type 0
+Stored x h a model model⁺ true = T (notPast x a (far x)) × (model⁺ ≡ set model h a)
+Stored x h a model model⁺ false = T (not (notPast x a (far x))) × (model⁺ ≡ model)
 
 -- the value a is stored at x, and the readers of x join the set
 pub record RaisedTo (readers : List ℕ) (x : ℕ) (a : ℤ) (model model⁺ : List ℤ) (waiting waiting⁺ : List ℕ) : Type 0 where
@@ -179,7 +217,7 @@ pub record Unchanged (model model⁺ : List ℤ) (waiting waiting⁺ : List ℕ)
   pub model-is : model⁺ ≡ model
   pub waiting-is : waiting⁺ ≡ waiting
 
--- what a raise answers: done, or past the far end; x is the variable of the head h
+-- what a raise answers: done, or past the far end
 abbrev pub Lifted : Variable → List ℕ → ℕ → ℤ → List ℤ → List ℤ → List ℕ → List ℕ → Bool → Type 0
 Lifted x readers h a model model⁺ waiting waiting⁺ true = T (notPast x a (far x)) × RaisedTo readers h a model model⁺ waiting waiting⁺
 Lifted x readers h a model model⁺ waiting waiting⁺ false = T (not (notPast x a (far x))) × Unchanged model model⁺ waiting waiting⁺
@@ -200,12 +238,42 @@ pub record SomeRun (s offsets masks readers : List ℕ) (others stops : List ℤ
   pub assigned : Valuation
   pub run : Running s program reckoning assigned offsets masks readers others stops cut m waiting
 
-pub record SomeTask (s : List ℕ) (θ : Valuation) (offsets masks readers : List ℕ) (others stops : List ℤ) (cut : Bool) : Type 0 where
+pub record SomeWay (s offsets masks : List ℕ) (others stops : List ℤ) (cut : Bool) (m : List ℤ) : Type 0 where
   pub program : Program
   pub reckoning : Reckoning
-  pub task : Task s program reckoning θ offsets masks readers others stops cut
+  pub assigned : Valuation
+  pub way : Underway s program reckoning assigned offsets masks others stops cut m
+
+pub record SomeBasis (s : List ℕ) (θ : Valuation) (offsets masks : List ℕ) (others stops : List ℤ) (cut : Bool) : Type 0 where
+  pub program : Program
+  pub reckoning : Reckoning
+  pub basis : Basis s program reckoning θ offsets masks others stops cut
 
 -- the least model, or no model
 abbrev pub EndsWith : Program → Reckoning → Valuation → Valuation → Ending → Type 0
 EndsWith P R θ m ending.Model = Least (reckoned P R) θ m
 EndsWith P R θ m ending.NoModel = (m′ : Valuation) → Model (reckoned P R) θ m′ → ⊥
+
+-- ---- sweeps
+
+-- from m to m⁺ by this many raises, at most one by each rule from `from` to below `to`; where there is none, those rules are met
+pub record Swept (s : List ℕ) (P : Program) (R : Reckoning) (θ : Valuation) (from to raises : ℕ) (m m⁺ : List ℤ) : Type 0 where
+  pub progress : Progress (reckoned P R) θ (valued m⁺)
+  pub few : from + raises ≤ to
+  pub nearer : gap (variablesAt s maxVariables) m⁺ + raises ≤ gap (variablesAt s maxVariables) m
+  pub same : raises ≡ 0 → m⁺ ≡ m
+  pub met : raises ≡ 0 → (i : ℕ) → from ≤ i → i < to → RuleMetIn P R θ (valued m⁺) i
+
+-- what a sweep over those rules answers
+abbrev pub SweepIs : List ℕ → Program → Reckoning → Valuation → ℕ → ℕ → List ℤ → List ℤ → Sweep → Type 0
+SweepIs s P R θ from to m m⁺ (sweep.Raises n) = Swept s P R θ from to n m m⁺
+SweepIs s P R θ from to m m⁺ sweep.NoModel = EndsWith P R θ (valued m⁺) ending.NoModel
+
+-- what sweeping ends with, at the values m
+abbrev pub SweepingIs : Program → Reckoning → Valuation → List ℤ → Sweeping → Type 0
+SweepingIs P R θ m (sweeping.Ended e) = EndsWith P R θ (valued m) e
+SweepingIs P R θ m sweeping.Open = Progress (reckoned P R) θ (valued m)
+
+-- the sweeps of a run at most
+abbrev pub mostSweeps : ℕ
+mostSweeps = 8

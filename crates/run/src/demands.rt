@@ -8,6 +8,7 @@ ghost use Rattle.program.specs.Variables.{cutOff};
 ghost use Rattle.program.specs.Evaluate.{evaluate};
 ghost use Rattle.parts.specs.Values.{ruleHeader};
 ghost use Rattle.bodies.specs.Readings.{readingOf};
+ghost use Rattle.evaluation.specs.Past.{pastOnly};
 ghost use Rattle.words.specs.Bit.{has};
 ghost use Rattle.format.specs.Limits.{maxRules};
 ghost use Rattle.meaning.specs.Reduct.{Reckoning};
@@ -19,6 +20,7 @@ use crate::Demand;
 use crate::Masks;
 use crate::Step;
 use evaluation::rules::gives;
+use evaluation::rules::gives_past;
 use format::Format;
 use parts::places::value_at;
 use parts::rules;
@@ -26,6 +28,7 @@ use parts::variables;
 use program::Given;
 use program::Variable;
 use tables::Tables;
+use tables::place_of;
 use words::Found;
 
 // What the rule whose field stands at `at` gives, the positions whose bit is set in the mask read in the model.
@@ -44,6 +47,24 @@ pub fn demand(
     gives(value_at(file, at), mask, model, others)
 }
 
+// The same, where that is past z in the order of x.
+fn demand_past(
+    file: &[u8],
+    at: usize,
+    mask: u32,
+    model: &[i64; Format::MAX_VARIABLES],
+    others: &[i64; Format::MAX_VARIABLES],
+    x: Variable,
+    z: i64,
+) -> Given
+    requires { ⌜ SomeRule (now file) at ⌝ }
+    requires { ⌜ Small (now model) × Small (now others) ⌝ }
+    ensures { λ r. ⌜ ((P : Program) (i : ℕ) → RuleStands (now (file .entry)) P i at
+        → r ≡ pastOnly x z (evaluate (ruleIn (P .rules) i) (readingOf mask (now (model .entry)) (now (others .entry)) (ruleIn (P .rules) i .terms)))) ⌝ }
+{
+    gives_past(value_at(file, at), mask, model, others, x, z)
+}
+
 // The head of the rule whose field stands at `at`.
 pub fn head_at(file: &[u8], at: usize) -> u8
     requires { ⌜ (nextAt (now file) at ≤ length (now file)) × (ruleHeader ≤ length (valueAt (now file) at)) ⌝ }
@@ -51,6 +72,15 @@ pub fn head_at(file: &[u8], at: usize) -> u8
 {
     let rule = rules::header(value_at(file, at));
     rule.head
+}
+
+// The head of rule i.
+pub fn head_of(file: &[u8], offsets: &[u16; Format::MAX_RULES], i: usize) -> u8
+    requires { ⌜ i < maxRules ⌝ }
+    requires { ⌜ SomeRule (now file) (getD (now offsets) i 0) ⌝ }
+    ensures { λ r. ⌜ r ≡ ruleOf (valueAt (now (file .entry)) (getD (now (offsets .entry)) i 0)) .head ⌝ }
+{
+    head_at(file, place_of(offsets, i))
 }
 
 // Whether what is given is more than the value of the head, whose variable is x.
@@ -82,7 +112,7 @@ fn cut_off(x: Variable, stop: i64, given: Given) -> Given
 }
 
 // What is given to the head x where lifts stop, if `cut` says that they do: the stop itself where the mask says so, else no more.
-fn stop_at(cut: bool, x: Variable, stop: i64, mask: u32, given: Given) -> Given
+pub fn stop_at(cut: bool, x: Variable, stop: i64, mask: u32, given: Given) -> Given
     ensures { λ r. ⌜ r ≡ stopped cut x stop mask given ⌝ }
 {
     if !cut {
@@ -97,7 +127,7 @@ fn stop_at(cut: bool, x: Variable, stop: i64, mask: u32, given: Given) -> Given
 // Whether rule i demands more than its head has; with `cut` what it demands stops at the head's value in `stops`.
 pub fn look(
     file: &[u8],
-    offsets: &[usize; Format::MAX_RULES],
+    offsets: &[u16; Format::MAX_RULES],
     masks: &[u32; Format::MAX_RULES],
     i: usize,
     model: &[i64; Format::MAX_VARIABLES],
@@ -111,13 +141,17 @@ pub fn look(
     ensures { λ r. ⌜ ((P : Program) → RuleStands (now (file .entry)) P i (getD (now (offsets .entry)) i 0)
         → LookedAt P (getD (now (masks .entry)) i 0) cut (now (stops .entry)) (now (others .entry)) (now (model .entry)) i r) ⌝ }
 {
-    let at = offsets[i];
+    let at = place_of(offsets, i);
     let mask = masks[i];
-    let given = demand(file, at, mask, model, others);
     let head = head_at(file, at);
     let x = variables::variable(file, head);
     let v = format::wide(head);
     let value = model[v];
+    if !cut {
+        let past = demand_past(file, at, mask, model, others, x, value);
+        return exceeds(x, past, value);
+    }
+    let given = demand(file, at, mask, model, others);
     let stop = stops[v];
     exceeds(x, stop_at(cut, x, stop, mask, given), value)
 }
@@ -138,7 +172,7 @@ fn take_lowest(waiting: &mut [u64; Tables::ROW]) -> Found
 // The lowest rule of the waiting set that demands more than its head has; it and those below it leave the set.
 pub fn step(
     file: &[u8],
-    offsets: &[usize; Format::MAX_RULES],
+    offsets: &[u16; Format::MAX_RULES],
     masks: &[u32; Format::MAX_RULES],
     model: &[i64; Format::MAX_VARIABLES],
     others: &[i64; Format::MAX_VARIABLES],

@@ -1,30 +1,26 @@
 // The least model, reached by raising one head after the other.
 ghost use mathlib.Core.Path.{_≡_};
 ghost use mathlib.Core.Bool.{_||_};
-ghost use Prim.Native.Nat.{ℕ, _+_, _*_, _<_, _≤_};
+ghost use Prim.Native.Nat.{ℕ, _+_, _*_, _<_};
 ghost use lib.ListN.{length};
 ghost use Rattle.format.specs.Limits.{maxVariables, maxRules};
 ghost use Rattle.words.specs.Bit.{has};
 ghost use Rattle.program.specs.Program.{Program};
-ghost use Rattle.program.specs.Reading.{AcceptedAs, Accepts};
-ghost use Rattle.meaning.specs.Founded.{Within};
-ghost use Rattle.meaning.specs.Reduct.{system};
-ghost use Rattle.meaning.specs.Reduct.{Reckoning, reduct};
-ghost use Rattle.run.specs.Running.{Lifted, Task, Running, SomeRun, SomeTask, EndsWith};
-ghost use Rattle.tables.specs.Tabled.{readersWords, rowWords, TablesOf};
+ghost use Rattle.meaning.specs.Reduct.{Reckoning};
+ghost use Rattle.run.specs.Running.{Lifted, Running, SomeRun, EndsWith};
+ghost use Rattle.tables.specs.Tabled.{readersWords, rowWords};
 ghost use Rattle.program.specs.Readings.{Valuation, valued};
 use crate::Ending;
 use crate::Step;
 use crate::demands;
+use crate::sweeps::store;
 use format::Format;
 use parts::variables;
-use program::Counts;
 use program::Variable;
-use reduct::loading;
 use tables::Tables;
 
-// The set takes in the rules that read x at a kept position.
-fn join_readers(waiting: &mut [u64; Tables::ROW], readers: &[u64], x: usize)
+// The set takes in the readers of x.
+pub fn join_readers(waiting: &mut [u64; Tables::ROW], readers: &[u64], x: usize)
     requires { ⌜ length (now waiting) ≡ rowWords ⌝ }
     requires { ⌜ length (now readers) ≡ readersWords ⌝ }
     requires { ⌜ x < maxVariables ⌝ }
@@ -35,8 +31,7 @@ fn join_readers(waiting: &mut [u64; Tables::ROW], readers: &[u64], x: usize)
     words::join_bits(waiting, &readers[start..start + Tables::ROW]);
 }
 
-// The head, whose variable is x, gets the value a, and the rules that read it at a kept position join the set; or a is past its far end,
-// and nothing changes.
+// The head, whose variable is x, gets the value a, and its readers join the set; or a is past its far end, and nothing changes.
 pub fn raise(
     x: Variable,
     readers: &[u64; Tables::READERS],
@@ -51,12 +46,10 @@ pub fn raise(
     ensures { λ _. ⌜ length (now (waiting .exit)) ≡ rowWords ⌝ }
     ensures { λ r. ⌜ Lifted x (now (readers .entry)) head a (now (model .entry)) (now (model .exit)) (now (waiting .entry)) (now (waiting .exit)) r ⌝ }
 {
-    if x.is_before(x.far(), a) {
+    if !store(x, head, a, model) {
         return false;
     }
-    let v = format::wide(head);
-    model[v] = a;
-    join_readers(waiting, readers, v);
+    join_readers(waiting, readers, format::wide(head));
     true
 }
 
@@ -64,7 +57,7 @@ pub fn raise(
 // others in `others`; with `cut` what is given to a head stops at its value in `stops`.
 pub fn solve(
     file: &[u8],
-    offsets: &[usize; Format::MAX_RULES],
+    offsets: &[u16; Format::MAX_RULES],
     masks: &[u32; Format::MAX_RULES],
     readers: &[u64; Tables::READERS],
     model: &mut [i64; Format::MAX_VARIABLES],
@@ -88,82 +81,10 @@ pub fn solve(
         let Step::Raise(i, a) = next else {
             return Ending::Model;
         };
-        let head = demands::head_at(file, offsets[i]);
+        let head = demands::head_of(file, offsets, i);
         let x = variables::variable(file, head);
         if !raise(x, readers, head, a, model, waiting) {
             return Ending::NoModel;
         }
     }
-}
-
-// From the starting ends, standard variables as assigned, to the least model of a reckoning.
-pub fn reckon(
-    file: &[u8],
-    counts: Counts,
-    offsets: &[usize; Format::MAX_RULES],
-    masks: &[u32; Format::MAX_RULES],
-    readers: &[u64; Tables::READERS],
-    assigned: &[i64; Format::MAX_VARIABLES],
-    others: &[i64; Format::MAX_VARIABLES],
-    stops: &[i64; Format::MAX_VARIABLES],
-    cut: bool,
-    model: &mut [i64; Format::MAX_VARIABLES],
-) -> Ending
-    requires { ⌜ AcceptedAs (now file) counts ⌝ }
-    requires { ⌜ SomeTask (now file) (valued (now assigned)) (now offsets) (now masks) (now readers) (now others) (now stops) cut ⌝ }
-    requires { ⌜ ((v : ℕ) → counts .variables ≤ v → valued (now model) v ≡ valued (now assigned) v) ⌝ }
-    requires { ⌜ length (now model) ≡ maxVariables ⌝ }
-    ensures { λ _. ⌜ length (now (model .exit)) ≡ maxVariables ⌝ }
-    ensures { λ r. ⌜ ((P : Program) (R : Reckoning)
-        → Task (now (file .entry)) P R (valued (now (assigned .entry))) (now (offsets .entry)) (now (masks .entry)) (now (readers .entry)) (now (others .entry)) (now (stops .entry)) cut
-        → EndsWith P R (valued (now (assigned .entry))) (valued (now (model .exit))) r) ⌝ }
-{
-    let n = counts.variables;
-    let rules = counts.rules;
-    let mut waiting = [0u64; Tables::ROW];
-    loading::start_values(file, n, assigned, model);
-    words::fill_bits(&mut waiting, rules);
-    solve(
-        file,
-        offsets,
-        masks,
-        readers,
-        model,
-        others,
-        stops,
-        cut,
-        &mut waiting,
-    )
-}
-
-// From the starting ends to the least model of the reduct.
-pub fn run(
-    file: &[u8],
-    counts: Counts,
-    offsets: &[usize; Format::MAX_RULES],
-    masks: &[u32; Format::MAX_RULES],
-    readers: &[u64; Tables::READERS],
-    assigned: &[i64; Format::MAX_VARIABLES],
-    model: &mut [i64; Format::MAX_VARIABLES],
-) -> Ending
-    requires { ⌜ AcceptedAs (now file) counts ⌝ }
-    requires { ⌜ TablesOf (now file) (now offsets) (now masks) (now readers) ⌝ }
-    requires { ⌜ ((P : Program) → Accepts (now file) P → Within (system P) (valued (now assigned))) ⌝ }
-    requires { ⌜ ((v : ℕ) → counts .variables ≤ v → valued (now model) v ≡ valued (now assigned) v) ⌝ }
-    requires { ⌜ length (now model) ≡ maxVariables ⌝ }
-    ensures { λ _. ⌜ length (now (model .exit)) ≡ maxVariables ⌝ }
-    ensures { λ r. ⌜ ((P : Program) → Accepts (now (file .entry)) P → EndsWith P (reduct P) (valued (now (assigned .entry))) (valued (now (model .exit))) r) ⌝ }
-{
-    reckon(
-        file,
-        counts,
-        offsets,
-        masks,
-        readers,
-        assigned,
-        assigned,
-        assigned,
-        false,
-        model,
-    )
 }

@@ -9,21 +9,24 @@ use lib.Dec.{eqb, ltb}
 use lib.ListN.{length, getD, set}
 use lib.Seq.{getD-set-same, getD-set-other}
 use borrow.Author.Tests.{eq-eqb, ne-eqb, lt-ltb, le-ltb}
-use Rattle.format.specs.Limits.{maxVariables, maxRules, maxTerms}
+use Rattle.format.specs.Limits.{maxFile, maxRules, maxTerms}
 use Rattle.words.specs.Bit.{has}
 use Rattle.program.specs.Fields.{valueAt, nextAt}
 use Rattle.program.specs.Program.{Program, Rule, ruleOf, ruleIn, variablesAt}
-use Rattle.program.specs.Reading.{Reads, accepted, Accepts}
-use Rattle.program.proofs.Conditions.{any-same}
+use Rattle.program.specs.Reading.{Reads, accepted, whole, Accepts}
 use Rattle.reader.specs.Parts.{rulePlace, constraintPlace}
 use Rattle.reader.proofs.Published.{counts-of, variables-are, limited, rule-lies, next-rule, first-constraint}
-use Rattle.meaning.specs.Reads.{readsKept}
 use Rattle.reduct.specs.Masks.{Mask}
-use Rattle.tables.specs.Tabled.{readAt, Entered, MaskOf, Tabled}
+use Rattle.tables.specs.Tabled.{readAt, Entered, MaskOf, ReadersAre}
 use Rattle.tables.specs.Entries.{RuleHere, EntryMade}
-use Rattle.program.specs.Readings.{bodyVariable, kept}
+use Rattle.tables.specs.Laid.{RuleAt, FirstPlaced, Placed}
+use Rattle.program.specs.Readings.{kept}
 use Rattle.parts.specs.Values.{Standing}
 use Rattle.program.specs.declared.Variable.{Variable}
+
+-- a place in a file that is accepted
+pub short-place : {s : List ℕ} {v m c at : ℕ} → Reads s (accepted v m c) → RuleHere s v at → at ≤ maxFile
+short-place (whole w x) h = omega (arith, w .passed .short, h .inside)
 
 module _ {s : List ℕ} {v m c : ℕ} (r : Reads s (accepted v m c)) {P : Program} (a : Accepts s P) where
   -- rule i stands at its place
@@ -33,18 +36,13 @@ module _ {s : List ℕ} {v m c : ℕ} (r : Reads s (accepted v m c)) {P : Progra
       let l = rule-lies a i (omega (arith, z .rules-are)) in
       rw e (record { inside = l .inside; standing = subst (λ (n : ℕ). Standing s n (valueAt s (rulePlace s P i))) (z .variables-are) (l .standing); few = l .evaluable .few })
 
-  -- nothing is entered yet
-  pub tabled-none : (os ms rs : List ℕ) → ((n : ℕ) → has rs n ≡ false) → Tabled s P 0 os ms rs
-  tabled-none os ms rs e = record {
-    place-is = λ i h. absurd (omega arith);
-    mask-is = λ i h. absurd (omega arith);
-    reader-is = λ x i l m. e (maxRules * x + i) ∙ ap (λ (t : Bool). t && readsKept P (ruleIn (P .rules) i) x) (sym (le-ltb i 0 (omega arith)));
-  }
+  module _ (i at next : ℕ) (os os′ ms ms′ : List ℕ) (h : i < m) (e : at ≡ rulePlace s P i) (lo : length os ≡ maxRules) (lm : length ms ≡ maxRules)
+      (n : EntryMade s v at i next os os′ ms ms′) (t : FirstPlaced s P i os ms) where
+    within : i < length (P .rules)
+    within = omega (arith, counts-of r a .rules-are)
 
-  module _ (i at next : ℕ) (os os′ ms ms′ rs rs′ : List ℕ) (h : i < m) (e : at ≡ rulePlace s P i)
-      (lo : length os ≡ maxRules) (lm : length ms ≡ maxRules) (n : EntryMade s v at i next os os′ ms ms′ rs rs′) (t : Tabled s P i os ms rs) where
     rule-here : ruleOf (valueAt s at) ≡ ruleIn (P .rules) i
-    rule-here = ap (λ (n : ℕ). ruleOf (valueAt s n)) e ∙ sym (rule-lies a i (omega (arith, counts-of r a .rules-are)) .is)
+    rule-here = ap (λ (n : ℕ). ruleOf (valueAt s n)) e ∙ sym (rule-lies a i within .is)
 
     -- the rule's mask is of its kept positions
     mask-here : MaskOf P (ruleIn (P .rules) i) (n .mask)
@@ -52,52 +50,17 @@ module _ {s : List ℕ} {v m c : ℕ} (r : Reads s (accepted v m c)) {P : Progra
         subst (λ (q : Rule). MaskOf P q (n .mask)) rule-here
         (λ j l. n .mask-is .below j l ∙ ap (λ (vs : List Variable). kept vs (ruleOf (valueAt s at)) j) (sym (variables-are r a)))
 
-    -- and the variables that it reads there are those entered
-    reads-here : (x : ℕ) → readAt (ruleOf (valueAt s at)) (n .mask) x ≡ readsKept P (ruleIn (P .rules) i) x
-    unfolding readAt readsKept
-    reads-here x =
-        ap (λ (q : Rule). readAt q (n .mask) x) rule-here
-        ∙ any-same (length (ruleIn (P .rules) i .terms)) _ (λ j. kept (P .variables) (ruleIn (P .rules) i) j && eqb (bodyVariable (ruleIn (P .rules) i) j) x)
-        (λ j l. ap (λ (b : Bool). b && eqb (bodyVariable (ruleIn (P .rules) i) j) x) (mask-here j l))
-
-    reader-here : (x j : ℕ) → x < maxVariables → j < maxRules → Dec (j ≡ i) → has rs′ (maxRules * x + j) ≡ (ltb j (i + 1) && readsKept P (ruleIn (P .rules) j) x)
-    reader-here x j l m (yes q) =
-        n .entered x j l m
-        ∙ ap₂ _||_ (t .reader-is x j l m ∙ ap (λ (b : Bool). b && readsKept P (ruleIn (P .rules) j) x) (le-ltb j i (omega arith))) (ap₂ _&&_ (eq-eqb j i q) (reads-here x))
-        ∙ sym (ap₂ (λ (a : Bool) (z : ℕ). a && readsKept P (ruleIn (P .rules) z) x) (lt-ltb j (i + 1) (omega arith)) q)
-    reader-here x j l m (no g) =
-        n .entered x j l m
-        ∙ ap₂ _||_ (t .reader-is x j l m) (ap (λ (b : Bool). b && readAt (ruleOf (valueAt s at)) (n .mask) x) (ne-eqb j i g))
-        ∙ or-false _ ∙ ap (λ (b : Bool). b && readsKept P (ruleIn (P .rules) j) x) (other (ℕ-less j i))
-      where
-        or-false : (b : Bool) → (b || false) ≡ b
-        or-false true = refl
-        or-false false = refl
-
-        ℕ-less : (a b : ℕ) → Dec (a < b)
-        ℕ-less a b = decLt a b
-
-        other : Dec (j < i) → ltb j i ≡ ltb j (i + 1)
-        other (yes p) = lt-ltb j i p ∙ sym (lt-ltb j (i + 1) (omega arith))
-        other (no f) = le-ltb j i (omega arith) ∙ sym (le-ltb j (i + 1) (omega arith))
-
-    pub tabled-more : Tabled s P (i + 1) os′ ms′ rs′
-    tabled-more = record {
-      place-is = λ j l. rw (n .placed) (place-here j l (ℕ-discrete j i));
-      mask-is = λ j l. rw (n .masked) (mask-at j l (ℕ-discrete j i));
-      reader-is = λ x j l m. reader-here x j l m (ℕ-discrete j i);
-    }
+    pub placed-more : FirstPlaced s P (i + 1) os′ ms′
+    placed-more j l = rw (n .placed, n .masked) (go (ℕ-discrete j i))
       where
         few : i < maxRules
         few = omega (arith, limited r .few-rules)
 
-        place-here : (j : ℕ) → j < i + 1 → Dec (j ≡ i) → getD (set os i at) j 0 ≡ rulePlace s P j
-        place-here j l (yes q) = rw q (getD-set-same os i at 0 (omega (arith, few)) ∙ e)
-        place-here j l (no g) = getD-set-other os i j at 0 g ∙ t .place-is j (omega arith)
-
-        mask-at : (j : ℕ) → j < i + 1 → Dec (j ≡ i) → MaskOf P (ruleIn (P .rules) j) (getD (set ms i (n .mask)) j 0)
-        mask-at j l (yes q) = rw (q, getD-set-same ms i (n .mask) 0 (omega (arith, few))) mask-here
-        mask-at j l (no g) = rw (getD-set-other ms i j (n .mask) 0 g) (t .mask-is j (omega arith))
+        go : Dec (j ≡ i) → RuleAt s P j (getD (set os i at) j 0) (getD (set ms i (n .mask)) j 0)
+        go (yes q) =
+            rw (q, getD-set-same os i at 0 (omega (arith, few)), getD-set-same ms i (n .mask) 0 (omega (arith, few)))
+            (record { accepts = a; among = within; placed = e; masked = mask-here })
+        go (no g) = rw (getD-set-other os i j at 0 g, getD-set-other ms i j (n .mask) 0 g) (t j (omega arith))
 
     -- the next field is the next rule
     pub next-place : next ≡ rulePlace s P (i + 1)
@@ -108,8 +71,8 @@ module _ {s : List ℕ} {v m c : ℕ} (r : Reads s (accepted v m c)) {P : Progra
     every : i ≡ length (P .rules)
     every = omega (arith, counts-of r a .rules-are)
 
-    pub tabled-all : {os ms rs : List ℕ} → Tabled s P i os ms rs → Tabled s P (length (P .rules)) os ms rs
-    tabled-all t = rw every at t
+    pub placed-all : {os ms : List ℕ} → FirstPlaced s P i os ms → Placed s P os ms
+    placed-all t = record { accepts = a; stands = rw every at t }
 
     pub place-after : {at : ℕ} → at ≡ rulePlace s P i → at ≡ constraintPlace s P 0
     place-after e = e ∙ ap (rulePlace s P) every ∙ sym (first-constraint s P)
@@ -123,6 +86,44 @@ module _ {s : List ℕ} {n at : ℕ} (h : RuleHere s n at) {v : List ℕ} (q : v
   pub few-here : length (ruleOf v .terms) ≤ maxTerms
   few-here = rw q (h .few)
 
-  pub entry-made : (i next mask : ℕ) (os ms rs rs′ : List ℕ) → next ≡ nextAt s at → Mask (kept (variablesAt s n) (ruleOf v)) (length (ruleOf v .terms)) mask
-      → Entered rs rs′ i (readAt (ruleOf v) mask) → EntryMade s n at i next os (set os i at) ms (set ms i mask) rs rs′
-  entry-made i next mask os ms rs rs′ e m d = record { next-is = e; placed = refl; mask = mask; masked = refl; mask-is = rw q at m; entered = rw q at d }
+  pub entry-made : (i next mask : ℕ) (os ms : List ℕ) {place : ℕ} → place ≡ at → next ≡ nextAt s at → Mask (kept (variablesAt s n) (ruleOf v)) (length (ruleOf v .terms)) mask
+      → EntryMade s n at i next os (set os i place) ms (set ms i mask)
+  entry-made i next mask os ms p e m = record { next-is = e; placed = ap (set os i) p; mask = mask; masked = refl; mask-is = rw q at m }
+
+-- ---- the readers
+
+-- nothing is entered yet
+pub readers-none : (P : Program) (ms rs : List ℕ) → ((n : ℕ) → has rs n ≡ false) → ReadersAre P 0 ms rs
+readers-none P ms rs e x i l m =
+    e (maxRules * x + i) ∙ ap (λ (t : Bool). t && readAt (ruleIn (P .rules) i) (getD ms i 0) x) (sym (le-ltb i 0 (omega arith)))
+
+-- one rule more, which stands at this place
+pub readers-more : {s : List ℕ} (P : Program) (i at : ℕ) (ms rs rs′ : List ℕ) {v : List ℕ} → Accepts s P → i < length (P .rules) → at ≡ rulePlace s P i → v ≡ valueAt s at
+    → Entered rs rs′ i (readAt (ruleOf v) (getD ms i 0)) → ReadersAre P i ms rs → ReadersAre P (i + 1) ms rs′
+readers-more {s} P i at ms rs rs′ {v} a h e q n t x j l m = n x j l m ∙ go (ℕ-discrete j i)
+  where
+    reads : ℕ → Bool
+    reads k = readAt (ruleIn (P .rules) k) (getD ms k 0) x
+
+    rule-here : ruleOf v ≡ ruleIn (P .rules) i
+    rule-here = ap ruleOf (q ∙ ap (valueAt s) e) ∙ sym (rule-lies a i h .is)
+
+    or-false : (b : Bool) → (b || false) ≡ b
+    or-false true = refl
+    or-false false = refl
+
+    same : Dec (j < i) → (j ≡ i → ⊥) → ltb j i ≡ ltb j (i + 1)
+    same (yes p) g = lt-ltb j i p ∙ sym (lt-ltb j (i + 1) (omega arith))
+    same (no f) g = le-ltb j i (omega arith) ∙ sym (le-ltb j (i + 1) (omega arith))
+
+    go : Dec (j ≡ i) → (has rs (maxRules * x + j) || (eqb j i && readAt (ruleOf v) (getD ms i 0) x)) ≡ (ltb j (i + 1) && reads j)
+    go (yes p) =
+        ap₂ _||_ (t x j l m ∙ ap (λ (b : Bool). b && reads j) (le-ltb j i (omega arith)))
+        (ap₂ _&&_ (eq-eqb j i p) (ap (λ (r : Rule). readAt r (getD ms i 0) x) rule-here))
+        ∙ sym (ap₂ (λ (b : Bool) (k : ℕ). b && reads k) (lt-ltb j (i + 1) (omega arith)) p)
+    go (no g) =
+        ap₂ _||_ (t x j l m) (ap (λ (b : Bool). b && readAt (ruleOf v) (getD ms i 0) x) (ne-eqb j i g))
+        ∙ or-false _ ∙ ap (λ (b : Bool). b && reads j) (same (decLt j i) g)
+
+pub readers-all : (P : Program) {i : ℕ} (ms rs : List ℕ) → i ≡ length (P .rules) → ReadersAre P i ms rs → ReadersAre P (length (P .rules)) ms rs
+readers-all P ms rs e t = rw e at t

@@ -22,10 +22,14 @@ pub record Stands (s : List ℕ) (at mask : ℕ) : Type 0 where
   pub rule : ℕ
   pub here : RuleAt s program rule at mask
 
--- the tables have the place and the mask of each rule
+-- the tables have the place and the mask of each of the first n rules
+abbrev pub FirstPlaced : List ℕ → Program → ℕ → List ℕ → List ℕ → Type 0
+FirstPlaced s P n offsets masks = (i : ℕ) → i < n → RuleAt s P i (getD offsets i 0) (getD masks i 0)
+
+-- of every rule
 pub record Placed (s : List ℕ) (P : Program) (offsets masks : List ℕ) : Type 0 where
   pub accepts : Accepts s P
-  pub stands : (i : ℕ) → i < length (P .rules) → RuleAt s P i (getD offsets i 0) (getD masks i 0)
+  pub stands : FirstPlaced s P (length (P .rules)) offsets masks
 
 -- the tables are those of a file that is accepted with these counts
 pub record Laid (s : List ℕ) (k : Counts) (offsets masks : List ℕ) : Type 0 where

@@ -1,5 +1,4 @@
--- The tables of a run: where each rule stands, which of its positions are kept, and which rules read a variable at a kept
--- position.
+-- What the tables of a run say: which positions of a rule are kept, and which rules read a variable.
 use Prim.Native.Nat.{ℕ, _+_, _*_, _/_, _<_}
 use mathlib.Core.Path.{_≡_}
 use mathlib.Core.Bool.{Bool, _&&_, _||_}
@@ -9,9 +8,6 @@ use lib.ListN.{length, getD}
 use Rattle.format.specs.Limits.{maxVariables, maxRules}
 use Rattle.words.specs.Bit.{wordBits, has, bit}
 use Rattle.program.specs.Program.{Program, Rule, ruleIn}
-use Rattle.program.specs.Reading.{Accepts}
-use Rattle.reader.specs.Parts.{rulePlace}
-use Rattle.meaning.specs.Reads.{readsKept}
 use Rattle.program.specs.Tables.{anyBelow}
 use Rattle.program.specs.Readings.{bodyVariable, kept}
 
@@ -34,12 +30,7 @@ Entered ws ws′ k e = (x i : ℕ) → x < maxVariables → i < maxRules → has
 abbrev pub MaskOf : Program → Rule → ℕ → Type 0
 MaskOf P r w = (j : ℕ) → j < length (r .terms) → bit w j ≡ kept (P .variables) r j
 
--- the first n rules are in the tables; the rules that read x stand in one row of bits, from number maxRules * x on
-pub record Tabled (s : List ℕ) (P : Program) (n : ℕ) (offsets masks readers : List ℕ) : Type 0 where
-  pub place-is : (i : ℕ) → i < n → getD offsets i 0 ≡ rulePlace s P i
-  pub mask-is : (i : ℕ) → i < n → MaskOf P (ruleIn (P .rules) i) (getD masks i 0)
-  pub reader-is : (x i : ℕ) → x < maxVariables → i < maxRules → has readers (maxRules * x + i) ≡ (ltb i n && readsKept P (ruleIn (P .rules) i) x)
-
--- the tables have every rule of the program that a file means
-abbrev pub TablesOf : List ℕ → List ℕ → List ℕ → List ℕ → Type 0
-TablesOf s offsets masks readers = (P : Program) → Accepts s P → Tabled s P (length (P .rules)) offsets masks readers
+-- the rules among the first n that read x, by their masks, stand in one row of bits, from number maxRules * x on
+abbrev pub ReadersAre : Program → ℕ → List ℕ → List ℕ → Type 0
+ReadersAre P n masks readers =
+    (x i : ℕ) → x < maxVariables → i < maxRules → has readers (maxRules * x + i) ≡ (ltb i n && readAt (ruleIn (P .rules) i) (getD masks i 0) x)

@@ -1,18 +1,19 @@
-// The tables of a run: where each rule stands, which of its positions are kept, and which rules read a variable at a kept position.
+// The tables of a run: where each rule stands and which of its positions are kept; and which rules read a variable.
 ghost use mathlib.Core.Path.{_≡_};
 ghost use mathlib.Core.Bool.{_&&_, false};
 ghost use Prim.Native.Nat.{ℕ, _<_, _≤_};
 ghost use lib.Dec.{eqb};
-ghost use lib.ListN.{length};
-ghost use Rattle.format.specs.Limits.{maxRules, maxTerms};
+ghost use lib.ListN.{length, getD};
+ghost use Rattle.format.specs.Limits.{maxFile, maxRules, maxTerms};
 ghost use Rattle.words.specs.Bit.{has, bit};
 ghost use Rattle.program.specs.Program.{Program, ruleOf};
 ghost use Rattle.program.specs.Readings.{bodyVariable};
 ghost use Rattle.parts.specs.Values.{ruleHeader};
 ghost use Rattle.program.specs.Reading.{AcceptedAs, Accepts};
 ghost use Rattle.reader.specs.Parts.{constraintPlace};
-ghost use Rattle.tables.specs.Tabled.{rowWords, readersWords, readAt, Entered, TablesOf};
+ghost use Rattle.tables.specs.Tabled.{rowWords, readersWords, readAt, Entered, ReadersAre};
 ghost use Rattle.tables.specs.Entries.{RuleHere, EntryMade};
+ghost use Rattle.tables.specs.Laid.{OffsetsOf, Laid};
 use format::Format;
 use parts::places::next_at;
 use parts::places::value_at;
@@ -37,7 +38,29 @@ impl Tables {
     {}
 }
 
-// Rule k reads the variable at position j of its body, where that position is kept.
+// A place in a file fits in two bytes.
+fn narrow(at: usize) -> u16
+    requires { ⌜ at ≤ maxFile ⌝ }
+    ensures { λ r. ⌜ r ≡ at ⌝ }
+{
+    at as u16
+}
+
+fn wide(at: u16) -> usize
+    ensures { λ r. ⌜ r ≡ at ⌝ }
+{
+    at as usize
+}
+
+// Where rule i stands.
+pub fn place_of(offsets: &[u16; Format::MAX_RULES], i: usize) -> usize
+    requires { ⌜ i < maxRules ⌝ }
+    ensures { λ r. ⌜ r ≡ getD (now (offsets .entry)) i 0 ⌝ }
+{
+    wide(offsets[i])
+}
+
+// Rule k reads the variable at position j of its body, where the mask has that position.
 fn enter_position(readers: &mut [u64; Tables::READERS], value: &[u8], mask: u32, k: usize, j: usize)
     requires { ⌜ (k < maxRules) × (ruleHeader ≤ length (now value)) × (j < length (ruleOf (now value) .terms)) × (j < maxTerms) ⌝ }
     requires { ⌜ length (now readers) ≡ readersWords ⌝ }
@@ -50,8 +73,8 @@ fn enter_position(readers: &mut [u64; Tables::READERS], value: &[u8], mask: u32,
     }
 }
 
-// Rule k reads the variables at its kept positions.
-pub fn enter_rule(readers: &mut [u64; Tables::READERS], value: &[u8], mask: u32, k: usize)
+// Rule k reads the variables at the positions of its mask.
+fn enter_rule(readers: &mut [u64; Tables::READERS], value: &[u8], mask: u32, k: usize)
     requires { ⌜ (k < maxRules) × (ruleHeader ≤ length (now value)) × (length (ruleOf (now value) .terms) ≤ maxTerms) ⌝ }
     requires { ⌜ length (now readers) ≡ readersWords ⌝ }
     ensures { λ _. ⌜ length (now (readers .exit)) ≡ readersWords ⌝ }
@@ -71,37 +94,31 @@ fn enter(
     variables: usize,
     at: usize,
     i: usize,
-    offsets: &mut [usize; Format::MAX_RULES],
+    offsets: &mut [u16; Format::MAX_RULES],
     masks: &mut [u32; Format::MAX_RULES],
-    readers: &mut [u64; Tables::READERS],
 ) -> usize
     requires { ⌜ RuleHere (now file) variables at ⌝ }
-    requires { ⌜ (i < maxRules) × (length (now offsets) ≡ maxRules) × (length (now masks) ≡ maxRules) × (length (now readers) ≡ readersWords) ⌝ }
-    ensures { λ _. ⌜ (length (now (offsets .exit)) ≡ maxRules) × (length (now (masks .exit)) ≡ maxRules) × (length (now (readers .exit)) ≡ readersWords) ⌝ }
-    ensures { λ r. ⌜ EntryMade (now (file .entry)) variables at i r (now (offsets .entry)) (now (offsets .exit)) (now (masks .entry)) (now (masks .exit))
-        (now (readers .entry)) (now (readers .exit)) ⌝ }
+    requires { ⌜ (at ≤ maxFile) × (i < maxRules) × (length (now offsets) ≡ maxRules) × (length (now masks) ≡ maxRules) ⌝ }
+    ensures { λ _. ⌜ (length (now (offsets .exit)) ≡ maxRules) × (length (now (masks .exit)) ≡ maxRules) ⌝ }
+    ensures { λ r. ⌜ EntryMade (now (file .entry)) variables at i r (now (offsets .entry)) (now (offsets .exit)) (now (masks .entry)) (now (masks .exit)) ⌝ }
 {
-    let value = value_at(file, at);
-    let mask = kept_positions(file, variables, value);
-    offsets[i] = at;
+    let mask = kept_positions(file, variables, value_at(file, at));
+    offsets[i] = narrow(at);
     masks[i] = mask;
-    enter_rule(readers, value, mask, i);
     next_at(file, at)
 }
 
-// Enters every rule of a file that is accepted with these counts, and answers where the field after the last rule stands.
+// Enters the place and the mask of every rule of a file that is accepted with these counts, and answers where the field after the last rule stands.
 pub fn fill_tables(
     file: &[u8],
     counts: Counts,
-    offsets: &mut [usize; Format::MAX_RULES],
+    offsets: &mut [u16; Format::MAX_RULES],
     masks: &mut [u32; Format::MAX_RULES],
-    readers: &mut [u64; Tables::READERS],
 ) -> usize
     requires { ⌜ AcceptedAs (now file) counts ⌝ }
-    requires { ⌜ (length (now offsets) ≡ maxRules) × (length (now masks) ≡ maxRules) × (length (now readers) ≡ readersWords) ⌝ }
-    requires { ⌜ ((n : ℕ) → has (now readers) n ≡ false) ⌝ }
-    ensures { λ _. ⌜ (length (now (offsets .exit)) ≡ maxRules) × (length (now (masks .exit)) ≡ maxRules) × (length (now (readers .exit)) ≡ readersWords) ⌝ }
-    ensures { λ _. ⌜ TablesOf (now (file .entry)) (now (offsets .exit)) (now (masks .exit)) (now (readers .exit)) ⌝ }
+    requires { ⌜ (length (now offsets) ≡ maxRules) × (length (now masks) ≡ maxRules) ⌝ }
+    ensures { λ _. ⌜ (length (now (offsets .exit)) ≡ maxRules) × (length (now (masks .exit)) ≡ maxRules) ⌝ }
+    ensures { λ _. ⌜ Laid (now (file .entry)) counts (now (offsets .exit)) (now (masks .exit)) ⌝ }
     ensures { λ r. ⌜ ((P : Program) → Accepts (now (file .entry)) P → r ≡ constraintPlace (now (file .entry)) P 0) ⌝ }
 {
     let n = counts.variables;
@@ -109,9 +126,34 @@ pub fn fill_tables(
     let mut at = 8 * n;
     let mut i = 0;
     while i < rules {
-        let next = enter(file, n, at, i, offsets, masks, readers);
+        let next = enter(file, n, at, i, offsets, masks);
         at = next;
         i += 1;
     }
     at
+}
+
+// Enters every rule of a file that is accepted with these counts, by its place and its mask, among the readers of its variables.
+pub fn fill_readers(
+    file: &[u8],
+    counts: Counts,
+    offsets: &[u16; Format::MAX_RULES],
+    masks: &[u32; Format::MAX_RULES],
+    readers: &mut [u64; Tables::READERS],
+)
+    requires { ⌜ AcceptedAs (now file) counts ⌝ }
+    requires { ⌜ OffsetsOf (now file) (now offsets) ⌝ }
+    requires { ⌜ length (now readers) ≡ readersWords ⌝ }
+    requires { ⌜ ((n : ℕ) → has (now readers) n ≡ false) ⌝ }
+    ensures { λ _. ⌜ length (now (readers .exit)) ≡ readersWords ⌝ }
+    ensures { λ _. ⌜ ((P : Program) → Accepts (now (file .entry)) P → ReadersAre P (length (P .rules)) (now (masks .entry)) (now (readers .exit))) ⌝ }
+{
+    let rules = counts.rules;
+    let mut i = 0;
+    while i < rules {
+        let at = place_of(offsets, i);
+        let mask = masks[i];
+        enter_rule(readers, value_at(file, at), mask, i);
+        i += 1;
+    }
 }

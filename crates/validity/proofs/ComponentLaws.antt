@@ -32,7 +32,7 @@ use Rattle.validity.specs.Judging.{Judges}
 use Rattle.sharing.specs.Sharing.{shareIn}
 use Rattle.sharing.proofs.Firsts.{SharesIn, shares-told, shares-tested}
 use Rattle.edges.specs.Edges.{Grown, anyMixed, drawsAt, drawsIn, offendsAt, offendsIn}
-use Rattle.validity.specs.Marks.{drawsBy, offendsBy, mixedRule, edgeIn, offendsRule, JudgedBy}
+use Rattle.validity.specs.Marks.{drawsBy, offendsBy, actingRule, edgeIn, offendsRule, JudgedBy}
 use Rattle.validity.specs.declared.Outcome.{Outcome}
 use Rattle.validity.specs.declared.Outcome.the-variants.{Valid, Offending}
 use Rattle.validity.proofs.RuleLaws.{counted-variables, variables-few, rule-stands, rule-is}
@@ -153,15 +153,16 @@ module _ {s : List ℕ} {k : Counts} (c : Counted s k) where
       ∙ any-same (k .rules) _ _ (λ i l. draws-positions P (ruleIn (P .rules) i) x y
       ∙ ap₂ (λ (vs : List Variable) (r : Rule). drawsBy vs r x y) (c .describes .variables-are) (rule-is c i l))
 
-  -- no mixed position: the file is valid
-  pub none-mixed : mixedRule s k ≡ false → components.Valid P
-  unfolding mixedRule anyMixed
-  none-mixed e i o =
+  -- every rule with a mixed position is idle: the file is valid
+  pub none-acting : actingRule s k ≡ false → components.Valid P
+  unfolding actingRule anyMixed
+  none-acting e i o =
       let l : i < k .rules = rw (c .describes .rules-are) at (o .among) in
       let z = none-below (k .rules) _ e i l in
       let h = rw (rule-is c i l) at (o .inside) in
       let m = rw (rule-is c i l, c .describes .variables-are) at (o .pushes) in
-      never m (none-below _ _ z (o .at) h)
+      let acts = rw (rule-is c i l, c .describes .variables-are) at (promised-not-idle (passed-promises (c .whole .passed)) i (o .among) (o .not-idle)) in
+      never (ap₂ _&&_ (below-some _ _ (o .at) h m) (ap not acts)) z
 
   -- rows that hold what is reached: a rule offends where the test says so
   module _ {t : ℕ → ℕ → Bool} (last : AfterLast (edge P) t (k .variables)) where
@@ -198,8 +199,8 @@ module _ {s : List ℕ} {k : Counts} (c : Counted s k) where
         }
 
   -- the answers, whatever number of fields the file is said to have
-  pub outcome-is-none : mixedRule s k ≡ false → (n : ℕ) → Whole s n → Judges s n Valid
-  outcome-is-none e n w = subst (λ (n : ℕ). Judges s n Valid) (whole-unique (c .whole) w) (none-mixed e)
+  pub outcome-is-idle : actingRule s k ≡ false → (n : ℕ) → Whole s n → Judges s n Valid
+  outcome-is-idle e n w = subst (λ (n : ℕ). Judges s n Valid) (whole-unique (c .whole) w) (none-acting e)
 
   -- no row has anything, then the edges are marked
   pub marked-edges : {t₀ t : ℕ → ℕ → Bool} → ((a b : ℕ) → t₀ a b ≡ false) → Grown t₀ t (edgeIn s k) → (a b : ℕ) → a < maxVariables → b < maxVariables

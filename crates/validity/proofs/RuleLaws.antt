@@ -1,28 +1,33 @@
 -- The rules of a file whose fields passed, one after the other.
 use Prim.Native.Nat.{ℕ, _+_, _*_, _<_, _≤_}
-use mathlib.Core.Path.{_≡_, sym, ap, _∙_}
+use mathlib.Core.Path.{_≡_, refl, sym, ap, _∙_}
 use mathlib.Core.List.{List}
-use mathlib.Core.Bool.{Bool, true, false, not, or-false}
+use mathlib.Core.Bool.{Bool, true, false, not, _&&_, or-false}
 use native.Mathlib.Omega.{arith}
+use lib.Dec.{eqb}
 use lib.ListN.{length}
+use borrow.Author.Tests.{eqb-true, eqb-false}
 use Rattle.format.specs.Limits.{maxVariables}
 use Rattle.program.specs.Tables.{anyBelow}
 use Rattle.program.specs.Fields.{valueAt, nextAt, place}
-use Rattle.program.specs.Program.{Rule, ruleOf, variableIn, ruleIn, program, variablesAt}
+use Rattle.program.specs.Program.{Rule, ruleOf, termForm, termIn, variableIn, ruleIn, program, variablesAt}
 use Rattle.program.specs.Idle.{isIdle}
 use Rattle.program.specs.Reading.{Passed}
 use Rattle.program.specs.declared.Counts.{Counts}
 use Rattle.program.specs.declared.Variable.{Variable}
-use Rattle.program.proofs.Conditions.{last-or}
+use Rattle.program.proofs.Conditions.{last-or, none-below, below-none, below-some}
+use Rattle.program.proofs.Forms.{read-as-sum, read-as-itself}
+use Rattle.program.proofs.IdleRules.{only-sizes-mixed}
 use Rattle.program.proofs.Places.{RuleStands, Fine, variablesTo, variables-length, variables-stand, rule-at, rule-header, passed-fine, place-next, counts}
 use Rattle.program.proofs.Promises.{VariablePromise, RulePromise, passed-variable, passed-rule}
 use Rattle.program.proofs.Gives.{promised-evaluable}
 use Rattle.fields.specs.Scanning.{Counted}
-use Rattle.edges.specs.Edges.{Grown, anyMixed, drawsIn, offendsIn}
+use Rattle.edges.specs.Edges.{Grown, anyMixed, drawsIn, offendsAt, offendsIn}
 use Rattle.idleness.specs.Most.{Ready}
-use Rattle.validity.specs.Marks.{drawsBy, offendsBy, ruleAt, mixedRule, edgeIn}
+use Rattle.validity.specs.Marks.{drawsBy, offendsBy, actsMixed, OnlySizes, ruleAt, mixedRule, actingRule, edgeIn}
 use Rattle.edges.proofs.PositionLaws.{grown-done}
 use Rattle.parts.specs.Values.{Standing}
+use Rattle.sharing.specs.Sharing.{shareIn}
 
 -- the value of a rule's field, and the place after it
 pub field-rule : (s : List ℕ) (n i : ℕ) {at : ℕ} {v : List ℕ} → at ≡ place s (n + i) → v ≡ valueAt s at → ruleOf v ≡ ruleAt s n i
@@ -40,9 +45,27 @@ pub none-more : (p : ℕ → Bool) (i : ℕ) → ((j : ℕ) → j < i → p j �
 none-more p i h e j l = last-or (λ x. p x ≡ false) i j (omega arith) (h j) e
 
 module _ (s : List ℕ) (k : Counts) where
-  pub mixed-all : {i : ℕ} {f : Bool} → i ≡ k .rules → f ≡ anyBelow i (λ j. anyMixed (variablesAt s (k .variables)) (ruleAt s (k .variables) j)) → f ≡ mixedRule s k
+  abbrev mixed : ℕ → Bool
+  mixed j = anyMixed (variablesAt s (k .variables)) (ruleAt s (k .variables) j)
+
+  abbrev acting : ℕ → Bool
+  acting j = actsMixed (variablesAt s (k .variables)) (ruleAt s (k .variables) j)
+
+  pub some-mixed : (i : ℕ) → i < k .rules → mixed i ≡ true → true ≡ mixedRule s k
   unfolding mixedRule
-  mixed-all e h = rw e at h
+  some-mixed i l h = sym (below-some (k .rules) mixed i l h)
+
+  pub none-mixed-in : (i : ℕ) → i ≡ k .rules → ((j : ℕ) → j < i → mixed j ≡ false) → false ≡ mixedRule s k
+  unfolding mixedRule
+  none-mixed-in i e h = sym (below-none (k .rules) mixed (λ j l. h j (omega arith)))
+
+  pub some-acting : (i : ℕ) → i < k .rules → acting i ≡ true → true ≡ actingRule s k
+  unfolding actingRule
+  some-acting i l h = sym (below-some (k .rules) acting i l h)
+
+  pub none-acting-in : (i : ℕ) → i ≡ k .rules → ((j : ℕ) → j < i → acting j ≡ false) → false ≡ actingRule s k
+  unfolding actingRule
+  none-acting-in i e h = sym (below-none (k .rules) acting (λ j l. h j (omega arith)))
 
   pub edges-all : {i : ℕ} {t t′ : ℕ → ℕ → Bool} → i ≡ k .rules
       → Grown t t′ (λ a b. anyBelow i (λ j. drawsBy (variablesAt s (k .variables)) (ruleAt s (k .variables) j) a b)) → Grown t t′ (edgeIn s k)
@@ -106,6 +129,18 @@ module _ {s : List ℕ} {k : Counts} (c : Counted s k) where
       high-small = λ x l. variable-promise x l .high-small;
     }
 
+    -- only sizes have mixed positions
+    pub rule-sizes : OnlySizes (variablesAt s (k .variables)) (ruleAt s (k .variables) i)
+    unfolding anyMixed
+    rule-sizes f = below-none _ _ (only-sizes-mixed rule-promise (λ q. as-form (eqb form 8) refl q))
+      where
+        form : ℕ
+        form = ruleAt s (k .variables) i .form
+
+        as-form : (t : Bool) → eqb form 8 ≡ t → termForm form ≡ 5 → ⊥
+        as-form true e q = let one = read-as-sum form (eqb-true form 8 e) in omega arith
+        as-form false e q = f (read-as-itself form (eqb-false form 8 e) ∙ q)
+
     -- at its place
     module _ {at : ℕ} (e : at ≡ place s (k .variables + i)) where
       pub rule-inside : nextAt s at ≤ length s
@@ -113,6 +148,9 @@ module _ {s : List ℕ} {k : Counts} (c : Counted s k) where
 
       pub standing-at : {v : List ℕ} → v ≡ valueAt s at → Standing s (k .variables) v
       standing-at x = rw (x, e) standing
+
+      pub sizes-at : {v : List ℕ} → v ≡ valueAt s at → OnlySizes (variablesAt s (k .variables)) (ruleOf v)
+      sizes-at x = rw (x, e) rule-sizes
 
       pub ready-at : {v : List ℕ} → v ≡ valueAt s at → Ready s (k .variables) v
       ready-at x = rw (x, e) ready
@@ -126,6 +164,18 @@ module _ (vs : List Variable) (r : Rule) where
 
   pub acting-draws : {t t′ : ℕ → ℕ → Bool} {f : Bool} → f ≡ isIdle vs r → f ≡ false → Grown t t′ (drawsIn vs r) → Grown t t′ (drawsBy vs r)
   acting-draws e h g = record { is = λ a b ha hb. rw (sym e ∙ h) (g .is a b ha hb) }
+
+  -- a rule without a mixed position does not offend
+  pub unmixed-offends : (t : ℕ → ℕ → Bool) → anyMixed vs r ≡ false → false ≡ offendsBy t vs r
+  unfolding anyMixed offendsIn offendsAt
+  unmixed-offends t h = rw (below-none _ _ (λ i l. ap (λ (b : Bool). b && shareIn t (r .head) (termIn (r .terms) i .variable)) (none-below _ _ h i l)))
+
+  -- nor does it act in spite of one
+  pub unmixed-acts : {f : Bool} → f ≡ anyMixed vs r → f ≡ false → false ≡ actsMixed vs r
+  unmixed-acts e h = rw (sym e ∙ h)
+
+  pub mixed-acts : {f i : Bool} → f ≡ anyMixed vs r → f ≡ true → i ≡ isIdle vs r → not i ≡ actsMixed vs r
+  mixed-acts e h q = rw (sym e ∙ h, q)
 
   module _ (t : ℕ → ℕ → Bool) {f : Bool} (e : f ≡ offendsIn t vs r) where
     pub none-offends : f ≡ false → false ≡ offendsBy t vs r

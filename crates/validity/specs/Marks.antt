@@ -21,6 +21,14 @@ drawsBy vs r x y = not (isIdle vs r) && drawsIn vs r x y
 abbrev pub offendsBy : (ℕ → ℕ → Bool) → List Variable → Rule → Bool
 offendsBy t vs r = offendsIn t vs r && not (isIdle vs r)
 
+-- it has a mixed position and is not idle
+abbrev pub actsMixed : List Variable → Rule → Bool
+actsMixed vs r = anyMixed vs r && not (isIdle vs r)
+
+-- no position is mixed unless the rule is a size; so in every rule of a file whose fields passed (law `rule-sizes`)
+abbrev pub OnlySizes : List Variable → Rule → Type 0
+OnlySizes vs r = (r .form ≡ 5 → ⊥) → anyMixed vs r ≡ false
+
 -- ---- the rules of a file, by its counts
 
 -- rule i stands after the n variables
@@ -29,6 +37,9 @@ ruleAt s n i = ruleOf (valueAt s (place s (n + i)))
 
 unfoldable pub mixedRule : List ℕ → Counts → Bool
 mixedRule s k = anyBelow (k .rules) (λ i. anyMixed (variablesAt s (k .variables)) (ruleAt s (k .variables) i))
+
+unfoldable pub actingRule : List ℕ → Counts → Bool
+actingRule s k = anyBelow (k .rules) (λ i. actsMixed (variablesAt s (k .variables)) (ruleAt s (k .variables) i))
 
 unfoldable pub edgeIn : List ℕ → Counts → ℕ → ℕ → Bool
 edgeIn s k x y = anyBelow (k .rules) (λ i. drawsBy (variablesAt s (k .variables)) (ruleAt s (k .variables) i) x y)

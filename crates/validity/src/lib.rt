@@ -21,7 +21,7 @@ pub fn judge(file: &[u8], counts: Counts) -> Outcome
     requires { ⌜ Counted (now file) counts ⌝ }
     ensures { λ r. ⌜ ((k : ℕ) → Whole (now (file .entry)) k → Judges (now (file .entry)) k r) ⌝ }
 {
-    if !rules::any_mixed(file, counts) {
+    if !rules::any_acting(file, counts) {
         return Outcome::Valid;
     }
     let n = counts.variables;

@@ -7,16 +7,30 @@ ghost use Rattle.program.specs.Evaluable.{Small};
 ghost use Rattle.reach.specs.Rows.{rowsLength, rowHas};
 ghost use Rattle.reach.specs.Stepping.{Lent};
 ghost use Rattle.fields.specs.Scanning.{Counted};
-ghost use Rattle.edges.specs.Edges.{Grown};
+ghost use Rattle.parts.specs.Values.{Standing};
+ghost use Rattle.edges.specs.Edges.{Grown, anyMixed};
 ghost use Rattle.idleness.specs.Most.{Ready};
-ghost use Rattle.validity.specs.Marks.{drawsBy, offendsBy, mixedRule, edgeIn, JudgedBy};
+ghost use Rattle.validity.specs.Marks.{drawsBy, offendsBy, actsMixed, OnlySizes, mixedRule, actingRule, edgeIn, JudgedBy};
 use crate::Outcome;
 use edges::mixed;
 use format::Format;
 use idleness::is_idle;
+use idleness::is_idle_size;
 use parts::places;
 use program::Counts;
 use reach::Rows;
+
+// Whether the rule in a field's value has a mixed position. Only sizes have one.
+fn is_mixed(file: &[u8], variables: usize, value: &[u8]) -> bool
+    requires { ⌜ Standing (now file) variables (now value) ⌝ }
+    requires { ⌜ OnlySizes (variablesAt (now file) variables) (ruleOf (now value)) ⌝ }
+    ensures { λ r. ⌜ r ≡ anyMixed (variablesAt (now (file .entry)) variables) (ruleOf (now (value .entry))) ⌝ }
+{
+    if value[0] != 5 {
+        return false;
+    }
+    mixed::is_mixed(file, variables, value)
+}
 
 // Whether some rule has a mixed position.
 pub fn any_mixed(file: &[u8], counts: Counts) -> bool
@@ -27,15 +41,51 @@ pub fn any_mixed(file: &[u8], counts: Counts) -> bool
     let rules = counts.rules;
     let mut at = 8 * n;
     let mut i = 0;
-    let mut found = false;
     while i < rules {
         let value = places::value_at(file, at);
-        let mixed = mixed::is_mixed(file, n, value);
-        found = found | mixed;
+        if is_mixed(file, n, value) {
+            return true;
+        }
         at = places::next_at(file, at);
         i += 1;
     }
-    found
+    false
+}
+
+// Whether the rule in a field's value has a mixed position and is not idle.
+fn acts_mixed(file: &[u8], variables: usize, value: &[u8]) -> bool
+    requires { ⌜ Ready (now file) variables (now value) ⌝ }
+    requires { ⌜ OnlySizes (variablesAt (now file) variables) (ruleOf (now value)) ⌝ }
+    ensures { λ r. ⌜ r ≡ actsMixed (variablesAt (now (file .entry)) variables) (ruleOf (now (value .entry))) ⌝ }
+{
+    if value[0] != 5 {
+        return false;
+    }
+    if !mixed::is_mixed(file, variables, value) {
+        return false;
+    }
+    let idle = is_idle_size(file, variables, value);
+    !idle
+}
+
+// Whether some rule has a mixed position and is not idle.
+pub fn any_acting(file: &[u8], counts: Counts) -> bool
+    requires { ⌜ Counted (now file) counts ⌝ }
+    ensures { λ r. ⌜ r ≡ actingRule (now (file .entry)) counts ⌝ }
+{
+    let n = counts.variables;
+    let rules = counts.rules;
+    let mut at = 8 * n;
+    let mut i = 0;
+    while i < rules {
+        let value = places::value_at(file, at);
+        if acts_mixed(file, n, value) {
+            return true;
+        }
+        at = places::next_at(file, at);
+        i += 1;
+    }
+    false
 }
 
 // The edges that the rule in a field's value draws; the values are lent to find whether it is idle.
@@ -85,7 +135,7 @@ pub fn mark_edges(
     }
 }
 
-// Whether the rule in a field's value offends by the rows. One that shares its component with no mixed position is not asked whether it is idle.
+// Whether the rule in a field's value offends by the rows. Only sizes have mixed positions. One that shares its component with none is not asked whether it is idle.
 fn offends(
     rows: &[u64],
     values: &mut [i64; Format::MAX_VARIABLES],
@@ -95,10 +145,14 @@ fn offends(
 ) -> bool
     requires { ⌜ Lent (now rows) variables ⌝ }
     requires { ⌜ Ready (now file) variables (now value) ⌝ }
+    requires { ⌜ OnlySizes (variablesAt (now file) variables) (ruleOf (now value)) ⌝ }
     requires { ⌜ (length (now values) ≡ maxVariables) × Small (now values) ⌝ }
     ensures { λ _. ⌜ (length (now (values .exit)) ≡ maxVariables) × Small (now (values .exit)) ⌝ }
     ensures { λ r. ⌜ r ≡ offendsBy (rowHas (now (rows .entry))) (variablesAt (now (file .entry)) variables) (ruleOf (now (value .entry))) ⌝ }
 {
+    if value[0] != 5 {
+        return false;
+    }
     if !mixed::offends(rows, file, variables, value) {
         return false;
     }

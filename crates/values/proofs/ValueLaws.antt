@@ -25,6 +25,7 @@ use Rattle.parts.specs.Values.{Handed}
 use Rattle.faults.specs.Faults.{FaultsBelow, faultsNumber}
 use Rattle.values.specs.Lengths.{lengthRefusal, inOrder}
 use Rattle.faults.specs.declared.Faults.{Faults}
+use Rattle.faultless.specs.Faultless.{Faultless}
 use Rattle.faults.proofs.TermLaws.{negative-other}
 use Rattle.program.specs.Variables.{isFounded}
 use Rattle.program.specs.declared.Variable.{Variable}
@@ -233,6 +234,10 @@ module _ (vs : List Variable) (form : ℕ) (b : List ℕ) (terms own all : Fault
 -- the faults before a body, as conditions
 abbrev pub own-of : Bool → Bool → Bool → Faults
 own-of a b c = record { form = a; range = b; variable = c; repeated = false; negative = false }
+
+-- nothing is wrong before a body or with it
+pub all-sound : {vs : List Variable} {form : ℕ} {ts : List Term} → Faultless vs form ts → 0 ≡ inOrder vs form ts (own-of false false false) false
+all-sound h = first-six (sym (h .forms)) (sym (h .ranges)) (sym (h .declared)) (sym (h .count)) (sym (h .distinct)) (sym (h .lows))
 
 or-none : (a : Bool) {b : Bool} → b ≡ false → a ≡ (a || b)
 or-none true e = refl

@@ -22,6 +22,8 @@ use parts::variables;
 use program::Refusal;
 use program::Variable;
 
+pub mod sound;
+
 pub fn is_below(a: i64, b: i64) -> bool
     ensures { λ r. ⌜ r ≡ ltZ a b ⌝ }
 {
@@ -192,6 +194,9 @@ fn check_divided(file: &[u8], variables: usize, value: &[u8]) -> Checked
     if is_not_terms(value.len(), 4, 1 + Format::MAX_TERMS) {
         return Checked::Bad(Refusal::WrongLength);
     }
+    if sound::is_sound_divided(file, variables, value) {
+        return Checked::Fine;
+    }
     check_divided_parts(file, variables, value)
 }
 
@@ -207,6 +212,9 @@ pub fn check_rule(file: &[u8], variables: usize, value: &[u8]) -> Checked
     }
     if is_not_terms(value.len(), 4, Format::MAX_TERMS) {
         return Checked::Bad(Refusal::WrongLength);
+    }
+    if sound::is_sound_rule(file, variables, value) {
+        return Checked::Fine;
     }
     check_rule_parts(file, variables, value)
 }
@@ -258,6 +266,9 @@ pub fn check_constraint(file: &[u8], variables: usize, value: &[u8]) -> Checked
 {
     if is_not_terms(value.len(), 3, Format::MAX_TERMS) {
         return Checked::Bad(Refusal::WrongLength);
+    }
+    if sound::is_sound_constraint(file, variables, value) {
+        return Checked::Fine;
     }
     check_constraint_parts(file, variables, value)
 }

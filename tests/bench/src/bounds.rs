@@ -14,7 +14,7 @@ fn proved_bounds(file: &[u8], ranges: &[u8], b: &mut [u8]) -> u64 {
 }
 
 /// The ranges stand in the place of an assignment.
-const BOUNDS: Row = Row {
+pub const BOUNDS: Row = Row {
     name: "bounds",
     calls: [
         proved_bounds,
@@ -49,7 +49,7 @@ pub fn rows() -> Vec<Plan> {
 }
 
 /// Ranges for a file's first fields, inside the declared ones but for a few: single, declared, or drawn.
-fn drawn(s: &mut Seed, file: &[u8], assignment: &[u8]) -> Vec<u8> {
+pub fn drawn(s: &mut Seed, file: &[u8], assignment: &[u8]) -> Vec<u8> {
     let singles = s.next(5);
     let mut ranges = Vec::new();
     for (field, value) in file.as_chunks::<8>().0.iter().zip(assignment.as_chunks::<2>().0) {

@@ -1,4 +1,6 @@
 //! The files that are timed.
+pub mod circles;
+pub mod draft;
 pub mod lent;
 pub mod orders;
 pub mod trees;
@@ -286,7 +288,7 @@ pub const DIVIDED: &[u8] = &[8];
 pub const ALL: &[u8] = &[1, 2, 3, 4, 5, 6, 7, 8];
 
 /// A term: variable, op and number.
-type Term = (usize, u8, i64);
+pub type Term = (usize, u8, i64);
 
 /// So many different variables below a number that are fit.
 fn names(s: &mut Seed, most: usize, below: usize, fit: impl Fn(usize) -> bool) -> Vec<usize> {

@@ -4,14 +4,18 @@
 //! inputs with variables founded from above, on seeded files to be written anew, on seeded nested files, on seeded files with lent ranges and, of the
 //! search of components, on seeded sets.
 //!
-//! bench: the tables. bench hold [seeded inputs] [first seed]: no table. bench flatten: the table of flatten alone. bench bounds [seeded inputs]
-//! [first seed]: those of bounds alone, which is held to the proved call before.
+//! bench: the tables, that of circles in part. bench hold [seeded inputs] [first seed]: no table. bench flatten: the table of flatten alone. bench
+//! bounds [seeded inputs] [first seed]: those of bounds alone, which is held to the proved call before. bench circles: the whole table of files that
+//! climb by little a lap. bench climbs [seeded inputs] [first seed]: least, check and bounds held to the proved calls on small ones of these alone.
+//! bench slowest [fast] [seed] [seconds] [variables] [rules]: a search for slow files, by the time of the proved calls or by the fast calls' work.
 mod bounds;
+mod circles;
 mod fast;
 mod files;
 mod flat;
 mod port;
 mod search;
+mod slowest;
 mod turned;
 
 use files::orders;
@@ -175,6 +179,9 @@ fn hold_written(first: u64, inputs: u64) {
     }
     println!("So does normalize on these, and on {inputs} seeded files to be written anew, of which {written} are written, {shorter} of these shorter.");
 }
+
+/// Of so many seeded inputs one is a file that climbs, on which the calls are slow.
+const CLIMBS: u64 = 25;
 
 const ROUNDS: usize = 25;
 const SLOW: usize = 3;
@@ -350,12 +357,24 @@ fn idle_plans() -> [Plan; 3] {
 fn main() {
     let given: Vec<String> = std::env::args().skip(1).collect();
     let amount = |i: usize, usual: u64| given.get(i).map_or(usual, |a| a.parse().expect("a number"));
-    let (first, inputs) = (amount(2, 0), amount(1, 50_000));
     let asked = |word: &str| given.first().is_some_and(|first| first == word);
+    if asked("slowest") {
+        return slowest::search(slowest::Asked::of(&given[1..]));
+    }
+    let (first, inputs) = (amount(2, 0), amount(1, 50_000));
     if asked("bounds") {
         let half_filled = bounds::rows();
         bounds::hold(first, inputs);
         return bounds::table(&half_filled);
+    }
+    if asked("climbs") {
+        return slowest::hold(first, inputs);
+    }
+    if asked("circles") {
+        return circles::table(true);
+    }
+    if asked("timed") {
+        return circles::child(std::array::from_fn(|i| amount(i + 1, 0) as usize));
     }
     if asked("flatten") {
         return flat::table(&flat::rows());
@@ -368,6 +387,7 @@ fn main() {
     search::hold(first, inputs);
     flat::hold(first, inputs);
     bounds::hold(first, inputs);
+    slowest::hold(first, inputs / CLIMBS);
     if asked("hold") {
         return;
     }
@@ -387,4 +407,5 @@ fn main() {
     }
     flat::table(&nested);
     bounds::table(&half_filled);
+    circles::table(false);
 }

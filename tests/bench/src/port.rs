@@ -25,7 +25,7 @@ pub struct Counts {
     pub constraints: usize,
 }
 
-fn word(s: &[u8], i: usize) -> usize {
+pub fn word(s: &[u8], i: usize) -> usize {
     (s[i] as usize) << 8 | s[i + 1] as usize
 }
 
@@ -208,6 +208,63 @@ fn wrong_count(form: u8, n: usize) -> bool {
     }
 }
 
+// ---- a body with which nothing is wrong, at one quick look
+
+/// Whether the number of two bytes lies in -m..m.
+fn near(s: &[u8], i: usize, m: usize) -> bool {
+    (word(s, i) + m) % 65_536 <= 2 * m
+}
+
+fn is_bare(body: &[u8], i: usize) -> bool {
+    body[4 * i + 1] == 0 && word(body, 4 * i + 2) == 0
+}
+
+fn is_weight(body: &[u8], i: usize) -> bool {
+    body[4 * i + 1] == 0 && word(body, 4 * i + 2) != 0 && near(body, 4 * i + 2, 1_000)
+}
+
+fn is_literal(body: &[u8], i: usize) -> bool {
+    matches!(body[4 * i + 1], 1 | 2) && near(body, 4 * i + 2, 30_000)
+}
+
+/// Takes the variable of term i into the set of those before it: whether it is declared and new.
+fn is_new(variables: usize, seen: &mut [u64; WORDS], body: &[u8], i: usize) -> bool {
+    let x = body[4 * i] as usize;
+    if variables <= x || bit(seen, x) {
+        return false;
+    }
+    seen[x / 64] |= 1 << (x % 64);
+    true
+}
+
+fn are_bare(variables: usize, seen: &mut [u64; WORDS], body: &[u8]) -> bool {
+    (0..body.len() / 4).all(|i| is_bare(body, i) && is_new(variables, seen, body, i))
+}
+
+fn are_weights(variables: usize, seen: &mut [u64; WORDS], body: &[u8]) -> bool {
+    (0..body.len() / 4).all(|i| is_weight(body, i) && is_new(variables, seen, body, i))
+}
+
+fn are_literals(variables: usize, seen: &mut [u64; WORDS], body: &[u8], from: usize) -> bool {
+    (from..body.len() / 4).all(|i| is_literal(body, i) && is_new(variables, seen, body, i))
+}
+
+fn is_low_fine(file: &[u8], x: u8) -> bool {
+    0 <= low(file, x as usize)
+}
+
+fn is_faultless(file: &[u8], variables: usize, body: &[u8], form: u8) -> bool {
+    let mut seen = [0; WORDS];
+    match (form, body.len() / 4) {
+        (1, ..=TERMS) => are_weights(variables, &mut seen, body),
+        (2 | 3, 1..=TERMS) | (5, 1) => are_bare(variables, &mut seen, body),
+        (4, 2) => are_bare(variables, &mut seen, body) && is_low_fine(file, body[0]) && is_low_fine(file, body[4]),
+        (6, 1..=TERMS) => are_literals(variables, &mut seen, body, 0),
+        (7, 2..=TERMS) => is_bare(body, 0) && is_new(variables, &mut seen, body, 0) && are_literals(variables, &mut seen, body, 1),
+        _ => false,
+    }
+}
+
 fn terms_fit(len: usize, header: usize, most: usize) -> bool {
     len >= header && (len - header) % 4 == 0 && (len - header) / 4 <= most
 }
@@ -246,10 +303,28 @@ fn check_divided_parts(file: &[u8], variables: usize, v: &[u8]) -> u8 {
     body_refusal(file, variables, 1, body, own, missing | wrong_count(1, body.len() / 4))
 }
 
+/// The same at one quick look.
+fn is_sound_rule(file: &[u8], variables: usize, v: &[u8]) -> bool {
+    let body = body(v);
+    !beyond(number(v, 2), 30_000) && !wrong_head(file, variables, v[1] as usize) && is_faultless(file, variables, body, v[0])
+}
+
+fn is_sound_divided(file: &[u8], variables: usize, v: &[u8]) -> bool {
+    let (part, body) = (divisor_part(v), body(v));
+    part.len() / 4 == 1
+        && divisor_faults(part) == (false, false)
+        && !beyond(number(v, 2), 30_000)
+        && !wrong_head(file, variables, v[1] as usize)
+        && is_faultless(file, variables, body, 1)
+}
+
 /// A rule of form 8.
 fn check_divided(file: &[u8], variables: usize, v: &[u8]) -> u8 {
     if !terms_fit(v.len(), 4, 1 + TERMS) {
         return 6;
+    }
+    if is_sound_divided(file, variables, v) {
+        return 0;
     }
     check_divided_parts(file, variables, v)
 }
@@ -263,6 +338,9 @@ fn check_rule(file: &[u8], variables: usize, v: &[u8]) -> u8 {
     }
     if !terms_fit(v.len(), 4, TERMS) {
         return 6;
+    }
+    if is_sound_rule(file, variables, v) {
+        return 0;
     }
     check_rule_parts(file, variables, v)
 }
@@ -291,9 +369,17 @@ fn check_constraint_parts(file: &[u8], variables: usize, v: &[u8]) -> u8 {
     body_refusal(file, variables, form, body, own, wrong_count(form, body.len() / 4))
 }
 
+fn is_sound_constraint(file: &[u8], variables: usize, v: &[u8]) -> bool {
+    let (c, body) = (number(v, 1), &v[3..]);
+    !beyond(c, 30_000) && !wrong_constraint(v[0], c) && is_faultless(file, variables, body, body_form(v[0]))
+}
+
 fn check_constraint(file: &[u8], variables: usize, v: &[u8]) -> u8 {
     if !terms_fit(v.len(), 3, TERMS) {
         return 6;
+    }
+    if is_sound_constraint(file, variables, v) {
+        return 0;
     }
     check_constraint_parts(file, variables, v)
 }
@@ -411,11 +497,13 @@ fn nearest(low: i64, high: i64) -> i64 {
 
 /// The value from low to high at which a position that pushes this way makes a rule demand most; `above` where its head is founded from above.
 fn demanding(above: bool, d: Direction, low: i64, high: i64) -> i64 {
-    match d {
-        Direction::Rising => high,
-        Direction::Falling => low,
-        Direction::Mixed if above => nearest(low, high),
-        Direction::Mixed => furthest(low, high),
+    if d == Direction::Mixed {
+        return if above { nearest(low, high) } else { furthest(low, high) };
+    }
+    if d == Direction::Rising {
+        high
+    } else {
+        low
     }
 }
 
@@ -438,6 +526,14 @@ fn is_no_more(file: &[u8], head: usize, given: Option<i64>) -> bool {
     !is_before(file, head, start(file, head), a)
 }
 
+/// Whether the size in a field's value is idle.
+fn is_idle_size(file: &[u8], v: &[u8]) -> bool {
+    let (x, head) = (body(v)[0] as usize, v[1] as usize);
+    let d = direction(file, v, 0);
+    let most = demanding(is_from_above(file, head), d, low(file, x), high(file, x));
+    is_no_more(file, head, Some(number(v, 2) + most.abs()))
+}
+
 /// Whether the rule in a field's value is idle. The values are lent for it.
 fn is_idle(values: &mut Values, file: &[u8], v: &[u8]) -> bool {
     let head = v[1] as usize;
@@ -448,8 +544,12 @@ fn is_idle(values: &mut Values, file: &[u8], v: &[u8]) -> bool {
 
 // ---- validity
 
-/// Whether a rule offends by the rows; only one with a mixed variable in its head's component is asked whether it is idle.
+/// Whether a rule offends by the rows; only sizes have mixed positions, and only one with a mixed variable in its head's component is asked whether it
+/// is idle.
 fn offends(rows: &[u64], values: &mut Values, file: &[u8], v: &[u8]) -> bool {
+    if v[0] != 5 {
+        return false;
+    }
     let mixed = |i: usize| direction(file, v, i) == Direction::Mixed && share(rows, v[1] as usize, body(v)[4 * i] as usize);
     if !(0..positions(v)).fold(false, |found, i| found | mixed(i)) {
         return false;
@@ -468,14 +568,24 @@ pub fn rules(file: &[u8], k: Counts) -> impl Iterator<Item = (usize, &[u8])> {
     })
 }
 
-fn any_mixed(file: &[u8], k: Counts) -> bool {
-    let mixed = |v: &[u8]| (0..positions(v)).fold(false, |found, i| found | (direction(file, v, i) == Direction::Mixed));
-    rules(file, k).fold(false, |found, (_, v)| found | mixed(v))
+/// Whether a rule has a mixed position and is not idle.
+fn acts_mixed(file: &[u8], v: &[u8]) -> bool {
+    if v[0] != 5 {
+        return false;
+    }
+    if !(0..positions(v)).fold(false, |found, i| found | (direction(file, v, i) == Direction::Mixed)) {
+        return false;
+    }
+    !is_idle_size(file, v)
+}
+
+fn any_acting(file: &[u8], k: Counts) -> bool {
+    rules(file, k).any(|(_, v)| acts_mixed(file, v))
 }
 
 /// The place of the first rule that is not idle and has a mixed variable in its head's component.
 fn first_offending(file: &[u8], k: Counts) -> Option<usize> {
-    if !any_mixed(file, k) {
+    if !any_acting(file, k) {
         return None;
     }
     let mut rows = [0; WORDS * VARIABLES];

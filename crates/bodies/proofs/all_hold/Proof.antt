@@ -1,29 +1,36 @@
--- Invariant: whether every literal before position i holds.
-use mathlib.Core.Path.{_≡_, refl, ap, ap₂, _∙_}
-use mathlib.Core.Bool.{_&&_}
-use Prim.Native.Nat.{_≤_, _-_, _/_}
+-- Invariant: every literal before position i holds.
+use mathlib.Core.Path.{_≡_, refl, sym, ap, ap₂, _∙_}
+use mathlib.Core.Bool.{true, _&&_}
+use Prim.Native.Nat.{_≤_, _<_, _-_, _/_}
 use native.Mathlib.Omega.{arith}
 use lib.ListN.{length}
 use Rattle.program.specs.Program.{termsOf}
 use Rattle.program.specs.Evaluate.{allHold}
 use Rattle.program.proofs.Bodies.{terms-length}
 use Rattle.bodies.specs.Readings.{readingOf}
-use Rattle.bodies.proofs.Loops.{hold-none, hold-more}
+use Rattle.bodies.proofs.Loops.{hold-none, hold-more, hold-fails}
 use borrow.Author.Needs.{needs}
+use borrow.Author.Tests.{not-true, not-false}
 use Rattle.bodies.proofs.all_hold.Statement.{statement}
 use Rattle.bodies.proofs.all_hold.Tie as tie
 
 abbrev Inv-loop : tie.InvT-loop
-Inv-loop body kept first second n all₀ i₀ all i = (i ≤ n) × (n ≡ length body / 4) × (all ≡ allHold (termsOf body) (readingOf kept first second (termsOf body)) i)
+Inv-loop body kept first second n i₀ i = (i ≤ n) × (n ≡ length body / 4) × (true ≡ allHold (termsOf body) (readingOf kept first second (termsOf body)) i)
 
 abbrev μ-loop : tie.MeasureT-loop
-μ-loop body kept first second n all₀ i₀ all i = n - i
+μ-loop body kept first second n i₀ i = n - i
 
 loop-holds : tie.Need-loop-holds Inv-loop μ-loop
 loop-holds c = (omega arith, refl, hold-none _ _)
 
 is-met-requires : tie.Need-is-met-requires Inv-loop μ-loop
 is-met-requires c κs = (omega arith, omega arith)
+
+returns : tie.Need-returns Inv-loop μ-loop
+returns c =
+    let a = c .before .before .before .before .before .args in
+    let l : c .before .before .before .loop .i < length (termsOf (a .body .now)) = omega (arith, terms-length (a .body .now)) in
+    sym (hold-fails _ _ (c .before .before .before .loop .i) _ l (sym (c .before .is-met .ensures) ∙ not-true _ (c .if1 .taken)))
 
 add-i : tie.Need-add-i Inv-loop μ-loop
 add-i c = search needs
@@ -32,10 +39,11 @@ loop-less : tie.Need-loop-less Inv-loop μ-loop
 loop-less c = search needs
 
 loop-again : tie.Need-loop-again Inv-loop μ-loop
-loop-again c = (omega arith, refl, ap₂ _&&_ (c .before .before .loop .inv .2) (c .is-met .ensures) ∙ hold-more _ _ _)
+loop-again c =
+    (omega arith, refl, ap₂ _&&_ (c .before .before .before .loop .inv .2) (sym (not-false _ (c .if1 .left)) ∙ c .before .is-met .ensures) ∙ hold-more _ _ _)
 
-returns : tie.Need-returns Inv-loop μ-loop
-returns c =
+returns-2 : tie.Need-returns-2 Inv-loop μ-loop
+returns-2 c =
     let a = c .before .before .before .args in
     let e : c .before .loop .i ≡ length (termsOf (a .body .now)) = omega (arith, terms-length (a .body .now)) in
     c .before .loop .inv .2 ∙ ap (allHold _ _) e
@@ -43,4 +51,13 @@ returns c =
 pub all-hold-spec : {M : Type 1} → statement M
 all-hold-spec =
     tie.close
-    (tie.spec Inv-loop μ-loop loop-holds is-met-requires add-i loop-less loop-again returns)
+    (tie.spec
+    Inv-loop
+    μ-loop
+    loop-holds
+    is-met-requires
+    returns
+    add-i
+    loop-less
+    loop-again
+    returns-2)

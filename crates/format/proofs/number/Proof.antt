@@ -1,35 +1,31 @@
--- From 32,768 on, 65,536 is taken off.
-use Prim.Native.Nat.{_+_, _*_}
+-- The high byte is read as signed, the low one as it is.
 use native.Mathlib.Omega.{arith}
-use Rattle.format.proofs.Int.{≡-out}
-use Rattle.format.proofs.Ints.{low16, high16, plus-small, plus-is}
+use Rattle.format.proofs.Ints.{top-fits, times-fits, sum-fits, number-is}
 use borrow.Author.Needs.{needs}
 use Rattle.format.proofs.number.Statement.{statement}
 use Rattle.format.proofs.number.Tie as tie
 
-mul-n : tie.Need-mul-n
-mul-n c = search needs
-
-add-n : tie.Need-add-n
-add-n c = search needs
+add-top : tie.Need-add-top
+add-top c = search needs
 
 cast-result : tie.Need-cast-result
 cast-result c = search needs
 
+sub-result : tie.Need-sub-result
+sub-result c = top-fits (c .args .high) (omega arith)
+
+mul-result : tie.Need-mul-result
+mul-result c = times-fits (c .args .high) (omega arith)
+
 cast-result-2 : tie.Need-cast-result-2
 cast-result-2 c = search needs
 
-sub-result : tie.Need-sub-result
-sub-result c = plus-small (c .before .args .high * 256 + c .before .args .low) _ (omega arith) (omega arith)
+add-result : tie.Need-add-result
+add-result c = sum-fits (c .args .high) (c .args .low) (omega arith) (omega arith)
 
 returns : tie.Need-returns
-returns c = low16 (c .before .args .high * 256 + c .before .args .low) (omega arith)
-
-returns-2 : tie.Need-returns-2
-returns-2 c =
-    let n = c .before .args .high * 256 + c .before .args .low in
-    plus-is n _ _ (omega arith) (omega arith) (omega (arith, ≡-out (high16 n (omega arith))))
+returns c = number-is (c .args .high) (c .args .low) (omega arith) (omega arith)
 
 pub number-spec : {M : Type 1} → statement M
 number-spec =
-    tie.close (tie.spec mul-n add-n cast-result cast-result-2 sub-result returns returns-2)
+    tie.close (tie.spec add-top cast-result sub-result mul-result cast-result-2 add-result returns)

@@ -11,6 +11,9 @@ value-at-requires c κs = search needs
 kept-positions-requires : tie.Need-kept-positions-requires
 kept-positions-requires c κs = let h = c .before .before .pre .0 in (standing-here h (c .value-at .ensures), few-here h (c .value-at .ensures))
 
+narrow-requires : tie.Need-narrow-requires
+narrow-requires c κs = search needs
+
 mul-offsets : tie.Need-mul-offsets
 mul-offsets c = search needs
 
@@ -23,33 +26,18 @@ mul-masks c = search needs
 element-write-masks : tie.Need-element-write-masks
 element-write-masks c = search needs
 
-enter-rule-requires : tie.Need-enter-rule-requires
-enter-rule-requires c κs =
-    let s = c .before .before .before .before in
-    let v = c .before .before .value-at .ensures in
-    ((s .pre .1 .0, standing-here (s .pre .0) v .headed, few-here (s .pre .0) v), s .pre .1 .3)
-
 next-at-requires : tie.Need-next-at-requires
 next-at-requires c κs = search needs
 
 returns : tie.Need-returns
 returns c =
-    let s = c .before .before .before .before .before .before in
-    let v = c .before .before .before .before .value-at .ensures in (
-      (simp length-set (s .pre .1 .1), simp length-set (s .pre .1 .2), c .before .enter-rule .ensures .0),
-      entry-made (s .pre .0) v _ _ _ _ _ _ _ (c .next-at .ensures) (c .before .before .before .kept-positions .ensures) (c .before .enter-rule .ensures .1),
+    let s = c .before .before .before .before .before in
+    let v = c .before .before .before .value-at .ensures in (
+      (simp length-set (s .pre .1 .2), simp length-set (s .pre .1 .3)),
+      entry-made (s .pre .0) v _ _ _ _ _ (c .before .narrow .ensures) (c .next-at .ensures) (c .before .before .kept-positions .ensures),
     )
 
 pub enter-spec : {M : Type 1} → statement M
 enter-spec =
     tie.close
-    (tie.spec
-    value-at-requires
-    kept-positions-requires
-    mul-offsets
-    element-write-offsets
-    mul-masks
-    element-write-masks
-    enter-rule-requires
-    next-at-requires
-    returns)
+    (tie.spec value-at-requires kept-positions-requires narrow-requires mul-offsets element-write-offsets mul-masks element-write-masks next-at-requires returns)

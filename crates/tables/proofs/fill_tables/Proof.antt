@@ -9,8 +9,8 @@ use Rattle.program.specs.Program.{Program}
 use Rattle.program.specs.Reading.{Accepts}
 use Rattle.reader.specs.Parts.{rulePlace}
 use Rattle.reader.proofs.Published.{reads-accepts, counts-of, limited, first-rule}
-use Rattle.tables.specs.Tabled.{readersWords, Tabled}
-use Rattle.tables.proofs.TableLaws.{here, tabled-none, tabled-more, tabled-all, next-place, place-after}
+use Rattle.tables.specs.Laid.{FirstPlaced}
+use Rattle.tables.proofs.TableLaws.{here, short-place, placed-more, placed-all, next-place, place-after}
 use Rattle.tables.proofs.fill_tables.Statement.{statement}
 use Rattle.tables.proofs.fill_tables.Tie as tie
 
@@ -18,12 +18,12 @@ last : {i n : ℕ} → i ≤ n → n ≤ i → i ≡ n
 last h k = omega arith
 
 abbrev Inv-loop : tie.InvT-loop
-Inv-loop file offsets₀ masks₀ readers₀ n rules at₀ i₀ offsets masks readers at i =
-    (i ≤ rules) × ((length offsets ≡ maxRules) × (length masks ≡ maxRules) × (length readers ≡ readersWords))
-    × ((P : Program) → Accepts file P → (at ≡ rulePlace file P i) × Tabled file P i offsets masks readers)
+Inv-loop file offsets₀ masks₀ n rules at₀ i₀ offsets masks at i =
+    (i ≤ rules) × ((length offsets ≡ maxRules) × (length masks ≡ maxRules))
+    × ((P : Program) → Accepts file P → (at ≡ rulePlace file P i) × FirstPlaced file P i offsets masks)
 
 abbrev μ-loop : tie.MeasureT-loop
-μ-loop file offsets₀ masks₀ readers₀ n rules at₀ i₀ offsets masks readers at i = rules - i
+μ-loop file offsets₀ masks₀ n rules at₀ i₀ offsets masks at i = rules - i
 
 mul-at : tie.Need-mul-at Inv-loop μ-loop
 mul-at c = let v = limited (c .before .pre .0) in omega arith
@@ -31,17 +31,18 @@ mul-at c = let v = limited (c .before .pre .0) in omega arith
 loop-holds : tie.Need-loop-holds Inv-loop μ-loop
 loop-holds c = let r = c .before .pre .0 in (
   omega arith,
-  c .before .pre .1 .0,
-  λ P x. (omega (arith, first-rule x, counts-of r x .variables-are), tabled-none r x _ _ _ (c .before .pre .1 .1)),
+  c .before .pre .1,
+  λ P x. (omega (arith, first-rule x, counts-of r x .variables-are), λ j l. absurd (omega arith)),
 )
 
 enter-requires : tie.Need-enter-requires Inv-loop μ-loop
-enter-requires c κs = let r = c .before .before .before .before .before .before .pre .0 in
-    let l = c .before .before .before .before .loop in
-    let t = c .before .before .before .loop-test .taken in
+enter-requires c κs = let r = c .before .before .before .before .before .pre .0 in
+    let l = c .before .before .before .loop in
+    let t = c .before .before .loop-test .taken in
     let f = limited r in
     let a = reads-accepts r in
-    (here r (a .accepts) _ _ t (l .inv .2 (a .meant) (a .accepts) .0), (omega arith, l .inv .1 .0, l .inv .1 .1, l .inv .1 .2))
+    let h = here r (a .accepts) _ _ t (l .inv .2 (a .meant) (a .accepts) .0) in
+    (h, (short-place r h, omega arith, l .inv .1 .0, l .inv .1 .1))
 
 add-i : tie.Need-add-i Inv-loop μ-loop
 add-i c = search needs
@@ -50,21 +51,21 @@ loop-less : tie.Need-loop-less Inv-loop μ-loop
 loop-less c = search needs
 
 loop-again : tie.Need-loop-again Inv-loop μ-loop
-loop-again c = let r = c .before .before .before .before .before .before .before .pre .0 in
-    let l = c .before .before .before .before .before .loop in
-    let t = c .before .before .before .before .loop-test .taken in
+loop-again c = let r = c .before .before .before .before .before .before .pre .0 in
+    let l = c .before .before .before .before .loop in
+    let t = c .before .before .before .loop-test .taken in
     let n = c .enter .ensures .1 in (
       omega arith,
       c .enter .ensures .0,
       λ P x. let e = l .inv .2 P x in
-          (next-place r x _ _ _ _ _ _ _ _ _ t (e .0) (l .inv .1 .0) (l .inv .1 .1) n (e .1), tabled-more r x _ _ _ _ _ _ _ _ _ t (e .0) (l .inv .1 .0) (l .inv .1 .1) n (e .1)),
+          (next-place r x _ _ _ _ _ _ _ t (e .0) (l .inv .1 .0) (l .inv .1 .1) n (e .1), placed-more r x _ _ _ _ _ _ _ t (e .0) (l .inv .1 .0) (l .inv .1 .1) n (e .1)),
     )
 
 returns : tie.Need-returns Inv-loop μ-loop
 returns c = let l = c .before .loop in
     let r = c .before .before .before .pre .0 in
     let e = last (l .inv .0) (c .loop-test .left) in
-    (l .inv .1, (λ P x. tabled-all r x e (l .inv .2 P x .1), λ P x. place-after r x e (l .inv .2 P x .0)))
+    (l .inv .1, (record { accepted = r; placed = λ P x. placed-all r x e (l .inv .2 P x .1) }, λ P x. place-after r x e (l .inv .2 P x .0)))
 
 pub fill-tables-spec : {M : Type 1} → statement M
 fill-tables-spec =

@@ -1,20 +1,20 @@
--- Without a mixed position the file is valid; else the rows are what the edges reach, and they decide.
+-- Without a mixed position in a rule that is not idle the file is valid; else the rows are what the edges reach, and they decide.
 use native.Mathlib.Omega.{arith}
 use mathlib.Core.Path.{sym, _∙_}
 use borrow.Author.Tests.{not-true}
 use Rattle.format.specs.Limits.{maxVariables}
 use Rattle.reach.specs.Rows.{rowsLength}
 use Rattle.validity.proofs.RuleLaws.{variables-few}
-use Rattle.validity.proofs.ComponentLaws.{rows-none, values-none, outcome-is-none, outcome-is}
+use Rattle.validity.proofs.ComponentLaws.{rows-none, values-none, outcome-is-idle, outcome-is}
 use borrow.Author.Needs.{needs}
 use Rattle.validity.proofs.judge.Statement.{statement}
 use Rattle.validity.proofs.judge.Tie as tie
 
-any-mixed-requires : tie.Need-any-mixed-requires
-any-mixed-requires c κs = search needs
+any-acting-requires : tie.Need-any-acting-requires
+any-acting-requires c κs = search needs
 
 returns : tie.Need-returns
-returns c = outcome-is-none (c .before .before .before .pre) (sym (c .before .any-mixed .ensures) ∙ not-true _ (c .if1 .taken))
+returns c = outcome-is-idle (c .before .before .before .pre) (sym (c .before .any-acting .ensures) ∙ not-true _ (c .if1 .taken))
 
 mark-edges-requires : tie.Need-mark-edges-requires
 mark-edges-requires c κs = (c .before .before .before .before .before .pre, (omega arith, (omega arith, values-none maxVariables)))
@@ -47,7 +47,7 @@ pub judge-spec : {M : Type 1} → statement M
 judge-spec =
     tie.close
     (tie.spec
-    any-mixed-requires
+    any-acting-requires
     returns
     mark-edges-requires
     slice-aggregate-close

@@ -1,4 +1,4 @@
--- The length first, then the value's parts; form 8 by itself.
+-- The length first, then the value's parts where a quick look does not pass it; form 8 by itself.
 use mathlib.Core.Path.{sym, _∙_}
 use native.Mathlib.Omega.{arith}
 use Rattle.program.proofs.Forms.{divisor-none}
@@ -27,13 +27,21 @@ returns-3 c =
     rule-length _ (c .before .before .before .before .before .before .before .args .value .now) 0 (divisor-none _ (c .before .before .if2 .left))
     (sym (c .before .is-not-terms .ensures) ∙ c .if3 .taken)
 
-check-rule-parts-requires : tie.Need-check-rule-parts-requires
-check-rule-parts-requires c κs = search needs
+is-sound-rule-requires : tie.Need-is-sound-rule-requires
+is-sound-rule-requires c κs = search needs
 
 returns-4 : tie.Need-returns-4
 returns-4 c =
-    rule-rest _ (c .before .before .before .before .before .before .before .before .args .value .now) _ (divisor-none _ (c .before .before .before .if2 .left))
-    (sym (c .before .before .is-not-terms .ensures) ∙ c .before .if3 .left) (c .check-rule-parts .ensures)
+    rule-rest _ (c .before .before .before .before .before .before .before .before .before .args .value .now) _ (divisor-none _ (c .before .before .before .before .if2 .left))
+    (sym (c .before .before .before .is-not-terms .ensures) ∙ c .before .before .if3 .left) (c .before .is-sound-rule .ensures (c .if4 .taken))
+
+check-rule-parts-requires : tie.Need-check-rule-parts-requires
+check-rule-parts-requires c κs = search needs
+
+returns-5 : tie.Need-returns-5
+returns-5 c =
+    rule-rest _ (c .before .before .before .before .before .before .before .before .before .before .args .value .now) _ (divisor-none _ (c .before .before .before .before .before .if2 .left))
+    (sym (c .before .before .before .before .is-not-terms .ensures) ∙ c .before .before .before .if3 .left) (c .check-rule-parts .ensures)
 
 pub check-rule-spec : {M : Type 1} → statement M
 check-rule-spec =
@@ -45,5 +53,7 @@ check-rule-spec =
     returns-2
     is-not-terms-requires
     returns-3
+    is-sound-rule-requires
+    returns-4
     check-rule-parts-requires
-    returns-4)
+    returns-5)

@@ -3,6 +3,7 @@
 mod bounds;
 mod flat;
 mod graph;
+mod jump;
 mod normal;
 mod read;
 mod run;
@@ -12,6 +13,7 @@ mod set;
 use crate::port::pack;
 pub use bounds::bounds_call;
 pub use flat::flatten_call;
+pub use jump::tallied;
 pub use normal::normalize_call;
 use read::{Program, Refusal, Skip};
 use run::Values;

@@ -1,6 +1,7 @@
 //! The least model. A few sweeps over the rules as they stand are enough for most plans; then the reduct is written out, its constant parts
 //! folded, and run component by component, each round by round over the rules that wait.
 use super::graph::Graph;
+use super::jump::Raises;
 use super::read::{founded, from_above, high, low, number, Constraint, Program, Rule, Term, Variable};
 use super::set::Set;
 
@@ -16,7 +17,7 @@ fn holds(t: &Term, ups: &Values, downs: &Values) -> bool {
 }
 
 /// a over d, rounded up.
-fn over_up(a: i32, d: i32) -> i32 {
+pub fn over_up(a: i32, d: i32) -> i32 {
     if a > 0 {
         (a + d - 1) / d
     } else {
@@ -25,7 +26,7 @@ fn over_up(a: i32, d: i32) -> i32 {
 }
 
 /// a over d, rounded down.
-fn over_down(a: i32, d: i32) -> i32 {
+pub fn over_down(a: i32, d: i32) -> i32 {
     -over_up(-a, d)
 }
 
@@ -193,56 +194,138 @@ impl<const GOAL: bool, const CUT: bool> Run<'_, GOAL, CUT> {
             }
             before = raised;
         }
-        let reduct = Reduct::of(self);
-        let mut waits = vec![0u64; reduct.lifts.len().div_ceil(64)];
+        let (reduct, literals) = Reduct::of(self);
+        let mut waits = Waits::new(&reduct, literals);
+        let mut raises = Raises::new();
         for part in reduct.lifts.chunk_by(|a, b| a.component == b.component) {
-            self.settle(&reduct, part, &mut waits)?;
+            raises.start(part);
+            self.settle(&reduct, part, &mut waits, &mut raises)?;
         }
         Ok(())
     }
 
     /// Whether a rule of the reduct raises its head.
-    fn lift(&mut self, reduct: &Reduct, lift: &Lift) -> Result<bool, End> {
+    fn lift(&mut self, reduct: &Reduct, lift: &Lift, raises: &mut Raises) -> Result<bool, End> {
         let given = lift.gives(&reduct.terms, &self.model);
         if given <= self.model[lift.head as usize] as i32 || CUT && self.full(lift.head) {
             return Ok(false);
         }
+        let before = self.model[lift.head as usize];
         self.raise(lift.head, given)?;
+        raises.raised(lift, &reduct.terms, before, &self.model);
         Ok(true)
     }
 
+    /// How far a variable may rise.
+    fn far(&self, v: u8) -> i16 {
+        let variable = &self.program.variables[v as usize];
+        match (GOAL, from_above(variable)) {
+            (true, _) => self.goal[v as usize],
+            (_, true) => -low(variable),
+            _ => high(variable),
+        }
+    }
+
+    /// Jumps where that is due after a round and the rules lift so far; the variables that rose.
+    fn jump(&mut self, reduct: &Reduct, looked: usize, raises: &mut Raises) -> Result<Vec<u8>, End> {
+        if !raises.due(looked) {
+            return Ok(Vec::new());
+        }
+        let Some(jump) = raises.jump(reduct, &self.model, |v| self.far(v)) else { return Ok(Vec::new()) };
+        for &v in &jump.rose {
+            self.raise(v, jump.aims[v as usize] as i32)?;
+        }
+        Ok(jump.rose)
+    }
+
     /// Runs one component: whole rounds as long as a good part of its rules lifts, then by the rules that wait.
-    fn settle(&mut self, reduct: &Reduct, part: &[Lift], waits: &mut [u64]) -> Result<(), End> {
+    fn settle(&mut self, reduct: &Reduct, part: &[Lift], waits: &mut Waits, raises: &mut Raises) -> Result<(), End> {
         loop {
             let mut raised = 0;
             for lift in part {
-                raised += self.lift(reduct, lift)? as usize;
+                raised += self.lift(reduct, lift, raises)? as usize;
             }
             if raised == 0 {
                 return Ok(());
             }
+            self.jump(reduct, part.len(), raises)?;
             if 4 * raised < part.len() {
                 break;
             }
         }
         let from = part[0].number as usize;
         let to = from + part.len();
-        (from..to).for_each(|i| waits[i / 64] |= 1 << (i % 64));
+        waits.start(reduct, part, &self.model);
         loop {
-            let mut at = from;
-            while let Some(i) = next(waits, at, to) {
-                waits[i / 64] &= !(1 << (i % 64));
+            let (mut at, mut looked) = (from, 0);
+            while let Some(i) = waits.next(at, to) {
                 at = i + 1;
-                if self.lift(reduct, &reduct.lifts[i])? {
-                    for &r in reduct.readers(reduct.lifts[i].head) {
-                        waits[r as usize / 64] |= 1 << (r % 64);
-                    }
+                looked += 1;
+                if self.lift(reduct, &reduct.lifts[i], raises)? {
+                    waits.wake(reduct, reduct.lifts[i].head, &self.model);
                 }
             }
             if at == from {
                 return Ok(());
             }
+            for v in self.jump(reduct, looked, raises)? {
+                waits.wake(reduct, v, &self.model);
+            }
         }
+    }
+}
+
+/// The rules that wait, one bit each. A rule with literals waits only when none of them is unmet.
+struct Waits {
+    bits: Vec<u64>,
+    unmet: Vec<u8>,
+    /// For each variable the literals that read it, of a component that has started by their numbers, and how many of them are met.
+    literals: Lists<(i16, u16)>,
+    met: [u16; 256],
+}
+
+impl Waits {
+    fn new(reduct: &Reduct, literals: Lists<(i16, u16)>) -> Waits {
+        Waits { bits: vec![0; reduct.lifts.len().div_ceil(64)], unmet: vec![0; reduct.lifts.len()], literals, met: [0; 256] }
+    }
+
+    /// All rules of a component wait but those with an unmet literal.
+    fn start(&mut self, reduct: &Reduct, part: &[Lift], model: &Values) {
+        for lift in part {
+            let literals = lift.literals(&reduct.terms);
+            let unmet = literals.iter().filter(|t| model[t.0 as usize] < t.1).count();
+            self.unmet[lift.number as usize] = unmet as u8;
+            self.put(lift.number);
+        }
+        for heads in part.chunk_by(|a, b| a.head == b.head) {
+            let v = heads[0].head;
+            let literals = self.literals.of_mut(v);
+            literals.sort_unstable();
+            self.met[v as usize] = literals.partition_point(|l| l.0 <= model[v as usize]) as u16;
+        }
+    }
+
+    fn put(&mut self, rule: u16) {
+        let unmet = self.unmet[rule as usize];
+        self.bits[rule as usize / 64] |= u64::from(unmet == 0) << (rule % 64);
+    }
+
+    /// After a variable has risen.
+    fn wake(&mut self, reduct: &Reduct, v: u8, model: &Values) {
+        reduct.readers.of(v).iter().for_each(|&r| self.put(r));
+        let met = |waits: &Waits| waits.literals.of(v).get(waits.met[v as usize] as usize).copied();
+        while let Some((_, r)) = met(self).filter(|l| l.0 <= model[v as usize]) {
+            self.met[v as usize] += 1;
+            self.unmet[r as usize] -= 1;
+            self.put(r);
+        }
+    }
+
+    /// The first from `at` on, below `to`, that waits; it waits no longer.
+    fn next(&mut self, at: usize, to: usize) -> Option<usize> {
+        let i = next(&self.bits, at, to)?;
+        self.bits[i / 64] &= !(1 << (i % 64));
+        Some(i)
     }
 }
 
@@ -262,7 +345,7 @@ fn next(words: &[u64], at: usize, to: usize) -> Option<usize> {
 }
 
 #[derive(Clone, Copy)]
-enum Kind {
+pub enum Kind {
     /// A kept place times a number.
     One(u8, i16),
     Sum,
@@ -281,26 +364,41 @@ enum Kind {
 /// A rule of the reduct, all values turned: the kept places alone, with their numbers; `most` is the least of the other places of a min. What it
 /// gives rises with every place, which has no negative number.
 #[derive(Clone, Copy)]
-struct Lift {
-    kind: Kind,
-    head: u8,
+pub struct Lift {
+    pub kind: Kind,
+    pub head: u8,
     component: u8,
-    number: u16,
+    pub number: u16,
     start: u16,
     end: u16,
-    c: i32,
-    most: i32,
+    pub c: i32,
+    pub most: i32,
 }
 
-type Kept = (u8, i16);
+pub type Kept = (u8, i16);
 
 impl Lift {
-    fn body<'a>(&self, terms: &'a [Kept]) -> &'a [Kept] {
+    pub fn body<'a>(&self, terms: &'a [Kept]) -> &'a [Kept] {
         &terms[self.start as usize..self.end as usize]
     }
 
+    /// The places that are literals.
+    fn literals<'a>(&self, terms: &'a [Kept]) -> &'a [Kept] {
+        match self.kind {
+            Kind::If => self.body(terms),
+            Kind::Carry => &self.body(terms)[1..],
+            _ => &[],
+        }
+    }
+
+    /// The others.
+    fn plain<'a>(&self, terms: &'a [Kept]) -> &'a [Kept] {
+        let body = self.body(terms);
+        &body[..body.len() - self.literals(terms).len()]
+    }
+
     /// What it gives; a sum over a number only where that is more than its head has.
-    fn gives(&self, terms: &[Kept], model: &Values) -> i32 {
+    pub fn gives(&self, terms: &[Kept], model: &Values) -> i32 {
         let at = |t: &Kept| model[t.0 as usize] as i32;
         let all = |terms: &[Kept]| terms.iter().all(|t| model[t.0 as usize] >= t.1);
         if let Kind::One(x, k) = self.kind {
@@ -323,30 +421,61 @@ impl Lift {
     }
 }
 
-/// The rules that may still lift a head, by component and turn, and for each variable those of its own component that read it.
-struct Reduct {
-    lifts: Vec<Lift>,
-    terms: Vec<Kept>,
+/// For each variable a list.
+pub struct Lists<T> {
     starts: Vec<u16>,
-    readers: Vec<u16>,
+    all: Vec<T>,
+}
+
+impl<T: Copy + Default> Lists<T> {
+    /// Members with their variables, put into the lists in this order.
+    fn new(n: usize, members: &[(u8, T)]) -> Lists<T> {
+        let mut starts = vec![0u16; n + 1];
+        members.iter().for_each(|m| starts[m.0 as usize + 1] += 1);
+        for v in 0..n {
+            starts[v + 1] += starts[v];
+        }
+        let (mut next, mut all) = (starts.clone(), vec![T::default(); members.len()]);
+        for &(v, member) in members {
+            all[next[v as usize] as usize] = member;
+            next[v as usize] += 1;
+        }
+        Lists { starts, all }
+    }
+
+    fn of(&self, v: u8) -> &[T] {
+        &self.all[self.starts[v as usize] as usize..self.starts[v as usize + 1] as usize]
+    }
+
+    fn of_mut(&mut self, v: u8) -> &mut [T] {
+        &mut self.all[self.starts[v as usize] as usize..self.starts[v as usize + 1] as usize]
+    }
+}
+
+/// The rules that may still lift a head, by component and turn, and for each variable those of its own component that read it in a plain place.
+pub struct Reduct {
+    pub lifts: Vec<Lift>,
+    pub terms: Vec<Kept>,
+    readers: Lists<u16>,
 }
 
 impl Reduct {
-    fn of<const GOAL: bool, const CUT: bool>(run: &Run<GOAL, CUT>) -> Reduct {
+    /// With the literals that read each variable, of its own component.
+    fn of<const GOAL: bool, const CUT: bool>(run: &Run<GOAL, CUT>) -> (Reduct, Lists<(i16, u16)>) {
         let n = run.program.variables.len();
         let mut lifts = Vec::new();
         let mut terms = Vec::new();
         let mut graph = Graph::new(n);
         for rule in run.program.rules.iter().filter(|r| !run.full(r.head)) {
             let start = terms.len();
-            let Some(mut lift) = reduced(run.program, rule, run.ups, run.downs, &mut terms) else {
+            let Some(mut lift) = reduced(run.program, rule, (run.ups, run.downs), &run.model, &mut terms) else {
                 terms.truncate(start);
                 continue;
             };
             graph.edges(rule.head, terms[start..].iter().map(|t| t.0));
             lift.kind = match (lift.kind, &terms[start..]) {
-                // it has given what it gives
-                (_, []) => continue,
+                // a literal may be met since the rule was last looked at; any other has given what it gives
+                (kind, []) if !matches!(kind, Kind::If) => continue,
                 (Kind::Sum, &[(x, k)]) => Kind::One(x, k),
                 (Kind::Max | Kind::Carry, &[(x, _)]) => Kind::One(x, 1),
                 (kind, _) => kind,
@@ -356,38 +485,23 @@ impl Reduct {
         }
         let places = graph.components();
         lifts.sort_by_key(|l| places[l.head as usize]);
-        let mut starts = vec![0u16; n + 1];
         for (i, l) in lifts.iter_mut().enumerate() {
             l.number = i as u16;
             l.component = places[l.head as usize].0;
         }
-        let within = |l: &Lift, t: &Kept| places[t.0 as usize].0 == l.component;
+        let (mut readers, mut literals) = (Vec::new(), Vec::new());
         for l in &lifts {
-            for t in l.body(&terms).iter().filter(|t| within(l, t)) {
-                starts[t.0 as usize + 1] += 1;
-            }
+            let within = |t: &&Kept| places[t.0 as usize].0 == l.component;
+            readers.extend(l.plain(&terms).iter().filter(within).map(|t| (t.0, l.number)));
+            literals.extend(l.literals(&terms).iter().filter(within).map(|t| (t.0, (t.1, l.number))));
         }
-        for v in 0..n {
-            starts[v + 1] += starts[v];
-        }
-        let mut next = starts.clone();
-        let mut readers = vec![0; starts[n] as usize];
-        for l in &lifts {
-            for t in l.body(&terms).iter().filter(|t| within(l, t)) {
-                readers[next[t.0 as usize] as usize] = l.number;
-                next[t.0 as usize] += 1;
-            }
-        }
-        Reduct { lifts, terms, starts, readers }
-    }
-
-    fn readers(&self, v: u8) -> &[u16] {
-        &self.readers[self.starts[v as usize] as usize..self.starts[v as usize + 1] as usize]
+        (Reduct { lifts, terms, readers: Lists::new(n, &readers) }, Lists::new(n, &literals))
     }
 }
 
-/// A rule with all but its kept places replaced, and turned; nothing where a replaced literal does not hold.
-fn reduced(program: &Program, rule: &Rule, ups: &Values, downs: &Values, terms: &mut Vec<Kept>) -> Option<Lift> {
+/// A rule with all but its kept places replaced, and turned; nothing where a replaced literal does not hold. A literal that is met stays so and is
+/// left out.
+fn reduced(program: &Program, rule: &Rule, (ups, downs): (&Values, &Values), model: &Values, terms: &mut Vec<Kept>) -> Option<Lift> {
     let variable = |t: &Term| &program.variables[t[0] as usize];
     let down = rule.down;
     // a plain place that what is given rises with
@@ -401,7 +515,10 @@ fn reduced(program: &Program, rule: &Rule, ups: &Values, downs: &Values, terms: 
         for t in literals {
             let x = variable(t);
             if founded(x) && from_above(x) == (t[1] == 2) {
-                terms.push((t[0], if from_above(x) { 1 - number(t) } else { number(t) }));
+                let least = if from_above(x) { 1 - number(t) } else { number(t) };
+                if model[t[0] as usize] < least {
+                    terms.push((t[0], least));
+                }
             } else if !holds(t, ups, downs) {
                 return None;
             }

@@ -14,7 +14,7 @@ fn lent(p: &Plan, name: &str, range: impl Fn(usize) -> (i64, i64)) -> Plan {
 }
 
 /// The declared ranges.
-fn whole(p: &Plan, name: &str) -> Plan {
+pub fn whole(p: &Plan, name: &str) -> Plan {
     lent(p, name, |v| (ends(p, v).0, ends(p, v).1))
 }
 

@@ -10,9 +10,10 @@ fn row_has(rows: &[u64], i: usize, v: usize) -> bool {
     (w >> (v % 64)) % 2 == 1
 }
 
-fn mark(rows: &mut Rows, i: usize, v: usize) {
+/// Row i takes in v where the test says so, without a branch.
+fn mark_where(rows: &mut Rows, i: usize, v: usize, test: bool) {
     let at = WORDS * i + v / 64;
-    rows[at] |= 1 << (v % 64);
+    rows[at] |= u64::from(test) << (v % 64);
 }
 
 /// The edges that a rule draws: an idle one draws none.
@@ -23,9 +24,7 @@ fn mark_rule(rows: &mut Rows, values: &mut Values, file: &[u8], v: &[u8]) {
     for i in 0..positions(v) {
         let x = body(v)[4 * i] as usize;
         let d = direction(file, v, i);
-        if is_kept(file, x, d) | (d == Direction::Mixed) {
-            mark(rows, v[1] as usize, x);
-        }
+        mark_where(rows, v[1] as usize, x, is_kept(file, x, d) | (d == Direction::Mixed));
     }
 }
 

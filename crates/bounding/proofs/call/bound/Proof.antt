@@ -3,40 +3,39 @@ use mathlib.Core.Path.{refl}
 use lib.IntN.{pos}
 use lib.ListN.{replicate}
 use Rattle.format.specs.Limits.{maxVariables}
-use Rattle.words.proofs.Bits.{none-in}
 use Rattle.program.specs.Readings.{valued}
 use Rattle.reader.proofs.Published.{limited}
 use Rattle.reduct.proofs.Fills.{zeros}
-use Rattle.tables.specs.Tabled.{readersWords}
-use Rattle.bounding.proofs.CallLaws.{zero-past, bound-task, some-task, ends-bounds, bounds-small, bounds-written}
+use Rattle.tables.proofs.LaidLaws.{offsets-of}
+use Rattle.bounding.proofs.CallLaws.{zero-past, bound-basis, some-basis, ends-bounds, bounds-small, bounds-written}
 use borrow.Author.Needs.{needs}
 use Rattle.bounding.proofs.call.bound.Statement.{statement}
 use Rattle.bounding.proofs.call.bound.Tie as tie
 
 fill-tables-requires : tie.Need-fill-tables-requires
-fill-tables-requires c κs = let b = c .before .before .before .before .before in (b .pre .0, ((refl, refl, refl), none-in readersWords))
+fill-tables-requires c κs = let b = c .before .before .before .before in (b .pre .0, (refl, refl))
 
 set-masks-requires : tie.Need-set-masks-requires
 set-masks-requires c κs =
-    let b = c .before .before .before .before .before .before .before .before in
+    let b = c .before .before .before .before .before .before .before in
     let t = c .before .before .fill-tables .ensures in
-    (b .pre .0, (λ P x i h. t .1 .0 P x .place-is i h, t .0 .1))
+    (b .pre .0, (offsets-of (t .1 .0), t .0 .1))
 
 set-ends-requires : tie.Need-set-ends-requires
-set-ends-requires c κs = let l = limited (c .before .before .before .before .before .before .before .before .before .before .before .pre .0) in ((l .inside, l .few-variables), (refl, refl))
+set-ends-requires c κs = let l = limited (c .before .before .before .before .before .before .before .before .before .before .pre .0) in ((l .inside, l .few-variables), (refl, refl))
 
 reckon-requires : tie.Need-reckon-requires
 reckon-requires c κs =
-    let b = c .before .before .before .before .before .before .before .before .before .before .before .before .before .before .before .before .before .before in
+    let b = c .before .before .before .before .before .before .before .before .before .before .before .before .before .before .before .before in
     let a = b .args in
     let low = valued (a .lows .now) in
     let high = valued (a .highs .now) in
-    let t = c .before .before .before .before .before .before .before .before .before .before .before .before .fill-tables in
-    let m = c .before .before .before .before .before .before .before .before .before .set-masks in
-    let e = c .before .before .before .before .before .before .set-ends in (
+    let t = c .before .before .before .before .before .before .before .before .before .before .before .fill-tables in
+    let m = c .before .before .before .before .before .before .before .before .set-masks in
+    let e = c .before .before .before .before .before .set-ends in (
       b .pre .0,
       (
-        some-task (a .file .now) (a .counts) (b .pre .0) low high (b .pre .1 .0) (t .ensures .1 .0) (m .last .1 .1 .1 .1 .1 .0) (m .ensures .1) (replicate maxVariables (pos 0)) (e .last .1 .1 .1 .1 .0) (e .last .1 .1 .1 .1 .1 .0)
+        some-basis (a .file .now) (a .counts) (b .pre .0) low high (b .pre .1 .0) (t .ensures .1 .0) (m .last .1 .1 .1 .1 .1 .0) (m .ensures .1) (replicate maxVariables (pos 0)) (e .last .1 .1 .1 .1 .0) (e .last .1 .1 .1 .1 .1 .0)
             (zeros maxVariables) (e .ensures .1 .0) (e .ensures .1 .1),
         (zero-past (a .file .now) (a .counts) (b .pre .0) low high (b .pre .1 .0) _ (zeros maxVariables), refl),
       ),
@@ -44,17 +43,17 @@ reckon-requires c κs =
 
 write-values-requires : tie.Need-write-values-requires
 write-values-requires c κs =
-    let b = c .before .before .before .before .before .before .before .before .before .before .before .before .before .before .before .before .before .before .before .before .before in
+    let b = c .before .before .before .before .before .before .before .before .before .before .before .before .before .before .before .before .before .before .before in
     let a = b .args in
     let low = valued (a .lows .now) in
     let high = valued (a .highs .now) in
-    let t = c .before .before .before .before .before .before .before .before .before .before .before .before .before .before .before .fill-tables in
-    let m = c .before .before .before .before .before .before .before .before .before .before .before .before .set-masks in
-    let e = c .before .before .before .before .before .before .before .before .before .set-ends in
+    let t = c .before .before .before .before .before .before .before .before .before .before .before .before .before .before .fill-tables in
+    let m = c .before .before .before .before .before .before .before .before .before .before .before .set-masks in
+    let e = c .before .before .before .before .before .before .before .before .set-ends in
     let r = c .before .before .reckon in
-    let n = r .last .1 .1 .1 .1 .1 .1 .1 .1 .1 .0 in
+    let n = r .last .1 .1 .1 .1 .1 .1 .1 .1 .0 in
     let w = ends-bounds (a .file .now) (a .counts) (b .pre .0) low high (b .pre .1 .0) (valued n) (r .result)
-    (λ P x. r .ensures .1 P _ (bound-task (a .file .now) (a .counts) (b .pre .0) low high (b .pre .1 .0) (t .ensures .1 .0) (m .last .1 .1 .1 .1 .1 .0) (m .ensures .1) (replicate maxVariables (pos 0)) (e .last .1 .1 .1 .1 .0) (e .last .1 .1 .1 .1 .1 .0)
+    (λ P x. r .ensures .1 P _ (bound-basis (a .file .now) (a .counts) (b .pre .0) low high (b .pre .1 .0) (t .ensures .1 .0) (m .last .1 .1 .1 .1 .1 .0) (m .ensures .1) (replicate maxVariables (pos 0)) (e .last .1 .1 .1 .1 .0) (e .last .1 .1 .1 .1 .1 .0)
     (zeros maxVariables) (e .ensures .1 .0) (e .ensures .1 .1) P x)) in
     ((limited (b .pre .0) .few-variables, b .pre .1 .1), bounds-small (a .file .now) (a .counts) (b .pre .0) low high (b .pre .1 .0) (valued n) w)
 
@@ -63,17 +62,17 @@ same-length c = search needs
 
 returns : tie.Need-returns
 returns c =
-    let b = c .before .before .before .before .before .before .before .before .before .before .before .before .before .before .before .before .before .before .before .before .before .before .before .before in
+    let b = c .before .before .before .before .before .before .before .before .before .before .before .before .before .before .before .before .before .before .before .before .before .before in
     let a = b .args in
     let low = valued (a .lows .now) in
     let high = valued (a .highs .now) in
-    let t = c .before .before .before .before .before .before .before .before .before .before .before .before .before .before .before .before .before .before .fill-tables in
-    let m = c .before .before .before .before .before .before .before .before .before .before .before .before .before .before .before .set-masks in
-    let e = c .before .before .before .before .before .before .before .before .before .before .before .before .set-ends in
+    let t = c .before .before .before .before .before .before .before .before .before .before .before .before .before .before .before .before .before .fill-tables in
+    let m = c .before .before .before .before .before .before .before .before .before .before .before .before .before .before .set-masks in
+    let e = c .before .before .before .before .before .before .before .before .before .before .before .set-ends in
     let r = c .before .before .before .before .before .reckon in
-    let n = r .last .1 .1 .1 .1 .1 .1 .1 .1 .1 .0 in
+    let n = r .last .1 .1 .1 .1 .1 .1 .1 .1 .0 in
     let w = ends-bounds (a .file .now) (a .counts) (b .pre .0) low high (b .pre .1 .0) (valued n) (r .result)
-    (λ P x. r .ensures .1 P _ (bound-task (a .file .now) (a .counts) (b .pre .0) low high (b .pre .1 .0) (t .ensures .1 .0) (m .last .1 .1 .1 .1 .1 .0) (m .ensures .1) (replicate maxVariables (pos 0)) (e .last .1 .1 .1 .1 .0) (e .last .1 .1 .1 .1 .1 .0)
+    (λ P x. r .ensures .1 P _ (bound-basis (a .file .now) (a .counts) (b .pre .0) low high (b .pre .1 .0) (t .ensures .1 .0) (m .last .1 .1 .1 .1 .1 .0) (m .ensures .1) (replicate maxVariables (pos 0)) (e .last .1 .1 .1 .1 .0) (e .last .1 .1 .1 .1 .1 .0)
     (zeros maxVariables) (e .ensures .1 .0) (e .ensures .1 .1) P x)) in
     bounds-written (a .file .now) (a .counts) (b .pre .0) low high (valued n) w _ _ (c .before .before .write-values .ensures)
 

@@ -1,9 +1,6 @@
 -- The tables are those of the program: the first rule that is not met is the answer, else the constraints decide.
 use mathlib.Core.Path.{refl}
-use Rattle.words.proofs.Bits.{none-in}
 use Rattle.meaning.specs.Stable.{RuleMet}
-use Rattle.tables.specs.Tabled.{readersWords}
-use Rattle.tables.proofs.LaidLaws.{laid}
 use Rattle.verdict.specs.Checks.{rule-unmet}
 use Rattle.checker.proofs.CheckLaws.{small-in}
 use Rattle.checker.proofs.MetLaws.{unmet-at, unmet-none}
@@ -13,12 +10,12 @@ use Rattle.program.specs.Readings.{valued}
 use Rattle.checker.proofs.call.check_rules.Tie as tie
 
 fill-tables-requires : tie.Need-fill-tables-requires
-fill-tables-requires c κs = let b = c .before .before .before .before .before in (b .pre .0, ((refl, refl, refl), none-in readersWords))
+fill-tables-requires c κs = let b = c .before .before .before .before in (b .pre .0, (refl, refl))
 
 first-unmet-rule-requires : tie.Need-first-unmet-rule-requires
 first-unmet-rule-requires c κs =
-    let b = c .before .before .before .before .before .before .before .before in
-    (laid (b .pre .0) (c .before .before .fill-tables .ensures .1 .0), small-in _ _ (b .pre .0) (b .args .values .now) (b .pre .1 .0))
+    let b = c .before .before .before .before .before .before .before in
+    (c .before .before .fill-tables .ensures .1 .0, small-in _ _ (b .pre .0) (b .args .values .now) (b .pre .1 .0))
 
 enum-known-unmet : tie.Need-enum-known-unmet
 enum-known-unmet c = search needs
@@ -28,22 +25,19 @@ enum-told c = search needs
 
 check-constraints-requires : tie.Need-check-constraints-requires
 check-constraints-requires c κs =
-    let b = c .before .before .before .before .before .before .before .before .before .before .before .before .before .before .before in
+    let b = c .before .before .before .before .before .before .before .before .before .before .before .before .before in
     let θ = valued (b .args .values .now) in
-    let t = c .before .before .before .before .before .before .before .before .before .fill-tables in
-    let l = laid (b .pre .0) (t .ensures .1 .0) in
-    let u = c .before .before .before .before .before .before .first-unmet-rule in (
-      b .pre .0,
+    let t = c .before .before .before .before .before .before .before .before .fill-tables in
+    let l = t .ensures .1 .0 in
+    let u = c .before .before .before .before .before .first-unmet-rule in (
+      l,
       (
         t .ensures .1 .1,
         (
-          t .ensures .1 .0,
+          b .pre .1 .0,
           (
-            b .pre .1 .0,
-            (
-              λ P x. unmet-none (RuleMet P θ) (u .ensures P (l .placed P x)) (c .before .before .before .before .enum-told .given .1),
-              b .pre .1 .1,
-            ),
+            λ P x. unmet-none (RuleMet P θ) (u .ensures P (l .placed P x)) (c .before .before .before .enum-told .given .1),
+            b .pre .1 .1,
           ),
         ),
       ),
@@ -51,10 +45,10 @@ check-constraints-requires c κs =
 
 returns : tie.Need-returns
 returns c =
-    let b = c .before .before .before .before .before .before .before .before .before .before .before .before in
+    let b = c .before .before .before .before .before .before .before .before .before .before .before in
     let θ = valued (b .args .values .now) in
     let t = c .before .before .before .before .before .before .fill-tables in
-    let l = laid (b .pre .0) (t .ensures .1 .0) in
+    let l = t .ensures .1 .0 in
     let u = c .before .before .before .first-unmet-rule in
     λ P x. rule-unmet (b .pre .1 .0 P x) (unmet-at (RuleMet P θ) (u .ensures P (l .placed P x)) (c .before .unmet .given .1))
 

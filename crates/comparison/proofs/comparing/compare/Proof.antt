@@ -4,6 +4,7 @@ use Rattle.format.specs.Limits.{maxVariables}
 use Rattle.words.specs.Bit.{has}
 use Rattle.reader.proofs.Published.{limited}
 use Rattle.reduct.proofs.Fills.{zeros}
+use Rattle.tables.proofs.LaidLaws.{offsets-of}
 use Rattle.comparison.proofs.FoundedLaws.{starts-past, none-short, short-few, shown-room, shown-small, some-short}
 use borrow.Author.Needs.{needs}
 use Rattle.comparison.proofs.comparing.compare.Statement.{statement}
@@ -16,13 +17,11 @@ run-requires c κs =
     let k = b .args .counts in
     let θ = b .args .assigned .now in
     let w = b .args .report .now in
-    let r = b .pre .0 in
-    let t = b .pre .1 .0 in
-    let e = b .pre .1 .1 .0 in
-    (r, (t, (λ P x. e P x .ranges, (starts-past s k r θ e _ (zeros maxVariables), refl))))
+    let e = b .pre .1 .0 in
+    (b .pre .0, (λ P x. e P x .ranges, (starts-past s k (b .pre .0 .accepted) θ e _ (zeros maxVariables), refl)))
 
 short-set-requires : tie.Need-short-set-requires
-short-set-requires c κs = let b = c .before .before .before .before .before in let f = limited (b .pre .0) in (f .inside, f .few-variables)
+short-set-requires c κs = let b = c .before .before .before .before .before in let f = limited (b .pre .0 .accepted) in (f .inside, f .few-variables)
 
 count-requires : tie.Need-count-requires
 count-requires c κs = search needs
@@ -32,20 +31,20 @@ returns c =
     let z = c .before .before in
     let run = z .before .before .run in
     let b = z .before .before .before .before .before .before in
-    none-short (b .args .file .now) (b .args .counts) (b .pre .0) (b .args .assigned .now) (b .pre .1 .1 .0) (run .last .1 .1 .1 .1 .1 .1 .0) (run .result) (run .ensures .1)
+    none-short (b .args .file .now) (b .args .counts) (b .pre .0 .accepted) (b .args .assigned .now) (b .pre .1 .0) (run .last .1 .1 .1 .1 .1 .0) (run .result) (run .ensures .1)
     (b .args .report .now) (has (z .short-set .result .words)) (z .short-set .ensures) (sym (c .before .count .ensures) ∙ c .if1 .taken)
 
 asked-requires : tie.Need-asked-requires
-asked-requires c κs = let b = c .before .before .before .before .before .before .before .before in (b .pre .0, λ P x. b .pre .1 .0 P x .place-is)
+asked-requires c κs = let b = c .before .before .before .before .before .before .before .before in (b .pre .0 .accepted, offsets-of (b .pre .0))
 
 in-parts-requires : tie.Need-in-parts-requires
 in-parts-requires c κs =
     let z = c .before .before .before in
     let run = z .before .before .run in
     let b = z .before .before .before .before .before .before in
-    let f = limited (b .pre .0) in (
+    let f = limited (b .pre .0 .accepted) in (
       (f .inside, f .few-variables),
-      short-few (b .args .file .now) (b .args .counts) (b .pre .0) (b .args .assigned .now) (b .pre .1 .1 .0) (run .last .1 .1 .1 .1 .1 .1 .0) (run .result) (run .ensures .1)
+      short-few (b .args .file .now) (b .args .counts) (b .pre .0 .accepted) (b .args .assigned .now) (b .pre .1 .0) (run .last .1 .1 .1 .1 .1 .0) (run .result) (run .ensures .1)
           (b .args .report .now) (has (z .short-set .result .words)) (z .short-set .ensures),
     )
 
@@ -56,13 +55,13 @@ show-requires c κs =
     let z = c .before .before .before .before .before .before in
     let run = z .before .before .run in
     let b = z .before .before .before .before .before .before in
-    let m = run .last .1 .1 .1 .1 .1 .1 .0 in
+    let m = run .last .1 .1 .1 .1 .1 .0 in
     let set = has (z .short-set .result .words) in
     let most = has (q .result .most .words) in
     let least = has (q .result .least .words) in (
-      shown-room (b .args .file .now) (b .args .counts) (b .pre .0) (b .args .assigned .now) (b .pre .1 .1 .0) m (run .result) (run .ensures .1) (b .args .report .now)
-          set (z .short-set .ensures) (t .result) (t .ensures) most least (q .ensures .0) (q .ensures .1) (b .pre .1 .1 .1),
-      shown-small (b .args .file .now) (b .args .counts) (b .pre .0) (b .args .assigned .now) (b .pre .1 .1 .0) m (run .result) (run .ensures .1) (b .args .report .now)
+      shown-room (b .args .file .now) (b .args .counts) (b .pre .0 .accepted) (b .args .assigned .now) (b .pre .1 .0) m (run .result) (run .ensures .1) (b .args .report .now)
+          set (z .short-set .ensures) (t .result) (t .ensures) most least (q .ensures .0) (q .ensures .1) (b .pre .1 .1),
+      shown-small (b .args .file .now) (b .args .counts) (b .pre .0 .accepted) (b .args .assigned .now) (b .pre .1 .0) m (run .result) (run .ensures .1) (b .args .report .now)
           set (z .short-set .ensures) (t .result) (t .ensures) most least (q .ensures .0) (q .ensures .1),
     )
 
@@ -77,7 +76,7 @@ returns-2 c =
     let z = i .before .before in
     let run = z .before .before .run in
     let b = z .before .before .before .before .before .before in
-    some-short (b .args .file .now) (b .args .counts) (b .pre .0) (b .args .assigned .now) (b .pre .1 .1 .0) (run .last .1 .1 .1 .1 .1 .1 .0) (run .result) (run .ensures .1)
+    some-short (b .args .file .now) (b .args .counts) (b .pre .0 .accepted) (b .args .assigned .now) (b .pre .1 .0) (run .last .1 .1 .1 .1 .1 .0) (run .result) (run .ensures .1)
     (b .args .report .now) (has (z .short-set .result .words)) (z .short-set .ensures) (t .in-parts .result) (t .in-parts .ensures) _ _
     (q .asked .ensures .0) (q .asked .ensures .1) (λ x. i .if1 .left (i .before .count .ensures ∙ x)) _ _ (c .before .before .show .ensures)
 

@@ -30,16 +30,13 @@ empty-requires c κs = search needs
 loop-holds : tie.Need-loop-holds Inv-loop μ-loop
 loop-holds c = let s = c .before .before in (omega arith, rules-few (s .args .file .now) (s .args .offsets .now) (s .args .counts) (s .pre .0) (s .pre .1), grown-none _ _)
 
-mul-at : tie.Need-mul-at Inv-loop μ-loop
-mul-at c = search needs
-
-element-copy-out-at : tie.Need-element-copy-out-at Inv-loop μ-loop
-element-copy-out-at c = search needs
+place-of-requires : tie.Need-place-of-requires Inv-loop μ-loop
+place-of-requires c κs = search needs
 
 ask-field-requires : tie.Need-ask-field-requires Inv-loop μ-loop
 ask-field-requires c κs =
     let s = c .before .before .before .before .before in
-    rule-here (s .args .file .now) (s .args .offsets .now) (s .args .counts) (s .pre .0) (s .pre .1) _ (c .before .loop-test .taken)
+    rule-here (s .args .file .now) (s .args .offsets .now) (s .args .counts) (s .pre .0) (s .pre .1) _ _ (c .before .loop-test .taken) (c .place-of .ensures)
 
 add-i : tie.Need-add-i Inv-loop μ-loop
 add-i c = search needs
@@ -48,7 +45,7 @@ loop-less : tie.Need-loop-less Inv-loop μ-loop
 loop-less c = search needs
 
 loop-again : tie.Need-loop-again Inv-loop μ-loop
-loop-again c = let l = c .before .before .before .loop in (omega arith, omega arith, grown-more _ _ (l .inv .2) (c .ask-field .ensures))
+loop-again c = let l = c .before .before .before .loop in (omega arith, omega arith, grown-more _ _ (l .inv .2) (rw (c .before .place-of .ensures) at (c .ask-field .ensures)))
 
 returns : tie.Need-returns Inv-loop μ-loop
 returns c =
@@ -69,8 +66,7 @@ asked-spec =
     μ-loop
     empty-requires
     loop-holds
-    mul-at
-    element-copy-out-at
+    place-of-requires
     ask-field-requires
     add-i
     loop-less

@@ -1,11 +1,12 @@
 -- One rule after the other, each where the table says.
 use Prim.Native.Nat.{_-_, _≤_}
-use mathlib.Core.Path.{_≡_, _∙_}
+use mathlib.Core.Path.{_≡_, ap, _∙_}
 use native.Mathlib.Omega.{arith}
 use lib.ListN.{length, length-set}
 use borrow.Author.Needs.{needs}
 use Rattle.format.specs.Limits.{maxRules}
 use Rattle.program.specs.Program.{Program}
+use Rattle.program.specs.Fields.{valueAt}
 use Rattle.program.specs.Reading.{Accepts}
 use Rattle.program.specs.Readings.{valued}
 use Rattle.tables.proofs.LaidLaws.{rules-few, rule-here}
@@ -27,21 +28,18 @@ loop-holds : tie.Need-loop-holds Inv-loop μ-loop
 loop-holds c = let s = c .before in
     (omega arith, rules-few (s .args .file .now) (s .args .offsets .now) (s .args .counts) (s .pre .0) (s .pre .1 .0), s .pre .1 .1, λ P x j l. absurd (omega arith))
 
-mul-at : tie.Need-mul-at Inv-loop μ-loop
-mul-at c = search needs
-
-element-copy-out-at : tie.Need-element-copy-out-at Inv-loop μ-loop
-element-copy-out-at c = search needs
+place-of-requires : tie.Need-place-of-requires Inv-loop μ-loop
+place-of-requires c κs = search needs
 
 value-at-requires : tie.Need-value-at-requires Inv-loop μ-loop
 value-at-requires c κs =
     let s = c .before .before .before .before in
-    rule-here (s .args .file .now) (s .args .offsets .now) (s .args .counts) (s .pre .0) (s .pre .1 .0) _ (c .before .loop-test .taken) .inside
+    rule-here (s .args .file .now) (s .args .offsets .now) (s .args .counts) (s .pre .0) (s .pre .1 .0) _ _ (c .before .loop-test .taken) (c .place-of .ensures) .inside
 
 mask-of-requires : tie.Need-mask-of-requires Inv-loop μ-loop
 mask-of-requires c κs =
     let s = c .before .before .before .before .before in
-    let h = rule-here (s .args .file .now) (s .args .offsets .now) (s .args .counts) (s .pre .0) (s .pre .1 .0) _ (c .before .before .loop-test .taken) in
+    let h = rule-here (s .args .file .now) (s .args .offsets .now) (s .args .counts) (s .pre .0) (s .pre .1 .0) _ _ (c .before .before .loop-test .taken) (c .before .place-of .ensures) in
     (standing-here h (c .value-at .ensures), few-here h (c .value-at .ensures))
 
 mul-masks : tie.Need-mul-masks Inv-loop μ-loop
@@ -64,7 +62,7 @@ loop-again c =
       omega arith,
       length-set (l .masks) (l .i) (c .mask-of .result) ∙ l .inv .2,
       mask-more (s .args .file .now) (s .args .offsets .now) (s .pre .0) (s .pre .1 .0) _ _ (l .i) (l .masks) (c .before .before .before .loop-test .taken) (omega arith)
-          (c .before .value-at .ensures) (c .mask-of .ensures) (l .inv .3),
+          (c .before .value-at .ensures ∙ ap (valueAt (s .args .file .now)) (c .before .before .place-of .ensures)) (c .mask-of .ensures) (l .inv .3),
     )
 
 returns : tie.Need-returns Inv-loop μ-loop
@@ -80,8 +78,7 @@ set-masks-spec =
     Inv-loop
     μ-loop
     loop-holds
-    mul-at
-    element-copy-out-at
+    place-of-requires
     value-at-requires
     mask-of-requires
     mul-masks

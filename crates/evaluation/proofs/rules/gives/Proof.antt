@@ -1,83 +1,27 @@
--- A sum over a divisor is always given; else the amount is given where every literal holds, and nothing else.
+-- The amount is given where every literal holds, and nothing else.
 use mathlib.Core.Path.{_≡_, sym, _∙_}
-use native.Mathlib.Omega.{arith}
 use mir.Syntax.{w64}
 use mir.Val.{toZ, ofZ}
 use borrow.Author.Tests.{not-true, not-false}
-use Rattle.evaluation.proofs.Gives.{handed-plain, handed-evaluable, divided-evaluable, given-nothing, given-value, given-divided}
+use Rattle.program.proofs.Gives.{given-is}
+use Rattle.evaluation.proofs.Gives.{given-nothing}
 use borrow.Author.Needs.{needs}
 use Rattle.evaluation.proofs.rules.gives.Statement.{statement}
 use Rattle.evaluation.proofs.rules.gives.Tie as tie
 
-header-requires : tie.Need-header-requires
-header-requires c κs = search needs
-
-body-requires : tie.Need-body-requires
-body-requires c κs = search needs
-
-divisor-requires : tie.Need-divisor-requires
-divisor-requires c κs =
-    let s = c .before .before .before .before .before in
-    (s .pre .1 .0, sym (c .before .before .before .header .ensures .form-is) ∙ c .if1 .taken)
-
-divided-requires : tie.Need-divided-requires
-divided-requires c κs =
-    let s = c .before .before .before .before .before .before .before in
-    let h = c .before .before .before .before .before .header in
-    let y = c .before .before .before .before .body .ensures in
-    let z : toZ w64 (ofZ w64 (h .result .c)) ≡ h .result .c = search needs in
-    let d : toZ w64 (ofZ w64 (c .before .divisor .result)) ≡ c .before .divisor .result = search needs in
-    (rw (z, d) (divided-evaluable (s .args .value .now) (h .ensures) y (c .before .before .if1 .taken) (c .before .divisor .ensures) (s .pre .0)), s .pre .1 .1)
+is-rule-met-requires : tie.Need-is-rule-met-requires
+is-rule-met-requires c κs = search needs
 
 returns : tie.Need-returns
-returns c =
-    let s = c .before .before .before .before .before .before .before .before in
-    let a = s .args in
-    let h = c .before .before .before .before .before .before .header in
-    let y = c .before .before .before .before .before .body .ensures in
-    let z : toZ w64 (ofZ w64 (h .result .c)) ≡ h .result .c = search needs in
-    let d : toZ w64 (ofZ w64 (c .before .before .divisor .result)) ≡ c .before .before .divisor .result = search needs in
-    let r : toZ w64 (ofZ w64 (c .divided .result)) ≡ c .divided .result = search needs in
-    given-divided (a .value .now) (h .ensures) y (c .before .before .before .if1 .taken) (c .before .before .divisor .ensures) (s .pre .0)
-    (a .kept) (a .first .now) (a .second .now) (r ∙ (rw (z, d) at (c .divided .ensures)))
+returns c = given-nothing _ _ (sym (not-true _ (c .if1 .taken)) ∙ c .before .is-rule-met .ensures)
 
-is-met-requires : tie.Need-is-met-requires
-is-met-requires c κs =
-    let s = c .before .before .before .before .before in
-    let y = c .before .before .body .ensures in
-    (omega (arith, s .pre .0 .few, y .many), handed-plain (s .args .value .now) (c .before .before .before .header .ensures) y (c .if1 .left) (s .pre .0))
+amount-of-requires : tie.Need-amount-of-requires
+amount-of-requires c κs = search needs
 
 returns-2 : tie.Need-returns-2
 returns-2 c =
-    let a = c .before .before .before .before .before .before .before .args in
-    given-nothing (a .value .now) (c .before .before .before .before .before .header .ensures) (c .before .before .before .before .body .ensures)
-    (a .kept) (a .first .now) (a .second .now)
-    (sym (not-true _ (c .if2 .taken)) ∙ c .before .is-met .ensures)
-
-amount-requires : tie.Need-amount-requires
-amount-requires c κs =
-    let s = c .before .before .before .before .before .before .before in
-    let h = c .before .before .before .before .before .header .ensures in
-    (handed-evaluable (s .args .value .now) h (c .before .before .before .before .body .ensures) (c .before .before .if1 .left) (s .pre .0), s .pre .1 .1)
-
-returns-3 : tie.Need-returns-3
-returns-3 c =
-    let a = c .before .before .before .before .before .before .before .before .args in
-    let z : toZ w64 (ofZ w64 (c .amount .result)) ≡ c .amount .result = search needs in
-    let h = c .before .before .before .before .before .before .header .ensures in
-    given-value (a .value .now) h (c .before .before .before .before .before .body .ensures) (c .before .before .before .if1 .left)
-    (a .kept) (a .first .now) (a .second .now) (sym (not-false _ (c .before .if2 .left)) ∙ c .before .before .is-met .ensures) (z ∙ c .amount .ensures)
+    let z : toZ w64 (ofZ w64 (c .amount-of .result)) ≡ c .amount-of .result = search needs in
+    given-is _ _ (sym (not-false _ (c .before .if1 .left)) ∙ c .before .before .is-rule-met .ensures) (z ∙ c .amount-of .ensures)
 
 pub gives-spec : {M : Type 1} → statement M
-gives-spec =
-    tie.close
-    (tie.spec
-    header-requires
-    body-requires
-    divisor-requires
-    divided-requires
-    returns
-    is-met-requires
-    returns-2
-    amount-requires
-    returns-3)
+gives-spec = tie.close (tie.spec is-rule-met-requires returns amount-of-requires returns-2)

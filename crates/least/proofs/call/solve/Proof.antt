@@ -1,13 +1,11 @@
 -- The run ends in the least model, which is written, or where there is no model.
 use mathlib.Core.Path.{refl, subst}
-use Rattle.words.proofs.Bits.{none-in}
 use Rattle.reader.proofs.Published.{reads-accepts, limited}
 use Rattle.reduct.proofs.AssignedLaws.{in-ranges, zero-past, one-valuation}
 use Rattle.least.proofs.CallLaws.{model-small, a-model, a-none}
 use Rattle.reduct.proofs.Fills.{zeros}
 use Rattle.meaning.specs.Reduct.{reduct}
 use Rattle.run.specs.Running.{EndsWith}
-use Rattle.tables.specs.Tabled.{readersWords}
 use Rattle.format.specs.Limits.{maxVariables}
 use Rattle.run.specs.declared.Ending.{Ending}
 use borrow.Author.Needs.{needs}
@@ -16,10 +14,10 @@ use Rattle.program.specs.Readings.{valued}
 use Rattle.least.proofs.call.solve.Tie as tie
 
 fill-tables-requires : tie.Need-fill-tables-requires
-fill-tables-requires c κs = let b = c .before .before .before .before .before .before in (b .pre .0, ((refl, refl, refl), none-in readersWords))
+fill-tables-requires c κs = let b = c .before .before .before .before .before in (b .pre .0, (refl, refl))
 
 run-requires : tie.Need-run-requires
-run-requires c κs = let b = c .before .before .before .before .before .before .before .before .before .before .before in
+run-requires c κs = let b = c .before .before .before .before .before .before .before .before .before in
     let s = b .args .file .now in
     let k = b .args .counts in
     let a = b .args .assignment .now in
@@ -30,13 +28,13 @@ run-requires c κs = let b = c .before .before .before .before .before .before .
     let p = one-valuation _ _ (b .pre .1 .1 .0) in
     let i = b .pre .1 .1 .1 in
     let θ = valued (b .args .values .now) in
-    (r, (c .before .before .before .before .fill-tables .ensures .1 .0, (in-ranges s k r a e i θ p, (zero-past s k r a e i θ p _ (zeros maxVariables), refl))))
+    (c .before .before .before .fill-tables .ensures .1 .0, (in-ranges s k r a e i θ p, (zero-past s k r a e i θ p _ (zeros maxVariables), refl)))
 
 enum-told : tie.Need-enum-told
 enum-told c = search needs
 
 write-values-requires : tie.Need-write-values-requires
-write-values-requires c κs = let b = c .before .before .before .before .before .before .before .before .before .before .before .before .before .before .before .before in
+write-values-requires c κs = let b = c .before .before .before .before .before .before .before .before .before .before .before .before .before .before in
     let s = b .args .file .now in
     let k = b .args .counts in
     let a = b .args .assignment .now in
@@ -49,7 +47,7 @@ write-values-requires c κs = let b = c .before .before .before .before .before 
     let θ = valued (b .args .values .now) in
     let y = reads-accepts r in
     let run = c .before .before .before .before .run in
-    let m = run .last .1 .1 .1 .1 .1 .1 .0 in
+    let m = run .last .1 .1 .1 .1 .1 .0 in
     let x = subst (λ (q : Ending). EndsWith (y .meant) (reduct (y .meant)) θ (valued m) q) (c .before .before .enum-told .given .1) (run .ensures .1 (y .meant) (y .accepts)) in
     ((limited r .few-variables, h), model-small s k r a w e h i θ p m x)
 
@@ -60,7 +58,7 @@ same-length : tie.Need-same-length
 same-length c = search needs
 
 returns : tie.Need-returns
-returns c = let b = c .before .before .before .before .before .before .before .before .before .before .before .before .before .before .before .before .before .before .before in
+returns c = let b = c .before .before .before .before .before .before .before .before .before .before .before .before .before .before .before .before .before in
     let s = b .args .file .now in
     let k = b .args .counts in
     let a = b .args .assignment .now in
@@ -73,12 +71,12 @@ returns c = let b = c .before .before .before .before .before .before .before .b
     let θ = valued (b .args .values .now) in
     let y = reads-accepts r in
     let run = c .before .before .before .before .before .before .before .run in
-    let m = run .last .1 .1 .1 .1 .1 .1 .0 in
+    let m = run .last .1 .1 .1 .1 .1 .0 in
     let x = subst (λ (q : Ending). EndsWith (y .meant) (reduct (y .meant)) θ (valued m) q) (c .before .before .before .before .before .enum-told .given .1) (run .ensures .1 (y .meant) (y .accepts)) in
     a-model s k r a w e h i θ p (valued m) _ x (c .before .before .write-values .ensures)
 
 returns-2 : tie.Need-returns-2
-returns-2 c = let b = c .before .before .before .before .before .before .before .before .before .before .before .before .before .before in
+returns-2 c = let b = c .before .before .before .before .before .before .before .before .before .before .before .before in
     let s = b .args .file .now in
     let k = b .args .counts in
     let a = b .args .assignment .now in
@@ -91,7 +89,7 @@ returns-2 c = let b = c .before .before .before .before .before .before .before 
     let θ = valued (b .args .values .now) in
     let y = reads-accepts r in
     let run = c .before .before .run in
-    let m = run .last .1 .1 .1 .1 .1 .1 .0 in
+    let m = run .last .1 .1 .1 .1 .1 .0 in
     let x = subst (λ (q : Ending). EndsWith (y .meant) (reduct (y .meant)) θ (valued m) q) (c .enum-told2 .given .1) (run .ensures .1 (y .meant) (y .accepts)) in
     a-none s k r a w e h i θ p x
 

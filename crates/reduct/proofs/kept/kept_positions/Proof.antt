@@ -1,69 +1,36 @@
--- From the last position to the first, one bit a step.
-use mathlib.Core.Path.{refl}
-use Prim.Native.Nat.{_-_, _≤_}
-use native.Mathlib.Omega.{arith}
+-- A size by its variable's range, all else by the variable's kind.
+use Rattle.reduct.proofs.KindLaws.{rule-kinds}
 use borrow.Author.Needs.{needs}
-use lib.ListN.{length}
-use Rattle.program.specs.Program.{ruleOf, variablesAt}
-use Rattle.program.specs.Readings.{kept}
-use Rattle.reduct.specs.Masks.{Mask}
-use Rattle.reduct.proofs.MaskLaws.{from, mask-start, mask-before, mask-whole, mask-small}
 use Rattle.reduct.proofs.kept.kept_positions.Statement.{statement}
 use Rattle.reduct.proofs.kept.kept_positions.Tie as tie
 
-abbrev Inv-loop : tie.InvT-loop
-Inv-loop file variables value rule i₀ bits₀ i bits =
-    (i ≤ length (ruleOf value .terms)) × Mask (from (kept (variablesAt file variables) (ruleOf value)) i) (length (ruleOf value .terms) - i) bits
-
-abbrev μ-loop : tie.MeasureT-loop
-μ-loop file variables value rule i₀ bits₀ i bits = i
-
-open-rule-requires : tie.Need-open-rule-requires Inv-loop μ-loop
+open-rule-requires : tie.Need-open-rule-requires
 open-rule-requires c κs = search needs
 
-positions-requires : tie.Need-positions-requires Inv-loop μ-loop
-positions-requires c κs = search needs
+kept-by-direction-requires : tie.Need-kept-by-direction-requires
+kept-by-direction-requires c κs = search needs
 
-loop-holds : tie.Need-loop-holds Inv-loop μ-loop
-loop-holds c =
-    let a = c .before .before .before .before .args in
-    (omega arith, mask-start (kept (variablesAt (a .file .now) (a .variables)) (ruleOf (a .value .now))) _ _ (omega arith))
+returns : tie.Need-returns
+returns c = search needs
 
-sub-i : tie.Need-sub-i Inv-loop μ-loop
-sub-i c = search needs
+kinds-of-requires : tie.Need-kinds-of-requires
+kinds-of-requires c κs = search needs
 
-position-at-requires : tie.Need-position-at-requires Inv-loop μ-loop
-position-at-requires c κs = let o = c .before .before .before in (o .before .before .before .pre .0, (o .open-rule .ensures, omega arith))
+kept-by-kind-requires : tie.Need-kept-by-kind-requires
+kept-by-kind-requires c κs =
+    let s = c .before .before .before .before .before .before in
+    (s .pre .0, (rule-kinds _ _ (c .before .before .before .open-rule .ensures) (c .before .if1 .left) (c .kinds-of .ensures), s .pre .1))
 
-moved-up-requires : tie.Need-moved-up-requires Inv-loop μ-loop
-moved-up-requires c κs = mask-small (c .before .before .loop .inv .1) (omega arith)
-
-loop-less : tie.Need-loop-less Inv-loop μ-loop
-loop-less c = search needs
-
-loop-again : tie.Need-loop-again Inv-loop μ-loop
-loop-again c =
-    let a = c .before .before .before .before .before .before .before .before .args in
-    let k = kept (variablesAt (a .file .now) (a .variables)) (ruleOf (a .value .now)) in
-    (omega arith, mask-before k _ _ _ (omega arith) (omega arith) (c .before .before .before .loop .inv .1) (c .before .position-at .ensures .kept-is) (c .moved-up .ensures))
-
-returns : tie.Need-returns Inv-loop μ-loop
-returns c =
-    let a = c .before .before .before .before .before .before .args in
-    mask-whole (kept (variablesAt (a .file .now) (a .variables)) (ruleOf (a .value .now))) _ _ (omega arith) refl (c .before .loop .inv .1)
+returns-2 : tie.Need-returns-2
+returns-2 c = search needs
 
 pub kept-positions-spec : {M : Type 1} → statement M
 kept-positions-spec =
     tie.close
     (tie.spec
-    Inv-loop
-    μ-loop
     open-rule-requires
-    positions-requires
-    loop-holds
-    sub-i
-    position-at-requires
-    moved-up-requires
-    loop-less
-    loop-again
-    returns)
+    kept-by-direction-requires
+    returns
+    kinds-of-requires
+    kept-by-kind-requires
+    returns-2)

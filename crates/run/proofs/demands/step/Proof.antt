@@ -10,7 +10,7 @@ use Rattle.meaning.specs.Reduct.{Reckoning}
 use Rattle.run.specs.Running.{AsAssigned, Reckons, MetOutside, Inside}
 use Rattle.tables.specs.Tabled.{rowWords}
 use Rattle.run.proofs.RunLaws.{reckons-demanded}
-use Rattle.run.proofs.StepLaws.{takes-at, takes-none, demands-more, demands-enough, none-waiting, taken-inside, taken-less, taken-met, taken-raise, taken-stands, taken-rule}
+use Rattle.run.proofs.StepLaws.{takes-at, takes-none, demands-more, demands-enough, none-waiting, dropped-inside, dropped-met, taken-less, taken-raise, taken-stands, taken-rule}
 use borrow.Author.Needs.{needs}
 use Rattle.run.proofs.demands.step.Statement.{statement}
 use Rattle.program.specs.Readings.{Valuation, valued}
@@ -65,7 +65,7 @@ returns-2 c =
     let z : toZ w64 (ofZ w64 (f .0 .0)) ≡ f .0 .0 = search needs in (
       t .ensures .0,
       (
-        λ j e. l .inv .1 j (taken-inside k j e),
+        λ j e. l .inv .1 j (dropped-inside (k .dropped) j e),
         λ P R θ p a o.
             let h = taken-rule k (s .pre .0) (l .inv .1) (p .accepts) in
             rw z (taken-raise k P R θ _ (l .inv .2 P R θ p a o) h
@@ -89,10 +89,10 @@ loop-again c =
     let t = c .before .before .before .before .before .before .take-lowest in
     let k = takes-at (has (l .waiting)) (has (t .last .0)) (t .ensures .1) (c .before .before .before .before .i .given .1) in (
       t .ensures .0,
-      λ j e. l .inv .1 j (taken-inside k j e),
+      λ j e. l .inv .1 j (dropped-inside (k .dropped) j e),
       λ P R θ p a o.
           let h = taken-rule k (s .pre .0) (l .inv .1) (p .accepts) in
-          taken-met k P R θ _ (l .inv .2 P R θ p a o)
+          dropped-met (k .dropped) P R θ _ (l .inv .2 P R θ p a o)
           (demands-enough P R θ _ _ (reckons-demanded p (s .args .model .now) a _ h (c .before .before .look .ensures P (p .stands _ h))) (c .enum-told2 .given .1)),
     )
 

@@ -1,6 +1,5 @@
 -- Each raise keeps the values at or before every model and brings one of them nearer to its far end.
 use mathlib.Core.Path.{_≡_}
-use native.Mathlib.Omega.{arith}
 use lib.ListN.{length}
 use mir.Syntax.{w64}
 use mir.Val.{toZ, ofZ}
@@ -13,7 +12,7 @@ use Rattle.meaning.specs.Reduct.{Reckoning}
 use Rattle.meaning.proofs.Steps.{gap}
 use Rattle.tables.specs.Tabled.{rowWords}
 use Rattle.run.specs.Running.{Running}
-use Rattle.run.proofs.SolveLaws.{run-ready, run-small, run-stepped, run-ended, run-done, run-among, run-head, run-field, no-lift, lift-on, lift-nearer}
+use Rattle.run.proofs.SolveLaws.{run-ready, run-small, run-stepped, run-ended, run-done, run-among, run-rule, run-field, no-lift, lift-on, lift-nearer}
 use Rattle.run.proofs.solve.solve.Statement.{statement}
 use Rattle.run.proofs.solve.solve.Tie as tie
 
@@ -46,84 +45,65 @@ returns c =
     let d = c .before .before .step .ensures in
     (i .1, (d .0, λ P R θ k₀. let k = i .0 P R θ k₀ in run-done k (run-ended k _ (d .1 .1) (c .enum-told .given .1))))
 
-mul-head-at : tie.Need-mul-head-at Inv-loop μ-loop
-mul-head-at c =
+head-of-requires : tie.Need-head-of-requires Inv-loop μ-loop
+head-of-requires c κs =
     let l = c .before .before .before .before .before .before .loop in
     let k = l .inv .0 _ _ _ (c .before .before .before .before .before .before .before .before .pre .0 .run) in
     let d = c .before .before .before .step .ensures in
-    let n = c .before .next .given in
-    let x = run-stepped k _ (d .1 .1) (n .1) in
-    let m = run-among k _ x in omega arith
+    let x = run-stepped k _ (d .1 .1) (c .before .next .given .1) in
+    (run-among k _ x, run-rule k _ x)
 
-element-copy-out-head-at : tie.Need-element-copy-out-head-at Inv-loop μ-loop
-element-copy-out-head-at c =
-    let l = c .before .before .before .before .before .before .loop in
-    let k = l .inv .0 _ _ _ (c .before .before .before .before .before .before .before .before .pre .0 .run) in
-    let d = c .before .before .before .step .ensures in
-    let n = c .before .next .given in
-    let x = run-stepped k _ (d .1 .1) (n .1) in
-    let m = run-among k _ x in search needs
-
-head-at-requires : tie.Need-head-at-requires Inv-loop μ-loop
-head-at-requires c κs =
+variable-requires : tie.Need-variable-requires Inv-loop μ-loop
+variable-requires c κs =
     let l = c .before .before .before .before .before .before .before .loop in
     let k = l .inv .0 _ _ _ (c .before .before .before .before .before .before .before .before .before .pre .0 .run) in
     let d = c .before .before .before .before .step .ensures in
     let n = c .before .before .next .given in
     let x = run-stepped k _ (d .1 .1) (n .1) in
-    run-head k _ x
-
-variable-requires : tie.Need-variable-requires Inv-loop μ-loop
-variable-requires c κs =
-    let l = c .before .before .before .before .before .before .before .before .loop in
-    let k = l .inv .0 _ _ _ (c .before .before .before .before .before .before .before .before .before .before .pre .0 .run) in
-    let d = c .before .before .before .before .before .step .ensures in
-    let n = c .before .before .before .next .given in
-    let x = run-stepped k _ (d .1 .1) (n .1) in
-    run-field k _ x (c .head-at .ensures)
+    run-field k _ x (c .head-of .ensures)
 
 raise-requires : tie.Need-raise-requires Inv-loop μ-loop
 raise-requires c κs =
-    let l = c .before .before .before .before .before .before .before .before .before .before .before .loop in
-    (l .inv .1, c .before .before .before .before .before .before .before .before .step .ensures .0)
+    let l = c .before .before .before .before .before .before .before .before .before .before .loop in
+    (l .inv .1, c .before .before .before .before .before .before .before .step .ensures .0)
 
 returns-2 : tie.Need-returns-2 Inv-loop μ-loop
 returns-2 c =
-    let l = c .before .before .before .before .before .before .before .before .before .before .before .before .before .loop in
-    let d = c .before .before .before .before .before .before .before .before .before .before .step .ensures in
-    let n = c .before .before .before .before .before .before .before .before .next .given in
+    let l = c .before .before .before .before .before .before .before .before .before .before .before .before .loop in
+    let d = c .before .before .before .before .before .before .before .before .before .step .ensures in
+    let n = c .before .before .before .before .before .before .before .next .given in
     let z : toZ w64 (ofZ w64 (n .0 .1 .0)) ≡ n .0 .1 .0 = search needs in
     let r = c .before .raise in (
       r .ensures .0,
       (
         r .ensures .1 .0,
-        λ P R θ k₀. let k = l .inv .0 P R θ k₀ in no-lift k _ (run-stepped k _ (d .1 .1) (n .1)) (c .before .before .before .before .before .head-at .ensures) (c .before .before .before .before .variable .ensures) z
+        λ P R θ k₀. let k = l .inv .0 P R θ k₀ in no-lift k _ (run-stepped k _ (d .1 .1) (n .1)) (c .before .before .before .before .before .head-of .ensures) (c .before .before .before .before .variable .ensures) z
             (r .last .1 .1 .1 .1 .0) (r .last .1 .1 .1 .1 .1 .0) (r .result) (r .ensures .1 .1) (not-true _ (c .if1 .taken)),
       ),
     )
 
 loop-less : tie.Need-loop-less Inv-loop μ-loop
 loop-less c =
-    let l = c .before .before .before .before .before .before .before .before .before .before .before .before .before .loop in
-    let k = l .inv .0 _ _ _ (c .before .before .before .before .before .before .before .before .before .before .before .before .before .before .before .pre .0 .run) in
-    let d = c .before .before .before .before .before .before .before .before .before .before .step .ensures in
-    let n = c .before .before .before .before .before .before .before .before .next .given in
+    let l = c .before .before .before .before .before .before .before .before .before .before .before .before .loop in
+    let k = l .inv .0 _ _ _ (c .before .before .before .before .before .before .before .before .before .before .before .before .before .before .pre .0 .run) in
+    let d = c .before .before .before .before .before .before .before .before .before .step .ensures in
+    let n = c .before .before .before .before .before .before .before .next .given in
     let x = run-stepped k _ (d .1 .1) (n .1) in
     let z : toZ w64 (ofZ w64 (n .0 .1 .0)) ≡ n .0 .1 .0 = search needs in
     let r = c .before .raise in
-    lift-nearer k _ x (c .before .before .before .before .before .head-at .ensures) (c .before .before .before .before .variable .ensures) z
+    lift-nearer k _ x (c .before .before .before .before .before .head-of .ensures) (c .before .before .before .before .variable .ensures) z
     (r .last .1 .1 .1 .1 .0) (r .last .1 .1 .1 .1 .1 .0) (r .result) (r .ensures .1 .1) (not-false _ (c .if1 .left)) (d .1 .0) (l .inv .1)
 
 loop-again : tie.Need-loop-again Inv-loop μ-loop
 loop-again c =
-    let l = c .before .before .before .before .before .before .before .before .before .before .before .before .before .loop in
-    let d = c .before .before .before .before .before .before .before .before .before .before .step .ensures in
-    let n = c .before .before .before .before .before .before .before .before .next .given in
+    let l = c .before .before .before .before .before .before .before .before .before .before .before .before .loop in
+    let d = c .before .before .before .before .before .before .before .before .before .step .ensures in
+    let n = c .before .before .before .before .before .before .before .next .given in
     let z : toZ w64 (ofZ w64 (n .0 .1 .0)) ≡ n .0 .1 .0 = search needs in
     let r = c .before .raise in (
       λ P R θ k₀.
           let k = l .inv .0 P R θ k₀ in
-          lift-on k _ (run-stepped k _ (d .1 .1) (n .1)) (c .before .before .before .before .before .head-at .ensures) (c .before .before .before .before .variable .ensures) z
+          lift-on k _ (run-stepped k _ (d .1 .1) (n .1)) (c .before .before .before .before .before .head-of .ensures) (c .before .before .before .before .variable .ensures) z
           (r .last .1 .1 .1 .1 .0) (r .last .1 .1 .1 .1 .1 .0) (r .result) (r .ensures .1 .1) (not-false _ (c .if1 .left)) (d .1 .0) (l .inv .1),
       r .ensures .0,
       r .ensures .1 .0,
@@ -140,9 +120,7 @@ solve-spec =
     enum-known-next
     enum-told
     returns
-    mul-head-at
-    element-copy-out-head-at
-    head-at-requires
+    head-of-requires
     variable-requires
     raise-requires
     returns-2

@@ -11,7 +11,7 @@ use Rattle.program.specs.Program.{variablesAt}
 use Rattle.program.specs.Evaluable.{Small}
 use Rattle.reach.specs.Rows.{rowHas}
 use Rattle.validity.specs.Marks.{ruleAt, offendsBy}
-use Rattle.validity.proofs.RuleLaws.{variables-inside, first-rule, next-rule, rule-inside, ready-at, field-rule, none-more}
+use Rattle.validity.proofs.RuleLaws.{variables-inside, first-rule, next-rule, rule-inside, ready-at, sizes-at, field-rule, none-more}
 use Rattle.validity.proofs.rules.first_offending.Statement.{statement}
 use Rattle.validity.proofs.rules.first_offending.Tie as tie
 
@@ -36,7 +36,8 @@ offends-requires : tie.Need-offends-requires Inv-loop μ-loop
 offends-requires c κs =
     let l = c .before .before .before .loop .inv in
     let p = c .before .before .before .before .before .before .pre in
-    (p .1 .0, (ready-at (p .0) _ (omega arith) (l .1) (c .before .value-at .ensures), l .2))
+    let v = c .before .value-at .ensures in
+    (p .1 .0, (ready-at (p .0) _ (omega arith) (l .1) v, (sizes-at (p .0) _ (omega arith) (l .1) v, l .2)))
 
 returns : tie.Need-returns Inv-loop μ-loop
 returns c =

@@ -1,0 +1,77 @@
+use Prim.Native.Nat.{ℕ, _+_, _-_, _*_, _<_, _≤_}
+use mathlib.Core.Path.{_≡_, refl, sym, ap, _∙_}
+use native.Mathlib.Omega.{arith}
+use lib.ListN.{length}
+use Rattle.format.specs.Limits.{maxVariables, maxRules}
+use Rattle.words.specs.Bit.{wordCount}
+use Rattle.program.specs.Evaluable.{Small}
+use Rattle.validity.proofs.ComponentLaws.{values-none}
+use borrow.Author.Needs.{needs}
+use Rattle.guess.proofs.live.keep_live.Statement.{statement}
+use Rattle.guess.proofs.live.keep_live.Tie as tie
+use Rattle.guess.proofs.live.keep_live.Reads as reads
+use Rattle.guess.proofs.live.keep_live.Lts as lts
+use Rattle.guess.proofs.live.live_mask.Reads as live-mask-reads
+use Rattle.guess.proofs.live.set_mask.Reads as set-mask-reads
+use Rattle.guess.proofs.live.top_all.Reads as top-all-reads
+use Rattle.tables.proofs.place_of.Reads as place-of-reads
+
+abbrev Inv-loop : tie.InvT-loop
+Inv-loop file variables rules offsets masks holding model others live₀ tops i₀ live i = (length live ≡ maxRules) × Small tops × (i ≤ rules)
+
+abbrev μ-loop : tie.MeasureT-loop
+μ-loop file variables rules offsets masks holding model others live₀ tops i₀ live i = rules - i
+
+top-all-requires : tie.Need-top-all-requires Inv-loop μ-loop
+top-all-requires c κs = (c .before .before .pre .0 .0, refl, values-none 256)
+
+loop-holds : tie.Need-loop-holds Inv-loop μ-loop
+loop-holds c = (c .before .before .before .pre .1 .1, c .top-all .ensures .1, omega arith)
+
+place-of-requires : tie.Need-place-of-requires Inv-loop μ-loop
+place-of-requires c κs = search needs
+
+mul-live-mask : tie.Need-mul-live-mask Inv-loop μ-loop
+mul-live-mask c = search needs
+
+element-copy-out-live-mask : tie.Need-element-copy-out-live-mask Inv-loop μ-loop
+element-copy-out-live-mask c = search needs
+
+live-mask-requires : tie.Need-live-mask-requires Inv-loop μ-loop
+live-mask-requires c κs =
+    let p = c .before .before .before .before .before .before .before .before .pre in
+    let l = c .before .before .before .before .loop in
+    (rw (c .before .before .place-of .ensures) (p .0 .2 (l .i) (omega arith)), (l .inv .1, p .1 .0))
+
+set-mask-requires : tie.Need-set-mask-requires Inv-loop μ-loop
+set-mask-requires c κs = search needs
+
+add-i : tie.Need-add-i Inv-loop μ-loop
+add-i c = search needs
+
+loop-less : tie.Need-loop-less Inv-loop μ-loop
+loop-less c = search needs
+
+loop-again : tie.Need-loop-again Inv-loop μ-loop
+loop-again c = search needs
+
+returns : tie.Need-returns Inv-loop μ-loop
+returns c = search needs
+
+pub keep-live-spec : {M : Type 1} → statement M
+keep-live-spec =
+    tie.close
+    (tie.spec
+    Inv-loop
+    μ-loop
+    top-all-requires
+    loop-holds
+    place-of-requires
+    mul-live-mask
+    element-copy-out-live-mask
+    live-mask-requires
+    set-mask-requires
+    add-i
+    loop-less
+    loop-again
+    returns)

@@ -1,0 +1,131 @@
+// Rules that can still lift their heads: those that give more than their heads have when every founded variable is at its far end. And rules that hold their heads up:
+// those that give no less than their heads have.
+ghost use mathlib.Core.Path.{_≡_};
+ghost use Prim.Native.Nat.{_*_, _≤_, _<_};
+ghost use lib.ListN.{length};
+ghost use Rattle.format.specs.Limits.{maxVariables, maxRules};
+ghost use Rattle.program.specs.Evaluable.{Small};
+ghost use Rattle.run.specs.Running.{SomeRule};
+ghost use Rattle.sequence.specs.Standing.{RulesStand};
+use crate::numbers::copy;
+use crate::numbers::put;
+use format::Format;
+use parts::variables;
+use program::Given;
+use program::Variable;
+use run::demands::demand;
+use run::demands::head_at;
+use sequence::walk::node;
+use tables::place_of;
+
+// Variable v is put at its far end, if it is founded.
+fn top_one(file: &[u8], variables: usize, v: u8, tops: &mut [i64; Format::MAX_VARIABLES])
+    requires { ⌜ (8 * variables ≤ length (now file)) × (length (now tops) ≡ maxVariables) × Small (now tops) ⌝ }
+    ensures { λ _. ⌜ (length (now (tops .exit)) ≡ maxVariables) × Small (now (tops .exit)) ⌝ }
+{
+    let i = format::wide(v);
+    if i >= variables {
+        return;
+    }
+    let x = variables::variable(file, v);
+    if !x.is_founded() {
+        return;
+    }
+    put(tops, i, x.far());
+}
+
+// The founded variables at their far ends, all others as they are; or all as they are.
+fn top_all(
+    file: &[u8],
+    variables: usize,
+    holding: bool,
+    model: &[i64; Format::MAX_VARIABLES],
+    tops: &mut [i64; Format::MAX_VARIABLES],
+)
+    requires { ⌜ (8 * variables ≤ length (now file)) × (length (now tops) ≡ maxVariables) × Small (now tops) ⌝ }
+    ensures { λ _. ⌜ (length (now (tops .exit)) ≡ maxVariables) × Small (now (tops .exit)) ⌝ }
+{
+    copy(tops, model);
+    if holding {
+        return;
+    }
+    for v in 0..variables {
+        top_one(file, variables, node(v), tops);
+    }
+}
+
+// Whether what is given is more than the value of the head x, or no less.
+fn is_more(x: Variable, holding: bool, given: Given, value: i64) -> bool {
+    let Given::Value(a) = given else {
+        return false;
+    };
+    if holding {
+        return !x.is_before(a, value);
+    }
+    x.is_before(value, a)
+}
+
+// The mask of the rule whose field stands at `at`, or 0 where the rule gives no more at these values than its head has, or less.
+fn live_mask(
+    file: &[u8],
+    at: usize,
+    mask: u32,
+    holding: bool,
+    tops: &[i64; Format::MAX_VARIABLES],
+    model: &[i64; Format::MAX_VARIABLES],
+    others: &[i64; Format::MAX_VARIABLES],
+) -> u32
+    requires { ⌜ SomeRule (now file) at ⌝ }
+    requires { ⌜ Small (now tops) × Small (now others) ⌝ }
+{
+    let given = demand(file, at, mask, tops, others);
+    let head = head_at(file, at);
+    let x = variables::variable(file, head);
+    let v = format::wide(head);
+    let value = model[v];
+    if is_more(x, holding, given, value) {
+        mask
+    } else {
+        0
+    }
+}
+
+// The mask of rule i.
+fn set_mask(live: &mut [u32; Format::MAX_RULES], i: usize, mask: u32)
+    requires { ⌜ (length (now live) ≡ maxRules) × (i < maxRules) ⌝ }
+    ensures { λ _. ⌜ length (now (live .exit)) ≡ maxRules ⌝ }
+{
+    live[i] = mask;
+}
+
+// The mask of each rule that can still lift its head, or that holds it up, and 0 for every other.
+pub fn keep_live(
+    file: &[u8],
+    variables: usize,
+    rules: usize,
+    offsets: &[u16; Format::MAX_RULES],
+    masks: &[u32; Format::MAX_RULES],
+    holding: bool,
+    model: &[i64; Format::MAX_VARIABLES],
+    others: &[i64; Format::MAX_VARIABLES],
+    live: &mut [u32; Format::MAX_RULES],
+)
+    requires { ⌜ (8 * variables ≤ length (now file)) × (rules ≤ maxRules) × RulesStand (now file) (now offsets) rules ⌝ }
+    requires { ⌜ Small (now others) × (length (now live) ≡ maxRules) ⌝ }
+    ensures { λ _. ⌜ length (now (live .exit)) ≡ maxRules ⌝ }
+{
+    let mut tops = [0i64; Format::MAX_VARIABLES];
+    top_all(file, variables, holding, model, &mut tops);
+    for i in 0..rules {
+        let mask = live_mask(
+            file,
+            place_of(offsets, i),
+            masks[i],
+            holding,
+            &tops,
+            model,
+            others,
+        );
+        set_mask(live, i, mask);
+    }
+}

@@ -1,0 +1,46 @@
+// Numbers within the format's range, and lists of them.
+ghost use mathlib.Core.Path.{_≡_};
+ghost use Prim.Native.Nat.{_≤_, _<_};
+ghost use lib.IntN.{natAbs};
+ghost use lib.ListN.{length};
+ghost use Rattle.format.specs.Limits.{maxVariables, maxNumber};
+ghost use Rattle.program.specs.Evaluable.{Small};
+use evaluation::quotients::over_up;
+use format::Format;
+
+// The number of the format's range that is next to a.
+pub fn near(a: i64) -> i64
+    ensures { λ r. ⌜ natAbs r ≤ maxNumber ⌝ }
+{
+    if a > Format::MAX_NUMBER {
+        return Format::MAX_NUMBER;
+    }
+    if a < 0 - Format::MAX_NUMBER {
+        return 0 - Format::MAX_NUMBER;
+    }
+    a
+}
+
+// The value of v becomes the number next to a.
+pub fn put(values: &mut [i64; Format::MAX_VARIABLES], v: usize, a: i64)
+    requires { ⌜ (length (now values) ≡ maxVariables) × (v < maxVariables) × Small (now values) ⌝ }
+    ensures { λ _. ⌜ (length (now (values .exit)) ≡ maxVariables) × Small (now (values .exit)) ⌝ }
+{
+    let n = near(a);
+    values[v] = n;
+}
+
+// The values become those of another list.
+pub fn copy(values: &mut [i64; Format::MAX_VARIABLES], from: &[i64; Format::MAX_VARIABLES])
+    requires { ⌜ (length (now values) ≡ maxVariables) × Small (now values) ⌝ }
+    ensures { λ _. ⌜ (length (now (values .exit)) ≡ maxVariables) × Small (now (values .exit)) ⌝ }
+{
+    for v in 0..Format::MAX_VARIABLES {
+        put(values, v, from[v]);
+    }
+}
+
+// Half of the number next to n, rounded up.
+pub fn half(n: i64) -> i64 {
+    over_up(near(n), 2)
+}

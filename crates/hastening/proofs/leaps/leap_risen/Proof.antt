@@ -1,0 +1,21 @@
+-- The line of the risen variables, and targets for them.
+use mathlib.Core.Path.{refl}
+use native.Mathlib.Omega.{arith}
+use borrow.Author.Needs.{needs}
+use Rattle.validity.proofs.ComponentLaws.{values-none}
+use Rattle.hastening.proofs.leaps.leap_risen.Statement.{statement}
+use Rattle.hastening.proofs.leaps.leap_risen.Tie as tie
+
+gather-requires : tie.Need-gather-requires
+gather-requires c κs = search needs
+
+leap-on-requires : tie.Need-leap-on-requires
+leap-on-requires c κs =
+    let p = c .before .before .before .before .before .before .before .before .before .pre in
+    (p .0, (p .1 .0, ((p .1 .1 .0, p .1 .1 .1, c .before .before .before .before .before .gather .ensures .2), (refl, values-none 256))))
+
+returns : tie.Need-returns
+returns c = search needs
+
+pub leap-risen-spec : {M : Type 1} → statement M
+leap-risen-spec = tie.close (tie.spec gather-requires leap-on-requires returns)

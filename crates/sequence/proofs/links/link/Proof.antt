@@ -1,0 +1,75 @@
+use Prim.Native.Nat.{ℕ, _+_, _-_, _*_, _<_, _≤_}
+use mathlib.Core.Path.{_≡_, refl, sym, ap, _∙_}
+use native.Mathlib.Omega.{arith}
+use lib.ListN.{length}
+use Rattle.format.specs.Limits.{maxVariables, maxRules}
+use Rattle.words.specs.Bit.{wordCount}
+use Rattle.program.specs.Fields.{valueAt}
+use Rattle.reach.specs.Rows.{rowsLength}
+use Rattle.run.proofs.RunLaws.{lies, here-headed, here-evaluable}
+use borrow.Author.Needs.{needs}
+use Rattle.sequence.proofs.links.link.Statement.{statement}
+use Rattle.sequence.proofs.links.link.Tie as tie
+use Rattle.sequence.proofs.links.link.Reads as reads
+use Rattle.sequence.proofs.links.link.Lts as lts
+use Rattle.parts.proofs.places.value_at.Reads as value-at-reads
+use Rattle.sequence.proofs.links.link_rule.Reads as link-rule-reads
+use Rattle.tables.proofs.place_of.Reads as place-of-reads
+
+abbrev Inv-loop : tie.InvT-loop
+Inv-loop file rules offsets masks turned rows₀ i₀ rows i = (length rows ≡ rowsLength) × (i ≤ rules)
+
+abbrev μ-loop : tie.MeasureT-loop
+μ-loop file rules offsets masks turned rows₀ i₀ rows i = rules - i
+
+loop-holds : tie.Need-loop-holds Inv-loop μ-loop
+loop-holds c = search needs
+
+place-of-requires : tie.Need-place-of-requires Inv-loop μ-loop
+place-of-requires c κs = search needs
+
+value-at-requires : tie.Need-value-at-requires Inv-loop μ-loop
+value-at-requires c κs = rw (c .place-of .ensures) (lies (c .before .before .before .before .pre .0 .1 (c .before .before .loop .i) (omega arith) .here) .inside)
+
+mul-link-rule : tie.Need-mul-link-rule Inv-loop μ-loop
+mul-link-rule c = search needs
+
+element-copy-out-link-rule : tie.Need-element-copy-out-link-rule Inv-loop μ-loop
+element-copy-out-link-rule c = search needs
+
+link-rule-requires : tie.Need-link-rule-requires Inv-loop μ-loop
+link-rule-requires c κs =
+    let l = c .before .before .before .before .before in
+    let p = l .before .before in
+    let h = p .pre .0 .1 (l .loop .i) (omega arith) .here in
+    let q = c .before .before .value-at .ensures ∙ ap (valueAt (p .args .file .now)) (c .before .before .before .place-of .ensures) in
+    ((here-headed h q, here-evaluable h q .few), l .loop .inv .0)
+
+add-i : tie.Need-add-i Inv-loop μ-loop
+add-i c = search needs
+
+loop-less : tie.Need-loop-less Inv-loop μ-loop
+loop-less c = search needs
+
+loop-again : tie.Need-loop-again Inv-loop μ-loop
+loop-again c = search needs
+
+returns : tie.Need-returns Inv-loop μ-loop
+returns c = search needs
+
+pub link-spec : {M : Type 1} → statement M
+link-spec =
+    tie.close
+    (tie.spec
+    Inv-loop
+    μ-loop
+    loop-holds
+    place-of-requires
+    value-at-requires
+    mul-link-rule
+    element-copy-out-link-rule
+    link-rule-requires
+    add-i
+    loop-less
+    loop-again
+    returns)

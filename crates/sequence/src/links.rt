@@ -1,0 +1,80 @@
+// Which variables follow which: a head follows each variable that one of its rules reads by its mask.
+ghost use mathlib.Core.Path.{_≡_};
+ghost use Prim.Native.Nat.{_<_, _≤_};
+ghost use lib.ListN.{length};
+ghost use Rattle.format.specs.Limits.{maxRules, maxTerms};
+ghost use Rattle.program.specs.Program.{ruleOf};
+ghost use Rattle.parts.specs.Values.{ruleHeader};
+ghost use Rattle.reach.specs.Rows.{rowsLength};
+ghost use Rattle.sequence.specs.Standing.{RulesStand};
+use format::Format;
+use parts::places::value_at;
+use parts::rules;
+use reach::Rows;
+use reach::mark;
+use tables::place_of;
+
+// Position j of a rule, if its bit is set in the mask: the head follows its variable, or turned round its variable the head.
+fn link_position(
+    value: &[u8],
+    head: u8,
+    mask: u32,
+    j: usize,
+    turned: bool,
+    rows: &mut [u64; Rows::LENGTH],
+)
+    requires { ⌜ (ruleHeader ≤ length (now value)) × (j < length (ruleOf (now value) .terms)) × (j < maxTerms) ⌝ }
+    requires { ⌜ length (now rows) ≡ rowsLength ⌝ }
+    ensures { λ _. ⌜ length (now (rows .exit)) ≡ rowsLength ⌝ }
+{
+    if (mask >> j) % 2 == 1 {
+        let h = format::wide(head);
+        let x = format::wide(rules::variable_at(value, j));
+        if turned {
+            mark(rows, h, x);
+        } else {
+            mark(rows, x, h);
+        }
+    }
+}
+
+// The rule in a field's value.
+fn link_rule(value: &[u8], mask: u32, turned: bool, rows: &mut [u64; Rows::LENGTH])
+    requires { ⌜ (ruleHeader ≤ length (now value)) × (length (ruleOf (now value) .terms) ≤ maxTerms) ⌝ }
+    requires { ⌜ length (now rows) ≡ rowsLength ⌝ }
+    ensures { λ _. ⌜ length (now (rows .exit)) ≡ rowsLength ⌝ }
+{
+    let rule = rules::header(value);
+    let n = rules::positions(value);
+    for j in 0..n {
+        link_position(value, rule.head, mask, j, turned, rows);
+    }
+}
+
+// Every rule.
+pub fn link(
+    file: &[u8],
+    rules: usize,
+    offsets: &[u16; Format::MAX_RULES],
+    masks: &[u32; Format::MAX_RULES],
+    turned: bool,
+    rows: &mut [u64; Rows::LENGTH],
+)
+    requires { ⌜ (rules ≤ maxRules) × RulesStand (now file) (now offsets) rules ⌝ }
+    requires { ⌜ length (now rows) ≡ rowsLength ⌝ }
+    ensures { λ _. ⌜ length (now (rows .exit)) ≡ rowsLength ⌝ }
+{
+    for i in 0..rules {
+        link_rule(value_at(file, place_of(offsets, i)), masks[i], turned, rows);
+    }
+}
+
+// No edge.
+pub fn unlink(rows: &mut [u64; Rows::LENGTH])
+    requires { ⌜ length (now rows) ≡ rowsLength ⌝ }
+    ensures { λ _. ⌜ length (now (rows .exit)) ≡ rowsLength ⌝ }
+{
+    for t in 0..Rows::LENGTH {
+        rows[t] = 0;
+    }
+}

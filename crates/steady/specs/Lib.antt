@@ -1,0 +1,3 @@
+pub mod Estimate
+pub mod Short
+pub mod Steps

@@ -1,0 +1,73 @@
+-- Past the last variable the value stays; another is the variable's first aim.
+use mathlib.Core.Path.{_≡_, _∙_}
+use native.Mathlib.Omega.{arith}
+use mir.Syntax.{w64}
+use mir.Val.{toZ, ofZ}
+use lib.IntN.{pos}
+use lib.ListN.{getD}
+use borrow.Author.Needs.{needs}
+use Rattle.program.specs.Program.{variablesAt}
+use Rattle.reader.proofs.Published.{variables-length}
+use Rattle.targets.proofs.AimLaws.{past-aim, aim-variable}
+use Rattle.targets.proofs.aims.aim_at.Statement.{statement}
+use Rattle.targets.proofs.aims.aim_at.Tie as tie
+
+mul-value : tie.Need-mul-value
+mul-value c = search needs
+
+element-copy-out-value : tie.Need-element-copy-out-value
+element-copy-out-value c = search needs
+
+mul-stop : tie.Need-mul-stop
+mul-stop c = search needs
+
+element-copy-out-stop : tie.Need-element-copy-out-stop
+element-copy-out-stop c = search needs
+
+mul-goal : tie.Need-mul-goal
+mul-goal c = search needs
+
+element-copy-out-goal : tie.Need-element-copy-out-goal
+element-copy-out-goal c = search needs
+
+returns : tie.Need-returns
+returns c =
+    let a = c .before .before .before .before .before .args in
+    let z : toZ w64 (ofZ w64 (getD (a .model .now) (a .v) (pos 0))) ≡ getD (a .model .now) (a .v) (pos 0) = search needs in
+    z ∙ past-aim (variablesAt (a .file .now) (a .variables)) (a .cut) (a .stops .now) (a .model .now) (a .target .now) (a .v)
+    (omega (arith, variables-length (a .file .now) (a .variables)))
+
+cast-variable : tie.Need-cast-variable
+cast-variable c = search needs
+
+variable-requires : tie.Need-variable-requires
+variable-requires c κs = search needs
+
+first-aim-requires : tie.Need-first-aim-requires
+first-aim-requires c κs = search needs
+
+returns-2 : tie.Need-returns-2
+returns-2 c =
+    let a = c .before .before .before .before .before .before .before .args in
+    let z : toZ w64 (ofZ w64 (getD (a .model .now) (a .v) (pos 0))) ≡ getD (a .model .now) (a .v) (pos 0) = search needs in
+    let s : toZ w64 (ofZ w64 (getD (a .stops .now) (a .v) (pos 0))) ≡ getD (a .stops .now) (a .v) (pos 0) = search needs in
+    let t : toZ w64 (ofZ w64 (getD (a .target .now) (a .v) (pos 0))) ≡ getD (a .target .now) (a .v) (pos 0) = search needs in
+    let r : toZ w64 (ofZ w64 (c .first-aim .result)) ≡ c .first-aim .result = search needs in
+    r ∙ aim-variable (variablesAt (a .file .now) (a .variables)) (a .cut) (a .stops .now) (a .model .now) (a .target .now) (a .v)
+    (c .before .variable .ensures (a .variables) (omega arith)) s z t (c .first-aim .ensures)
+
+pub aim-at-spec : {M : Type 1} → statement M
+aim-at-spec =
+    tie.close
+    (tie.spec
+    mul-value
+    element-copy-out-value
+    mul-stop
+    element-copy-out-stop
+    mul-goal
+    element-copy-out-goal
+    returns
+    cast-variable
+    variable-requires
+    first-aim-requires
+    returns-2)
