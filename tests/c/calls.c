@@ -619,6 +619,16 @@ static void plans(void)
     term(0, PLAIN, 1);
     both("a >= b + 1, b >= a: 5 5", VALUES(5, 5), 4, 24);
     fresh();
+    variables(2, FOUNDED, 0, 1000);
+    variable(STANDARD, 0, 1000);
+    rule(SUM, 0, 0);
+    term(1, PLAIN, 1);
+    rule(MIN, 1, 1);
+    term(0, PLAIN, 0);
+    term(2, PLAIN, 0);
+    both("a >= b, b >= min(a, s) + 1: 501 501 500", VALUES(501, 501, 500), 6, 36);
+    both("a >= b, b >= min(a, s) + 1: 600 600 500", VALUES(600, 600, 500), 6, 36);
+    fresh();
     variable(FOUNDED, -10, 10);
     variables(3, STANDARD, -10, 10);
     rule(DIVIDED, 0, 0);

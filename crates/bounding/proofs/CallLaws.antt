@@ -34,9 +34,11 @@ use Rattle.lent.proofs.Fits.{Fitting, ranges-fitting, lent-within}
 use Rattle.lent.proofs.Ends.{ends-model}
 use Rattle.lent.proofs.Calls.{all-fit, lent-called}
 use Rattle.tables.specs.Laid.{Laid}
-use Rattle.run.specs.Running.{Basis, SomeBasis, EndsWith}
+use Rattle.meaning.specs.Reduct.{Reckoning}
+use Rattle.run.specs.Running.{Basis, FullMet, SomeBasis, EndsWith}
 use Rattle.run.specs.declared.Ending.{Ending}
 use Rattle.run.specs.declared.Ending.the-variants as ending
+use Rattle.run.proofs.SweepLaws.{cut-full}
 use Rattle.ends.specs.Ends.{otherEnd, otherEnds, stopEnd, stopEnds, FitIs, LentMasks}
 use Rattle.ends.proofs.TaskLaws.{lent-basis}
 use Rattle.bounding.specs.Writing.{BoundsWritten, FitsFile}
@@ -116,11 +118,27 @@ module _ (s : List ℕ) (k : Counts) (r : AcceptedAs s k) where
       (masks : (P : Program) → Accepts s P → LentMasks P low high (length (P .rules)) ms) (zs others stops : List ℤ) (z : (v : ℕ) → valued zs v ≡ pos 0)
       (o : Filled (otherEnds (variablesAt s (k .variables)) low high) (k .variables) zs others)
       (e : Filled (stopEnds (variablesAt s (k .variables)) low high) (k .variables) zs stops) where
-    pub bound-basis : (P : Program) → Accepts s P → Basis s P (lent P low high) low os ms others stops true
+    bound-basis : (P : Program) → Accepts s P → Basis s P (lent P low high) low os ms others stops true
     bound-basis P x = lent-basis (t .placed P x) low high (fit P x) ms (masks P x) others stops (others-whole low high fit zs others z P x o) (stops-whole low high fit zs stops z P x e)
 
-    pub some-basis : SomeBasis s low os ms others stops true
-    some-basis = let x = reads-accepts r in record { program = x .meant; reckoning = lent (x .meant) low high; basis = bound-basis (x .meant) (x .accepts) }
+    -- a head that has its stop is full
+    bound-full : (P : Program) → Accepts s P → FullMet P (lent P low high) low stops true
+    bound-full P x = cut-full true (bound-basis P x)
+
+    pub bound-ends : (m : Valuation) (r : Ending) → ((P : Program) (R : Reckoning) → Basis s P R low os ms others stops true → FullMet P R low stops true → EndsWith P R low m r)
+        → (P : Program) → Accepts s P → EndsWith P (lent P low high) low m r
+    bound-ends m r f P x = f P (lent P low high) (bound-basis P x) (bound-full P x)
+
+    pub some-basis : k .rules ≤ length ms → SomeBasis s low os ms others stops true true
+    some-basis l =
+        let x = reads-accepts r in
+        record {
+          program = x .meant;
+          reckoning = lent (x .meant) low high;
+          basis = bound-basis (x .meant) (x .accepts);
+          full-met = bound-full (x .meant) (x .accepts);
+          reach = record { offsets-reach = omega (arith, x .rules-are, t .offsets-reach); masks-reach = omega (arith, x .rules-are, l) };
+        }
 
   -- the run ends in the bounds, for there is a model
   pub ends-bounds : (low high : Valuation) → FitsFile s low high → (m : Valuation) (e : Ending) → ((P : Program) → Accepts s P → EndsWith P (lent P low high) low m e)

@@ -17,6 +17,7 @@ use meaning::Denied;
 use program::Counts;
 use program::Reading;
 use solving::reckon;
+use tables::Tables;
 use tables::fill_tables;
 
 // What the call asks of its ranges and of its buffer.
@@ -36,7 +37,48 @@ impl Asks {
     {}
 }
 
-// Ranges that fit: the bounds are written.
+// Ranges that fit, with memory for the tables: the bounds are written.
+fn bound_in(
+    file: &[u8],
+    counts: Counts,
+    offsets: &mut [u16],
+    masks: &mut [u32],
+    lows: &[i64; Format::MAX_VARIABLES],
+    highs: &[i64; Format::MAX_VARIABLES],
+    buffer: &mut [u8],
+)
+    requires { ⌜ AcceptedAs (now file) counts ⌝ }
+    requires { ⌜ (counts .rules ≤ length (now offsets)) × (counts .rules ≤ length (now masks)) ⌝ }
+    requires { ⌜ FitsFile (now file) (valued (now lows)) (valued (now highs)) ⌝ }
+    requires { ⌜ leastBytes * counts .variables ≤ length (now buffer) ⌝ }
+    ensures { λ _. ⌜ ((P : Program) → Accepts (now (file .entry)) P
+        → BoundsWritten P (valued (now (lows .entry))) (valued (now (highs .entry))) (now (buffer .entry)) (now (buffer .exit))) ⌝ }
+{
+    let n = counts.variables;
+    let mut others = [0i64; Format::MAX_VARIABLES];
+    let mut stops = [0i64; Format::MAX_VARIABLES];
+    let mut model = [0i64; Format::MAX_VARIABLES];
+    fill_tables(file, counts, offsets, masks);
+    set_masks(file, counts, offsets, lows, highs, masks);
+    ranges::set_ends(file, n, lows, highs, &mut others, &mut stops);
+    let cut = true;
+    let full = true;
+    reckon(
+        file,
+        counts,
+        offsets,
+        masks,
+        lows,
+        &others,
+        &stops,
+        cut,
+        full,
+        &mut model,
+    );
+    write_values(&model, n, buffer);
+}
+
+// Ranges that fit.
 fn bound(
     file: &[u8],
     counts: Counts,
@@ -50,27 +92,15 @@ fn bound(
     ensures { λ _. ⌜ ((P : Program) → Accepts (now (file .entry)) P
         → BoundsWritten P (valued (now (lows .entry))) (valued (now (highs .entry))) (now (buffer .entry)) (now (buffer .exit))) ⌝ }
 {
-    let n = counts.variables;
+    if counts.rules <= Tables::FEW {
+        let mut offsets = [0u16; Tables::FEW];
+        let mut masks = [0u32; Tables::FEW];
+        bound_in(file, counts, &mut offsets, &mut masks, lows, highs, buffer);
+        return;
+    }
     let mut offsets = [0u16; Format::MAX_RULES];
     let mut masks = [0u32; Format::MAX_RULES];
-    let mut others = [0i64; Format::MAX_VARIABLES];
-    let mut stops = [0i64; Format::MAX_VARIABLES];
-    let mut model = [0i64; Format::MAX_VARIABLES];
-    fill_tables(file, counts, &mut offsets, &mut masks);
-    set_masks(file, counts, &offsets, lows, highs, &mut masks);
-    ranges::set_ends(file, n, lows, highs, &mut others, &mut stops);
-    reckon(
-        file,
-        counts,
-        &offsets,
-        &masks,
-        lows,
-        &others,
-        &stops,
-        true,
-        &mut model,
-    );
-    write_values(&model, n, buffer);
+    bound_in(file, counts, &mut offsets, &mut masks, lows, highs, buffer);
 }
 
 // Ranges of the right length.

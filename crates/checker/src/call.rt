@@ -2,17 +2,18 @@
 ghost use mathlib.Core.Path.{_≡_};
 ghost use Prim.Native.Nat.{ℕ, _*_, _<_, _≤_};
 ghost use lib.ListN.{length};
+ghost use Rattle.format.specs.Limits.{maxVariables};
 ghost use Rattle.program.specs.Program.{Program};
 ghost use Rattle.program.specs.Reading.{AcceptedAs, Accepts};
 ghost use Rattle.meaning.specs.Founded.{Within};
 ghost use Rattle.meaning.specs.Reduct.{system};
 ghost use Rattle.meaning.specs.Stable.{RuleMet};
 ghost use Rattle.reader.specs.Parts.{constraintPlace};
-ghost use Rattle.tables.specs.Laid.{Laid};
 ghost use Rattle.verdict.specs.Checks.{answerOf, Judged, Checks, checkBytes};
 ghost use Rattle.verdict.specs.Demands.{Demands};
 ghost use Rattle.program.specs.Readings.{valued};
 use crate::constraints::first_unmet_constraint;
+use crate::rules::Rules;
 use crate::rules::first_unmet_rule;
 use calls::open;
 use comparison::comparing::compare;
@@ -21,7 +22,6 @@ use meaning::Opening;
 use program::Counts;
 use reduct::loading;
 use reduct::loading::Outside;
-use tables::fill_tables;
 use verdict::Verdict;
 use words::Found;
 
@@ -43,22 +43,20 @@ fn check_constraints(
     file: &[u8],
     counts: Counts,
     start: usize,
-    offsets: &[u16; Format::MAX_RULES],
-    masks: &[u32; Format::MAX_RULES],
     values: &[i64; Format::MAX_VARIABLES],
     report: &mut [u8],
 ) -> Verdict
-    requires { ⌜ Laid (now file) counts (now offsets) (now masks) ⌝ }
+    requires { ⌜ AcceptedAs (now file) counts ⌝ }
     requires { ⌜ ((P : Program) → Accepts (now file) P → start ≡ constraintPlace (now file) P 0) ⌝ }
     requires { ⌜ ((P : Program) → Accepts (now file) P → Within (system P) (valued (now values))) ⌝ }
     requires { ⌜ ((P : Program) → Accepts (now file) P → (i : ℕ) → i < length (P .rules) → RuleMet P (valued (now values)) i) ⌝ }
-    requires { ⌜ checkBytes * counts .variables ≤ length (now report) ⌝ }
+    requires { ⌜ (length (now values) ≡ maxVariables) × (checkBytes * counts .variables ≤ length (now report)) ⌝ }
     ensures { λ r. ⌜ ((P : Program) → Accepts (now (file .entry)) P → Judged P (valued (now (values .entry))) (now (report .entry)) (answerOf r) (now (report .exit))) ⌝ }
 {
     let unmet = first_unmet_constraint(file, start, counts, values);
     match unmet {
         Found::At(i) => Verdict::Constraint(i),
-        Found::Nothing => compare(file, counts, offsets, masks, values, report),
+        Found::Nothing => compare(file, counts, values, report),
     }
 }
 
@@ -71,18 +69,13 @@ fn check_rules(
 ) -> Verdict
     requires { ⌜ AcceptedAs (now file) counts ⌝ }
     requires { ⌜ ((P : Program) → Accepts (now file) P → Within (system P) (valued (now values))) ⌝ }
-    requires { ⌜ checkBytes * counts .variables ≤ length (now report) ⌝ }
+    requires { ⌜ (length (now values) ≡ maxVariables) × (checkBytes * counts .variables ≤ length (now report)) ⌝ }
     ensures { λ r. ⌜ ((P : Program) → Accepts (now (file .entry)) P → Judged P (valued (now (values .entry))) (now (report .entry)) (answerOf r) (now (report .exit))) ⌝ }
 {
-    let mut offsets = [0u16; Format::MAX_RULES];
-    let mut masks = [0u32; Format::MAX_RULES];
-    let start = fill_tables(file, counts, &mut offsets, &mut masks);
-    let unmet = first_unmet_rule(file, counts, &offsets, &masks, values);
-    match unmet {
-        Found::At(i) => Verdict::Rule(i),
-        Found::Nothing => {
-            check_constraints(file, counts, start, &offsets, &masks, values, report)
-        }
+    let rules = first_unmet_rule(file, counts, values);
+    match rules {
+        Rules::Unmet(i) => Verdict::Rule(i),
+        Rules::Met(start) => check_constraints(file, counts, start, values, report),
     }
 }
 

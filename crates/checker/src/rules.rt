@@ -1,38 +1,55 @@
 // The rules under an assignment.
+ghost use Prim.Native.Nat.{ℕ};
 ghost use Rattle.program.specs.Program.{Program};
-ghost use lib.ListN.{length};
-ghost use Rattle.meaning.specs.Stable.{RuleMet};
-ghost use Rattle.tables.specs.Laid.{Placed, Laid};
-ghost use Rattle.checker.specs.Met.{UnmetIs};
+ghost use Rattle.program.specs.Reading.{AcceptedAs, Accepts};
 ghost use Rattle.program.specs.Readings.{valued};
 ghost use Rattle.program.specs.Evaluable.{Small};
+ghost use Rattle.run.specs.Running.{RuleStands, SomeRule};
+ghost use Rattle.checker.specs.Met.{MetIf, RulesAre};
 use format::Format;
+use parts::places::next_at;
 use program::Counts;
 use run::Demand;
-use run::demands;
-use words::Found;
+use run::demands::look_at;
+
+// The first rule that is not met, or that all are, and where the field after the last of them stands.
+pub enum Rules {
+    Unmet(usize),
+    Met(usize),
+}
+
+// Whether the rule whose field stands at `at` is met. Every position is read in the assignment, whatever the mask.
+fn is_met(file: &[u8], at: usize, assigned: &[i64; Format::MAX_VARIABLES]) -> bool
+    requires { ⌜ SomeRule (now file) at ⌝ }
+    requires { ⌜ Small (now assigned) ⌝ }
+    ensures { λ r. ⌜ ((P : Program) (i : ℕ) → RuleStands (now (file .entry)) P i at → MetIf P (valued (now (assigned .entry))) i r) ⌝ }
+{
+    let asked = look_at(file, at, 0, assigned, assigned, assigned, false);
+    match asked {
+        Demand::Enough => true,
+        Demand::More(_) => false,
+    }
+}
 
 // The first rule that is not met, or that there is none.
 pub fn first_unmet_rule(
     file: &[u8],
     counts: Counts,
-    offsets: &[u16; Format::MAX_RULES],
-    masks: &[u32; Format::MAX_RULES],
     assigned: &[i64; Format::MAX_VARIABLES],
-) -> Found
-    requires { ⌜ Laid (now file) counts (now offsets) (now masks) ⌝ }
+) -> Rules
+    requires { ⌜ AcceptedAs (now file) counts ⌝ }
     requires { ⌜ Small (now assigned) ⌝ }
-    ensures { λ r. ⌜ ((P : Program) → Placed (now (file .entry)) P (now (offsets .entry)) (now (masks .entry))
-        → UnmetIs (RuleMet P (valued (now (assigned .entry)))) (length (P .rules)) r) ⌝ }
+    ensures { λ r. ⌜ ((P : Program) → Accepts (now (file .entry)) P → RulesAre (now (file .entry)) P (valued (now (assigned .entry))) r) ⌝ }
 {
     let rules = counts.rules;
+    let mut at = 8 * counts.variables;
     let mut i = 0;
     while i < rules {
-        let found = demands::look(file, offsets, masks, i, assigned, assigned, assigned, false);
-        if let Demand::More(a) = found {
-            return Found::At(i);
+        if !is_met(file, at, assigned) {
+            return Rules::Unmet(i);
         }
+        at = next_at(file, at);
         i += 1;
     }
-    Found::Nothing
+    Rules::Met(at)
 }

@@ -4,7 +4,7 @@ ghost use mathlib.Core.Bool.{cond};
 ghost use Prim.Native.Nat.{_^_, _<_, _≤_};
 ghost use lib.ListN.{length};
 ghost use lib.Bits.{bitOr};
-ghost use Rattle.format.specs.Limits.{maxTerms, maxRules};
+ghost use Rattle.format.specs.Limits.{maxTerms};
 ghost use Rattle.program.specs.Program.{Program, ruleOf, variablesAt};
 ghost use Rattle.program.specs.Reading.{AcceptedAs, Accepts};
 ghost use Rattle.program.specs.Readings.{valued};
@@ -22,7 +22,7 @@ use positions::open_rule;
 use positions::position_at;
 use program::Counts;
 use reduct::kept::moved_up;
-use tables::place_of;
+use tables::place_in;
 
 // How a position is read: whether in the model, and whether it is mixed with a range that is not single.
 pub struct Way {
@@ -97,22 +97,22 @@ fn mask_of(
 pub fn set_masks(
     file: &[u8],
     counts: Counts,
-    offsets: &[u16; Format::MAX_RULES],
+    offsets: &[u16],
     lows: &[i64; Format::MAX_VARIABLES],
     highs: &[i64; Format::MAX_VARIABLES],
-    masks: &mut [u32; Format::MAX_RULES],
+    masks: &mut [u32],
 )
     requires { ⌜ AcceptedAs (now file) counts ⌝ }
     requires { ⌜ OffsetsOf (now file) (now offsets) ⌝ }
-    requires { ⌜ length (now masks) ≡ maxRules ⌝ }
-    ensures { λ _. ⌜ length (now (masks .exit)) ≡ maxRules ⌝ }
+    requires { ⌜ (counts .rules ≤ length (now offsets)) × (counts .rules ≤ length (now masks)) ⌝ }
+    ensures { λ _. ⌜ length (now (masks .exit)) ≡ length (now (masks .entry)) ⌝ }
     ensures { λ _. ⌜ ((P : Program) → Accepts (now (file .entry)) P → LentMasks P (valued (now (lows .entry))) (valued (now (highs .entry))) (length (P .rules)) (now (masks .exit))) ⌝ }
 {
     let n = counts.variables;
     let rules = counts.rules;
     let mut i = 0;
     while i < rules {
-        let at = place_of(offsets, i);
+        let at = place_in(offsets, i);
         let value = value_at(file, at);
         let mask = mask_of(file, n, value, lows, highs);
         masks[i] = mask;

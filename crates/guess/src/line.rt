@@ -4,6 +4,7 @@ ghost use Prim.Native.Nat.{_≤_, _<_};
 ghost use lib.ListN.{length};
 ghost use Rattle.format.specs.Limits.{maxVariables};
 use format::Format;
+use sequence::noted;
 use sequence::walk::get;
 use sets::Set;
 
@@ -28,7 +29,7 @@ fn join(
 
 // Variable x joins it, if it is risen.
 fn join_risen(
-    by: &[usize; Format::MAX_VARIABLES],
+    by: &[u16; Format::MAX_VARIABLES],
     risen: &[u64; Set::WORDS],
     line: &mut [usize; Format::MAX_VARIABLES],
     heads: &mut [u8; Format::MAX_VARIABLES],
@@ -42,7 +43,7 @@ fn join_risen(
     if !words::has_bit(risen, v) {
         return count;
     }
-    join(line, heads, count, by[v], x)
+    join(line, heads, count, noted(by, v), x)
 }
 
 // The line of the risen variables at the places from `from` to `to` of the list, in its order, with their rules: `by` has the one that raised each last. It
@@ -51,7 +52,7 @@ pub fn gather(
     list: &[u8; Format::MAX_VARIABLES],
     from: usize,
     to: usize,
-    by: &[usize; Format::MAX_VARIABLES],
+    by: &[u16; Format::MAX_VARIABLES],
     risen: &[u64; Set::WORDS],
     line: &mut [usize; Format::MAX_VARIABLES],
     heads: &mut [u8; Format::MAX_VARIABLES],

@@ -5,6 +5,7 @@ ghost use Prim.Native.Nat.{_*_, _≤_, _<_};
 ghost use lib.ListN.{length};
 ghost use Rattle.format.specs.Limits.{maxVariables, maxRules};
 ghost use Rattle.program.specs.Evaluable.{Small};
+ghost use Rattle.tables.specs.Tabled.{rowWords};
 ghost use Rattle.run.specs.Running.{SomeRule};
 ghost use Rattle.sequence.specs.Standing.{RulesStand};
 use crate::numbers::copy;
@@ -16,6 +17,7 @@ use program::Variable;
 use run::demands::demand;
 use run::demands::head_at;
 use sequence::walk::node;
+use tables::Tables;
 use tables::place_of;
 
 // Variable v is put at its far end, if it is founded.
@@ -65,8 +67,8 @@ fn is_more(x: Variable, holding: bool, given: Given, value: i64) -> bool {
     x.is_before(value, a)
 }
 
-// The mask of the rule whose field stands at `at`, or 0 where the rule gives no more at these values than its head has, or less.
-fn live_mask(
+// Whether the rule whose field stands at `at` gives more at these values than its head has, or no less.
+fn is_live(
     file: &[u8],
     at: usize,
     mask: u32,
@@ -74,7 +76,7 @@ fn live_mask(
     tops: &[i64; Format::MAX_VARIABLES],
     model: &[i64; Format::MAX_VARIABLES],
     others: &[i64; Format::MAX_VARIABLES],
-) -> u32
+) -> bool
     requires { ⌜ SomeRule (now file) at ⌝ }
     requires { ⌜ Small (now tops) × Small (now others) ⌝ }
 {
@@ -83,22 +85,22 @@ fn live_mask(
     let x = variables::variable(file, head);
     let v = format::wide(head);
     let value = model[v];
-    if is_more(x, holding, given, value) {
-        mask
+    is_more(x, holding, given, value)
+}
+
+// Rule i is in the set, or it is not.
+fn enter(live: &mut [u64; Tables::ROW], i: usize, kept: bool)
+    requires { ⌜ (length (now live) ≡ rowWords) × (i < maxRules) ⌝ }
+    ensures { λ _. ⌜ length (now (live .exit)) ≡ rowWords ⌝ }
+{
+    if kept {
+        words::add_bit(live, i);
     } else {
-        0
+        words::drop_bit(live, i);
     }
 }
 
-// The mask of rule i.
-fn set_mask(live: &mut [u32; Format::MAX_RULES], i: usize, mask: u32)
-    requires { ⌜ (length (now live) ≡ maxRules) × (i < maxRules) ⌝ }
-    ensures { λ _. ⌜ length (now (live .exit)) ≡ maxRules ⌝ }
-{
-    live[i] = mask;
-}
-
-// The mask of each rule that can still lift its head, or that holds it up, and 0 for every other.
+// The set of the rules that can still lift their heads, or of those that hold them up.
 pub fn keep_live(
     file: &[u8],
     variables: usize,
@@ -108,16 +110,16 @@ pub fn keep_live(
     holding: bool,
     model: &[i64; Format::MAX_VARIABLES],
     others: &[i64; Format::MAX_VARIABLES],
-    live: &mut [u32; Format::MAX_RULES],
+    live: &mut [u64; Tables::ROW],
 )
     requires { ⌜ (8 * variables ≤ length (now file)) × (rules ≤ maxRules) × RulesStand (now file) (now offsets) rules ⌝ }
-    requires { ⌜ Small (now others) × (length (now live) ≡ maxRules) ⌝ }
-    ensures { λ _. ⌜ length (now (live .exit)) ≡ maxRules ⌝ }
+    requires { ⌜ Small (now others) × (length (now live) ≡ rowWords) ⌝ }
+    ensures { λ _. ⌜ length (now (live .exit)) ≡ rowWords ⌝ }
 {
     let mut tops = [0i64; Format::MAX_VARIABLES];
     top_all(file, variables, holding, model, &mut tops);
     for i in 0..rules {
-        let mask = live_mask(
+        let kept = is_live(
             file,
             place_of(offsets, i),
             masks[i],
@@ -126,6 +128,6 @@ pub fn keep_live(
             model,
             others,
         );
-        set_mask(live, i, mask);
+        enter(live, i, kept);
     }
 }

@@ -40,7 +40,52 @@ pub fn copy(values: &mut [i64; Format::MAX_VARIABLES], from: &[i64; Format::MAX_
     }
 }
 
-// Half of the number next to n, rounded up.
-pub fn half(n: i64) -> i64 {
-    over_up(near(n), 2)
+// Twice the number next to n.
+pub fn double(n: i64) -> i64 {
+    let a = near(n);
+    a + a
+}
+
+// The product of the numbers next to a and b.
+pub fn times(a: i64, b: i64) -> i64 {
+    let m = near(a);
+    let n = near(b);
+    m * n
+}
+
+// Sums of bodies are no larger.
+pub struct Sums {}
+
+impl Sums {
+    pub const LARGEST: i64 = 1_000_000_000;
+}
+
+// The number of the range of sums that is next to a.
+fn within(a: i64) -> i64
+    ensures { λ r. ⌜ natAbs r ≤ 1000000000 ⌝ }
+{
+    if a > Sums::LARGEST {
+        return Sums::LARGEST;
+    }
+    if a < 0 - Sums::LARGEST {
+        return 0 - Sums::LARGEST;
+    }
+    a
+}
+
+// The difference of two sums.
+pub fn minus(a: i64, b: i64) -> i64 {
+    let m = within(a);
+    let n = within(b);
+    m - n
+}
+
+// A sum over d, rounded up; the sum itself where d is no divisor.
+pub fn over(a: i64, d: i64) -> i64 {
+    let m = within(a);
+    let n = within(d);
+    if n < 1 {
+        return m;
+    }
+    over_up(m, n)
 }

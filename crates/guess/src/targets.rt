@@ -9,6 +9,7 @@ ghost use Rattle.sequence.specs.Standing.{RulesStand};
 use crate::numbers::copy;
 use crate::numbers::near;
 use crate::numbers::put;
+use crate::numbers::times;
 use format::Format;
 use parts::places::value_at;
 use parts::variables;
@@ -83,6 +84,7 @@ fn lower_at(
     others: &[i64; Format::MAX_VARIABLES],
     stops: &[i64; Format::MAX_VARIABLES],
     cut: bool,
+    strides: &[i64; Format::MAX_VARIABLES],
     target: &mut [i64; Format::MAX_VARIABLES],
 ) -> bool
     requires { ⌜ SomeRule (now file) at ⌝ }
@@ -96,7 +98,16 @@ fn lower_at(
     let value = model[v];
     let stop = stops[v];
     let goal = target[v];
-    let given = steady::estimate(value_at(file, at), x, mask, model, target, others);
+    let given = steady::estimate(
+        value_at(file, at),
+        x,
+        head,
+        mask,
+        model,
+        target,
+        others,
+        strides,
+    );
     let most = at_least(x, stop_at(cut, x, stop, mask, given), value);
     if !x.is_before(most, goal) {
         return false;
@@ -116,6 +127,7 @@ fn lower_rule(
     others: &[i64; Format::MAX_VARIABLES],
     stops: &[i64; Format::MAX_VARIABLES],
     cut: bool,
+    strides: &[i64; Format::MAX_VARIABLES],
     target: &mut [i64; Format::MAX_VARIABLES],
 ) -> bool
     requires { ⌜ (rules ≤ maxRules) × RulesStand (now file) (now offsets) rules ⌝ }
@@ -134,6 +146,7 @@ fn lower_rule(
         others,
         stops,
         cut,
+        strides,
         target,
     )
 }
@@ -150,6 +163,7 @@ fn lower_once(
     others: &[i64; Format::MAX_VARIABLES],
     stops: &[i64; Format::MAX_VARIABLES],
     cut: bool,
+    strides: &[i64; Format::MAX_VARIABLES],
     target: &mut [i64; Format::MAX_VARIABLES],
 ) -> bool
     requires { ⌜ (rules ≤ maxRules) × RulesStand (now file) (now offsets) rules × (count ≤ maxVariables) ⌝ }
@@ -170,6 +184,7 @@ fn lower_once(
             others,
             stops,
             cut,
+            strides,
             target,
         );
         some = some | lowered;
@@ -196,6 +211,7 @@ pub fn lower(
     others: &[i64; Format::MAX_VARIABLES],
     stops: &[i64; Format::MAX_VARIABLES],
     cut: bool,
+    strides: &[i64; Format::MAX_VARIABLES],
     target: &mut [i64; Format::MAX_VARIABLES],
 ) -> bool
     requires { ⌜ (rules ≤ maxRules) × RulesStand (now file) (now offsets) rules × (count ≤ maxVariables) ⌝ }
@@ -215,6 +231,7 @@ pub fn lower(
             others,
             stops,
             cut,
+            strides,
             target,
         ) {
             return true;
@@ -254,12 +271,13 @@ pub fn highest(
     most
 }
 
-// The target of one head is at most so many steps from its value.
+// The target of one head is at most so many strides from its value.
 fn draw_one(
     file: &[u8],
     variables: usize,
     head: u8,
     steps: i64,
+    strides: &[i64; Format::MAX_VARIABLES],
     model: &[i64; Format::MAX_VARIABLES],
     target: &mut [i64; Format::MAX_VARIABLES],
 )
@@ -269,21 +287,24 @@ fn draw_one(
 {
     let v = format::wide(head);
     let value = model[v];
+    let stride = strides[v];
+    let most = times(steps, stride);
     if v < variables {
-        if rise_of(model, target, head) > steps {
+        if rise_of(model, target, head) > most {
             let x = variables::variable(file, head);
-            put(target, v, further(x, value, near(steps)));
+            put(target, v, further(x, value, near(most)));
         }
     }
 }
 
-// The targets of these heads are at most so many steps from their values.
+// The targets of these heads are at most so many strides from their values.
 pub fn draw_in(
     file: &[u8],
     variables: usize,
     heads: &[u8; Format::MAX_VARIABLES],
     count: usize,
     steps: i64,
+    strides: &[i64; Format::MAX_VARIABLES],
     model: &[i64; Format::MAX_VARIABLES],
     target: &mut [i64; Format::MAX_VARIABLES],
 )
@@ -292,6 +313,14 @@ pub fn draw_in(
     ensures { λ _. ⌜ (length (now (target .exit)) ≡ maxVariables) × Small (now (target .exit)) ⌝ }
 {
     for k in 0..count {
-        draw_one(file, variables, get(heads, k), steps, model, target);
+        draw_one(
+            file,
+            variables,
+            get(heads, k),
+            steps,
+            strides,
+            model,
+            target,
+        );
     }
 }

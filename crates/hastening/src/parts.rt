@@ -81,7 +81,7 @@ fn pause(
     list: &[u8; Format::MAX_VARIABLES],
     from: usize,
     to: usize,
-    by: &[usize; Format::MAX_VARIABLES],
+    by: &[u16; Format::MAX_VARIABLES],
     risen: &mut [u64; Set::WORDS],
     pace: Pace,
 ) -> Pace
@@ -145,7 +145,7 @@ fn settle_part(
     list: &[u8; Format::MAX_VARIABLES],
     from: usize,
     to: usize,
-    by: &mut [usize; Format::MAX_VARIABLES],
+    by: &mut [u16; Format::MAX_VARIABLES],
 ) -> Lapped
     requires { ⌜ AcceptedAs (now file) counts ⌝ }
     requires { ⌜ SomeRun (now file) (now offsets) (now masks) (now readers) (now others) (now stops) cut (now model) (now waiting) ⌝ }
@@ -219,9 +219,9 @@ pub fn hasten(
     cut: bool,
     waiting: &mut [u64; Tables::ROW],
     order: &[u16; Format::MAX_RULES],
-    ends: &[usize; Format::MAX_VARIABLES],
+    ends: &[u16; Format::MAX_VARIABLES],
     list: &[u8; Format::MAX_VARIABLES],
-    lasts: &[usize; Format::MAX_VARIABLES],
+    lasts: &[u16; Format::MAX_VARIABLES],
     parts: usize,
 ) -> Lapped
     requires { ⌜ AcceptedAs (now file) counts ⌝ }
@@ -231,7 +231,7 @@ pub fn hasten(
     ensures { λ r. ⌜ RunLapped (now (file .entry)) (now (offsets .entry)) (now (masks .entry)) (now (readers .entry)) (now (others .entry)) (now (stops .entry)) cut
         (now (model .entry)) (now (waiting .entry)) (now (model .exit)) (now (waiting .exit)) r ⌝ }
 {
-    let mut by = [0usize; Format::MAX_VARIABLES];
+    let mut by = [0u16; Format::MAX_VARIABLES];
     let mut start = 0;
     let mut from = 0;
     for p in 0..parts {

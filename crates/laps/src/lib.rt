@@ -89,7 +89,7 @@ fn rule_at(order: &[u16; Format::MAX_RULES], k: usize) -> usize
 fn note(
     tried: Tried,
     i: usize,
-    by: &mut [usize; Format::MAX_VARIABLES],
+    by: &mut [u16; Format::MAX_VARIABLES],
     risen: &mut [u64; Set::WORDS],
 ) -> bool
     requires { ⌜ (length (now by) ≡ maxVariables) × (length (now risen) ≡ wordCount) ⌝ }
@@ -99,7 +99,7 @@ fn note(
         return false;
     };
     let v = format::wide(head);
-    by[v] = i;
+    by[v] = (i % 65536) as u16;
     words::add_bit(risen, v);
     true
 }
@@ -118,7 +118,7 @@ pub fn lap(
     stops: &[i64; Format::MAX_VARIABLES],
     cut: bool,
     waiting: &mut [u64; Tables::ROW],
-    by: &mut [usize; Format::MAX_VARIABLES],
+    by: &mut [u16; Format::MAX_VARIABLES],
     risen: &mut [u64; Set::WORDS],
 ) -> Lapped
     requires { ⌜ SomeRun (now file) (now offsets) (now masks) (now readers) (now others) (now stops) cut (now model) (now waiting) ⌝ }

@@ -111,7 +111,7 @@ demanded-by P R θ m i (Value a) e = cases (notPast (R .variable (headOf P i)) a
     (λ t. rw e t) (λ t. record { gives-it = e; more = record { lt = t } })
 
 -- what was looked at, where what is found is what is given
-looked-demanded : (P : Program) (R : Reckoning) (θ : Valuation) (mask : ℕ) (cut : Bool) (stops others m : List ℤ) (i : ℕ) {d : Demand}
+pub looked-demanded : (P : Program) (R : Reckoning) (θ : Valuation) (mask : ℕ) (cut : Bool) (stops others m : List ℤ) (i : ℕ) {d : Demand}
     → ((a b : ℤ) → notPast (R .variable (headOf P i)) a b ≡ notPast (variableIn (P .variables) (headOf P i)) a b) → R .gives i (valued m) θ ≡ foundBy P mask cut stops others m i
     → LookedAt P mask cut stops others m i d → Demanded P R θ (valued m) i d
 looked-demanded P R θ mask cut stops others m i {d} k f q =

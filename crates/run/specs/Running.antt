@@ -145,6 +145,21 @@ pub record Underway (s : List ℕ) (P : Program) (R : Reckoning) (θ : Valuation
   pub basis : Basis s P R θ offsets masks others stops cut
   pub progress : Progress (reckoned P R) θ (valued m)
 
+-- where `full` is set, a rule is met whose head has its value in `stops`
+pub record FullMet (P : Program) (R : Reckoning) (θ : Valuation) (stops : List ℤ) (full : Bool) : Type 0 where
+  pub met : full ≡ true → (i : ℕ) → i < length (P .rules) → (m : List ℤ) → Progress (reckoned P R) θ (valued m) → valued m (headOf P i) ≡ valued stops (headOf P i)
+      → RuleMetIn P R θ (valued m) i
+
+-- the tables reach to the last rule
+pub record Reach (P : Program) (offsets masks : List ℕ) : Type 0 where
+  pub offsets-reach : length (P .rules) ≤ length offsets
+  pub masks-reach : length (P .rules) ≤ length masks
+
+-- the values are on the way, and full heads need no look
+pub record Sweepable (s : List ℕ) (P : Program) (R : Reckoning) (θ : Valuation) (offsets masks : List ℕ) (others stops : List ℤ) (cut full : Bool) (m : List ℤ) : Type 0 where
+  pub way : Underway s P R θ offsets masks others stops cut m
+  pub full-met : FullMet P R θ stops full
+
 -- ---- one step
 
 -- every rule outside the set is met
@@ -244,10 +259,19 @@ pub record SomeWay (s offsets masks : List ℕ) (others stops : List ℤ) (cut :
   pub assigned : Valuation
   pub way : Underway s program reckoning assigned offsets masks others stops cut m
 
-pub record SomeBasis (s : List ℕ) (θ : Valuation) (offsets masks : List ℕ) (others stops : List ℤ) (cut : Bool) : Type 0 where
+pub record SomeSweepable (s offsets masks : List ℕ) (others stops : List ℤ) (cut full : Bool) (m : List ℤ) : Type 0 where
+  pub program : Program
+  pub reckoning : Reckoning
+  pub assigned : Valuation
+  pub sweepable : Sweepable s program reckoning assigned offsets masks others stops cut full m
+  pub reach : Reach program offsets masks
+
+pub record SomeBasis (s : List ℕ) (θ : Valuation) (offsets masks : List ℕ) (others stops : List ℤ) (cut full : Bool) : Type 0 where
   pub program : Program
   pub reckoning : Reckoning
   pub basis : Basis s program reckoning θ offsets masks others stops cut
+  pub full-met : FullMet program reckoning θ stops full
+  pub reach : Reach program offsets masks
 
 -- the least model, or no model
 abbrev pub EndsWith : Program → Reckoning → Valuation → Valuation → Ending → Type 0

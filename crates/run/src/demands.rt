@@ -124,7 +124,35 @@ pub fn stop_at(cut: bool, x: Variable, stop: i64, mask: u32, given: Given) -> Gi
     cut_off(x, stop, given)
 }
 
-// Whether rule i demands more than its head has; with `cut` what it demands stops at the head's value in `stops`.
+// Whether the rule whose field stands at `at` demands more than its head has; with `cut` what it demands stops at the head's value in `stops`.
+pub fn look_at(
+    file: &[u8],
+    at: usize,
+    mask: u32,
+    model: &[i64; Format::MAX_VARIABLES],
+    others: &[i64; Format::MAX_VARIABLES],
+    stops: &[i64; Format::MAX_VARIABLES],
+    cut: bool,
+) -> Demand
+    requires { ⌜ SomeRule (now file) at ⌝ }
+    requires { ⌜ Small (now model) × Small (now others) ⌝ }
+    ensures { λ r. ⌜ ((P : Program) (i : ℕ) → RuleStands (now (file .entry)) P i at
+        → LookedAt P mask cut (now (stops .entry)) (now (others .entry)) (now (model .entry)) i r) ⌝ }
+{
+    let head = head_at(file, at);
+    let x = variables::variable(file, head);
+    let v = format::wide(head);
+    let value = model[v];
+    if !cut {
+        let past = demand_past(file, at, mask, model, others, x, value);
+        return exceeds(x, past, value);
+    }
+    let given = demand(file, at, mask, model, others);
+    let stop = stops[v];
+    exceeds(x, stop_at(cut, x, stop, mask, given), value)
+}
+
+// Whether rule i does, in tables for the most rules.
 pub fn look(
     file: &[u8],
     offsets: &[u16; Format::MAX_RULES],
@@ -143,17 +171,7 @@ pub fn look(
 {
     let at = place_of(offsets, i);
     let mask = masks[i];
-    let head = head_at(file, at);
-    let x = variables::variable(file, head);
-    let v = format::wide(head);
-    let value = model[v];
-    if !cut {
-        let past = demand_past(file, at, mask, model, others, x, value);
-        return exceeds(x, past, value);
-    }
-    let given = demand(file, at, mask, model, others);
-    let stop = stops[v];
-    exceeds(x, stop_at(cut, x, stop, mask, given), value)
+    look_at(file, at, mask, model, others, stops, cut)
 }
 
 // The lowest rule of the set leaves it.

@@ -6,9 +6,9 @@ ghost use lib.ListN.{length};
 ghost use Rattle.format.specs.Limits.{maxVariables, maxRules};
 ghost use Rattle.program.specs.Program.{Program};
 ghost use Rattle.program.specs.Reading.{AcceptedAs, Accepts};
-ghost use Rattle.program.specs.Readings.{Valuation};
+ghost use Rattle.program.specs.Readings.{Valuation, valued};
 ghost use Rattle.meaning.specs.Reduct.{Reckoning};
-ghost use Rattle.run.specs.Running.{Stored, Underway, SomeWay, SweepIs, SweepingIs, mostSweeps};
+ghost use Rattle.run.specs.Running.{Stored, Sweepable, SomeSweepable, SweepIs, SweepingIs, mostSweeps};
 use crate::Demand;
 use crate::Ending;
 use crate::Sweep;
@@ -18,6 +18,8 @@ use format::Format;
 use parts::variables;
 use program::Counts;
 use program::Variable;
+use tables::mask_in;
+use tables::place_in;
 
 pub struct Sweeps {}
 
@@ -44,30 +46,54 @@ pub fn store(x: Variable, head: u8, a: i64, model: &mut [i64; Format::MAX_VARIAB
     true
 }
 
-// Rule i raises its head where it demands more than the head has.
+// Whether the head has its value in `stops`, where this is asked for.
+fn is_full(
+    full: bool,
+    head: u8,
+    model: &[i64; Format::MAX_VARIABLES],
+    stops: &[i64; Format::MAX_VARIABLES],
+) -> bool
+    ensures { λ r. ⌜ (r ≡ true → (full ≡ true) × (valued (now (model .entry)) head ≡ valued (now (stops .entry)) head)) ⌝ }
+{
+    if !full {
+        return false;
+    }
+    let v = format::wide(head);
+    let value = model[v];
+    let stop = stops[v];
+    value == stop
+}
+
+// Rule i raises its head where it demands more than the head has. With `full` a head that has its value in `stops` is known to need no more.
 fn meet(
     file: &[u8],
-    offsets: &[u16; Format::MAX_RULES],
-    masks: &[u32; Format::MAX_RULES],
+    offsets: &[u16],
+    masks: &[u32],
     i: usize,
     model: &mut [i64; Format::MAX_VARIABLES],
     others: &[i64; Format::MAX_VARIABLES],
     stops: &[i64; Format::MAX_VARIABLES],
     cut: bool,
+    full: bool,
 ) -> Sweep
-    requires { ⌜ SomeWay (now file) (now offsets) (now masks) (now others) (now stops) cut (now model) ⌝ }
+    requires { ⌜ SomeSweepable (now file) (now offsets) (now masks) (now others) (now stops) cut full (now model) ⌝ }
     requires { ⌜ ((P : Program) → Accepts (now file) P → i < length (P .rules)) ⌝ }
     requires { ⌜ length (now model) ≡ maxVariables ⌝ }
     ensures { λ _. ⌜ length (now (model .exit)) ≡ maxVariables ⌝ }
     ensures { λ r. ⌜ ((P : Program) (R : Reckoning) (θ : Valuation)
-        → Underway (now (file .entry)) P R θ (now (offsets .entry)) (now (masks .entry)) (now (others .entry)) (now (stops .entry)) cut (now (model .entry))
+        → Sweepable (now (file .entry)) P R θ (now (offsets .entry)) (now (masks .entry)) (now (others .entry)) (now (stops .entry)) cut full (now (model .entry))
         → SweepIs (now (file .entry)) P R θ i (i + 1) (now (model .entry)) (now (model .exit)) r) ⌝ }
 {
-    let found = demands::look(file, offsets, masks, i, model, others, stops, cut);
+    let at = place_in(offsets, i);
+    let head = demands::head_at(file, at);
+    if is_full(full, head, model, stops) {
+        return Sweep::Raises(0);
+    }
+    let mask = mask_in(masks, i);
+    let found = demands::look_at(file, at, mask, model, others, stops, cut);
     let Demand::More(a) = found else {
         return Sweep::Raises(0);
     };
-    let head = demands::head_of(file, offsets, i);
     let x = variables::variable(file, head);
     if store(x, head, a, model) {
         Sweep::Raises(1)
@@ -80,26 +106,27 @@ fn meet(
 pub fn sweep(
     file: &[u8],
     counts: Counts,
-    offsets: &[u16; Format::MAX_RULES],
-    masks: &[u32; Format::MAX_RULES],
+    offsets: &[u16],
+    masks: &[u32],
     model: &mut [i64; Format::MAX_VARIABLES],
     others: &[i64; Format::MAX_VARIABLES],
     stops: &[i64; Format::MAX_VARIABLES],
     cut: bool,
+    full: bool,
 ) -> Sweep
     requires { ⌜ AcceptedAs (now file) counts ⌝ }
-    requires { ⌜ SomeWay (now file) (now offsets) (now masks) (now others) (now stops) cut (now model) ⌝ }
+    requires { ⌜ SomeSweepable (now file) (now offsets) (now masks) (now others) (now stops) cut full (now model) ⌝ }
     requires { ⌜ length (now model) ≡ maxVariables ⌝ }
     ensures { λ _. ⌜ length (now (model .exit)) ≡ maxVariables ⌝ }
     ensures { λ r. ⌜ ((P : Program) (R : Reckoning) (θ : Valuation)
-        → Underway (now (file .entry)) P R θ (now (offsets .entry)) (now (masks .entry)) (now (others .entry)) (now (stops .entry)) cut (now (model .entry))
+        → Sweepable (now (file .entry)) P R θ (now (offsets .entry)) (now (masks .entry)) (now (others .entry)) (now (stops .entry)) cut full (now (model .entry))
         → SweepIs (now (file .entry)) P R θ 0 (counts .rules) (now (model .entry)) (now (model .exit)) r) ⌝ }
 {
     let rules = counts.rules;
     let mut raises = 0;
     let mut i = 0;
     while i < rules {
-        let met = meet(file, offsets, masks, i, model, others, stops, cut);
+        let met = meet(file, offsets, masks, i, model, others, stops, cut, full);
         let Sweep::Raises(n) = met else {
             return Sweep::NoModel;
         };
@@ -109,53 +136,58 @@ pub fn sweep(
     Sweep::Raises(raises)
 }
 
-// Whether another sweep pays, after `done` sweeps with `all` raises, `last` of them in the last sweep and `before` in the one before it.
-fn pays(rules: usize, done: usize, all: usize, before: usize, last: usize) -> bool
+// Whether another sweep pays, after `done` sweeps with `last` raises in the last and `before` in the one before it: after the third, where raises have more than halved.
+pub fn pays(done: usize, before: usize, last: usize) -> bool
     requires { ⌜ last ≤ maxRules ⌝ }
-    ensures { λ r. ⌜ (r ≡ true → (done < mostSweeps) × (all ≤ rules)) ⌝ }
+    ensures { λ r. ⌜ (r ≡ true → done < mostSweeps) ⌝ }
 {
     if Sweeps::MOST <= done {
         return false;
     }
-    if rules < all {
-        return false;
-    }
-    done < 2 || 2 * last < before
+    done < 3 || 2 * last < before
 }
 
 // Sweeps while they pay, to the end of the run or not so far.
 pub fn sweep_on(
     file: &[u8],
     counts: Counts,
-    offsets: &[u16; Format::MAX_RULES],
-    masks: &[u32; Format::MAX_RULES],
+    offsets: &[u16],
+    masks: &[u32],
     model: &mut [i64; Format::MAX_VARIABLES],
     others: &[i64; Format::MAX_VARIABLES],
     stops: &[i64; Format::MAX_VARIABLES],
     cut: bool,
+    full: bool,
 ) -> Sweeping
     requires { ⌜ AcceptedAs (now file) counts ⌝ }
-    requires { ⌜ SomeWay (now file) (now offsets) (now masks) (now others) (now stops) cut (now model) ⌝ }
+    requires { ⌜ SomeSweepable (now file) (now offsets) (now masks) (now others) (now stops) cut full (now model) ⌝ }
     requires { ⌜ length (now model) ≡ maxVariables ⌝ }
     ensures { λ _. ⌜ length (now (model .exit)) ≡ maxVariables ⌝ }
     ensures { λ r. ⌜ ((P : Program) (R : Reckoning) (θ : Valuation)
-        → Underway (now (file .entry)) P R θ (now (offsets .entry)) (now (masks .entry)) (now (others .entry)) (now (stops .entry)) cut (now (model .entry))
+        → Sweepable (now (file .entry)) P R θ (now (offsets .entry)) (now (masks .entry)) (now (others .entry)) (now (stops .entry)) cut full (now (model .entry))
         → SweepingIs P R θ (now (model .exit)) r) ⌝ }
 {
-    let rules = counts.rules;
     let mut done = 0;
-    let mut all = 0;
     let mut before = 0;
     let mut last = 0;
-    while pays(rules, done, all, before, last) {
-        let swept = sweep(file, counts, offsets, masks, model, others, stops, cut);
+    while pays(done, before, last) {
+        let swept = sweep(
+            file,
+            counts,
+            offsets,
+            masks,
+            model,
+            others,
+            stops,
+            cut,
+            full,
+        );
         let Sweep::Raises(n) = swept else {
             return Sweeping::Ended(Ending::NoModel);
         };
         if n == 0 {
             return Sweeping::Ended(Ending::Model);
         }
-        all += n;
         before = last;
         last = n;
         done += 1;

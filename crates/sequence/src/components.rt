@@ -12,12 +12,12 @@ use reach::Rows;
 use sets::Set;
 
 // Puts a number at place i of a list, if there is such a place.
-pub fn note(list: &mut [usize; Format::MAX_VARIABLES], i: usize, n: usize)
+pub fn note(list: &mut [u16; Format::MAX_VARIABLES], i: usize, n: usize)
     requires { ⌜ length (now list) ≡ maxVariables ⌝ }
     ensures { λ _. ⌜ length (now (list .exit)) ≡ maxVariables ⌝ }
 {
     if i < Format::MAX_VARIABLES {
-        list[i] = n;
+        list[i] = (n % 65536) as u16;
     }
 }
 
@@ -47,7 +47,7 @@ fn part_of(
     x: u8,
     fresh: &mut [u64; Set::WORDS],
     list: &mut [u8; Format::MAX_VARIABLES],
-    ends: &mut [usize; Format::MAX_VARIABLES],
+    ends: &mut [u16; Format::MAX_VARIABLES],
     parts: Parts,
 ) -> Parts
     requires { ⌜ (length (now fresh) ≡ wordCount) × (length (now list) ≡ maxVariables) × (length (now ends) ≡ maxVariables) ⌝ }
@@ -76,7 +76,7 @@ pub fn collect(
     finished: &[u8; Format::MAX_VARIABLES],
     n: usize,
     list: &mut [u8; Format::MAX_VARIABLES],
-    ends: &mut [usize; Format::MAX_VARIABLES],
+    ends: &mut [u16; Format::MAX_VARIABLES],
 ) -> usize
     requires { ⌜ (n ≤ maxVariables) × (length (now list) ≡ maxVariables) × (length (now ends) ≡ maxVariables) ⌝ }
     ensures { λ _. ⌜ (length (now (list .exit)) ≡ maxVariables) × (length (now (ends .exit)) ≡ maxVariables) ⌝ }

@@ -12,6 +12,7 @@ use parts::places::value_at;
 use parts::rules;
 use reach::Rows;
 use reach::mark;
+use tables::Tables;
 use tables::place_of;
 
 // Position j of a rule, if its bit is set in the mask: the head follows its variable, or turned round its variable the head.
@@ -51,12 +52,20 @@ fn link_rule(value: &[u8], mask: u32, turned: bool, rows: &mut [u64; Rows::LENGT
     }
 }
 
+// The mask of rule i, 0 where it is none of the live rules.
+pub fn mask_of(masks: &[u32; Format::MAX_RULES], live: &[u64; Tables::ROW], i: usize) -> u32
+    requires { ⌜ i < maxRules ⌝ }
+{
+    if words::has_bit(live, i) { masks[i] } else { 0 }
+}
+
 // Every rule.
 pub fn link(
     file: &[u8],
     rules: usize,
     offsets: &[u16; Format::MAX_RULES],
     masks: &[u32; Format::MAX_RULES],
+    live: &[u64; Tables::ROW],
     turned: bool,
     rows: &mut [u64; Rows::LENGTH],
 )
@@ -65,7 +74,8 @@ pub fn link(
     ensures { λ _. ⌜ length (now (rows .exit)) ≡ rowsLength ⌝ }
 {
     for i in 0..rules {
-        link_rule(value_at(file, place_of(offsets, i)), masks[i], turned, rows);
+        let mask = mask_of(masks, live, i);
+        link_rule(value_at(file, place_of(offsets, i)), mask, turned, rows);
     }
 }
 

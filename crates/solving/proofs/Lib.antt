@@ -1,1 +1,1 @@
-pub mod SettleLaws
+pub mod SolvingLaws

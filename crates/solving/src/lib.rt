@@ -1,199 +1,65 @@
 // The least model of a reckoning: sweeps over the rules as they stand, and where these do not settle it, components in order, laps and leaps.
 ghost use mathlib.Core.Path.{_≡_};
-ghost use Prim.Native.Nat.{ℕ, _≤_};
+ghost use Prim.Native.Nat.{ℕ, _<_, _≤_};
 ghost use lib.ListN.{length};
 ghost use Rattle.format.specs.Limits.{maxVariables};
 ghost use Rattle.program.specs.Program.{Program};
 ghost use Rattle.program.specs.Reading.{AcceptedAs, Accepts};
-ghost use Rattle.program.specs.Readings.{Valuation, valued};
+ghost use Rattle.program.specs.Readings.{valued};
 ghost use Rattle.meaning.specs.Founded.{Within};
 ghost use Rattle.meaning.specs.Reduct.{Reckoning, reduct, system};
+ghost use Rattle.meaning.specs.Stable.{RuleMet};
 ghost use Rattle.tables.specs.Laid.{Laid};
-ghost use Rattle.run.specs.Running.{Basis, Underway, SomeBasis, SomeWay, EndsWith};
+ghost use Rattle.ascent.specs.Ascending.{Ascending};
+ghost use Rattle.run.specs.Running.{Basis, FullMet, SomeBasis, EndsWith};
 use format::Format;
-use guess::live::keep_live;
-use hastening::parts::hasten;
-use laps::Lapped;
 use program::Counts;
 use reduct::loading;
 use run::Ending;
+use run::Sweep;
 use run::Sweeping;
-use run::solve::solve;
+use run::sweeps::sweep;
 use run::sweeps::sweep_on;
-use sequence::parts_by;
-use sequence::sequence;
-use tables::Tables;
-use tables::fill_readers;
+use settling::settle_in;
 
-// From values on the way to the least model, by this order: every rule waits, components come one after the other, and what still waits then is looked at from the
-// lowest rule on.
-fn settle_by(
-    file: &[u8],
-    counts: Counts,
-    offsets: &[u16; Format::MAX_RULES],
-    masks: &[u32; Format::MAX_RULES],
-    model: &mut [i64; Format::MAX_VARIABLES],
-    others: &[i64; Format::MAX_VARIABLES],
-    stops: &[i64; Format::MAX_VARIABLES],
-    cut: bool,
-    order: &[u16; Format::MAX_RULES],
-    ends: &[usize; Format::MAX_VARIABLES],
-    list: &[u8; Format::MAX_VARIABLES],
-    lasts: &[usize; Format::MAX_VARIABLES],
-    parts: usize,
-) -> Ending
-    requires { ⌜ AcceptedAs (now file) counts ⌝ }
-    requires { ⌜ SomeWay (now file) (now offsets) (now masks) (now others) (now stops) cut (now model) ⌝ }
-    requires { ⌜ length (now model) ≡ maxVariables ⌝ }
-    ensures { λ _. ⌜ length (now (model .exit)) ≡ maxVariables ⌝ }
-    ensures { λ r. ⌜ ((P : Program) (R : Reckoning) (θ : Valuation)
-        → Underway (now (file .entry)) P R θ (now (offsets .entry)) (now (masks .entry)) (now (others .entry)) (now (stops .entry)) cut (now (model .entry))
-        → EndsWith P R θ (valued (now (model .exit))) r) ⌝ }
-{
-    let rules = counts.rules;
-    let mut readers = [0u64; Tables::READERS];
-    let mut waiting = [0u64; Tables::ROW];
-    fill_readers(file, counts, offsets, masks, &mut readers);
-    words::fill_bits(&mut waiting, rules);
-    let lapped = hasten(
-        file,
-        counts,
-        offsets,
-        masks,
-        &readers,
-        model,
-        others,
-        stops,
-        cut,
-        &mut waiting,
-        order,
-        ends,
-        list,
-        lasts,
-        parts,
-    );
-    if let Lapped::NoModel = lapped {
-        return Ending::NoModel;
-    }
-    solve(
-        file,
-        offsets,
-        masks,
-        &readers,
-        model,
-        others,
-        stops,
-        cut,
-        &mut waiting,
-    )
-}
-
-// From values on the way to the least model.
-fn settle(
-    file: &[u8],
-    counts: Counts,
-    offsets: &[u16; Format::MAX_RULES],
-    masks: &[u32; Format::MAX_RULES],
-    model: &mut [i64; Format::MAX_VARIABLES],
-    others: &[i64; Format::MAX_VARIABLES],
-    stops: &[i64; Format::MAX_VARIABLES],
-    cut: bool,
-) -> Ending
-    requires { ⌜ AcceptedAs (now file) counts ⌝ }
-    requires { ⌜ SomeWay (now file) (now offsets) (now masks) (now others) (now stops) cut (now model) ⌝ }
-    requires { ⌜ length (now model) ≡ maxVariables ⌝ }
-    ensures { λ _. ⌜ length (now (model .exit)) ≡ maxVariables ⌝ }
-    ensures { λ r. ⌜ ((P : Program) (R : Reckoning) (θ : Valuation)
-        → Underway (now (file .entry)) P R θ (now (offsets .entry)) (now (masks .entry)) (now (others .entry)) (now (stops .entry)) cut (now (model .entry))
-        → EndsWith P R θ (valued (now (model .exit))) r) ⌝ }
-{
-    let n = counts.variables;
-    let rules = counts.rules;
-    let mut list = [0u8; Format::MAX_VARIABLES];
-    let mut lasts = [0usize; Format::MAX_VARIABLES];
-    let mut order = [0u16; Format::MAX_RULES];
-    let mut ends = [0usize; Format::MAX_VARIABLES];
-    let mut live = [0u32; Format::MAX_RULES];
-    let mut finer = [0u8; Format::MAX_VARIABLES];
-    keep_live(
-        file,
-        n,
-        rules,
-        offsets,
-        masks,
-        true,
-        model,
-        others,
-        &mut live,
-    );
-    parts_by(file, n, rules, offsets, &live, &mut finer, &mut lasts);
-    keep_live(
-        file,
-        n,
-        rules,
-        offsets,
-        masks,
-        false,
-        model,
-        others,
-        &mut live,
-    );
-    let parts = sequence(
-        file,
-        n,
-        rules,
-        offsets,
-        &live,
-        &finer,
-        &mut list,
-        &mut lasts,
-        &mut order,
-        &mut ends,
-    );
-    settle_by(
-        file,
-        counts,
-        offsets,
-        masks,
-        model,
-        others,
-        stops,
-        cut,
-        &order,
-        &ends,
-        &list,
-        &lasts,
-        parts,
-    )
-}
-
-// From the starting ends, standard variables as assigned, to the least model of a reckoning.
+// From the starting ends, standard variables as assigned, to the least model of a reckoning. With `full` a head that has its value in `stops` is known to need no more.
 pub fn reckon(
     file: &[u8],
     counts: Counts,
-    offsets: &[u16; Format::MAX_RULES],
-    masks: &[u32; Format::MAX_RULES],
+    offsets: &[u16],
+    masks: &[u32],
     assigned: &[i64; Format::MAX_VARIABLES],
     others: &[i64; Format::MAX_VARIABLES],
     stops: &[i64; Format::MAX_VARIABLES],
     cut: bool,
+    full: bool,
     model: &mut [i64; Format::MAX_VARIABLES],
 ) -> Ending
     requires { ⌜ AcceptedAs (now file) counts ⌝ }
-    requires { ⌜ SomeBasis (now file) (valued (now assigned)) (now offsets) (now masks) (now others) (now stops) cut ⌝ }
+    requires { ⌜ SomeBasis (now file) (valued (now assigned)) (now offsets) (now masks) (now others) (now stops) cut full ⌝ }
     requires { ⌜ ((v : ℕ) → counts .variables ≤ v → valued (now model) v ≡ valued (now assigned) v) ⌝ }
     requires { ⌜ length (now model) ≡ maxVariables ⌝ }
     ensures { λ _. ⌜ length (now (model .exit)) ≡ maxVariables ⌝ }
     ensures { λ r. ⌜ ((P : Program) (R : Reckoning)
         → Basis (now (file .entry)) P R (valued (now (assigned .entry))) (now (offsets .entry)) (now (masks .entry)) (now (others .entry)) (now (stops .entry)) cut
-        → EndsWith P R (valued (now (assigned .entry))) (valued (now (model .exit))) r) ⌝ }
+        → FullMet P R (valued (now (assigned .entry))) (now (stops .entry)) full → EndsWith P R (valued (now (assigned .entry))) (valued (now (model .exit))) r) ⌝ }
 {
     let n = counts.variables;
     loading::start_values(file, n, assigned, model);
-    let swept = sweep_on(file, counts, offsets, masks, model, others, stops, cut);
+    let swept = sweep_on(
+        file,
+        counts,
+        offsets,
+        masks,
+        model,
+        others,
+        stops,
+        cut,
+        full,
+    );
     match swept {
         Sweeping::Ended(ending) => ending,
-        Sweeping::Open => settle(file, counts, offsets, masks, model, others, stops, cut),
+        Sweeping::Open => settle_in(file, counts, offsets, masks, model, others, stops, cut),
     }
 }
 
@@ -201,8 +67,8 @@ pub fn reckon(
 pub fn run(
     file: &[u8],
     counts: Counts,
-    offsets: &[u16; Format::MAX_RULES],
-    masks: &[u32; Format::MAX_RULES],
+    offsets: &[u16],
+    masks: &[u32],
     assigned: &[i64; Format::MAX_VARIABLES],
     model: &mut [i64; Format::MAX_VARIABLES],
 ) -> Ending
@@ -222,6 +88,53 @@ pub fn run(
         assigned,
         assigned,
         false,
+        false,
         model,
+    )
+}
+
+// From values on the way, which sweeps have brought there, to the least model of the reduct of an assignment that meets every rule. Both this and `reckon` call `settle_in`, so that its memory stays out
+// of the frame of the sweeps.
+pub fn run_on(
+    file: &[u8],
+    counts: Counts,
+    offsets: &[u16],
+    masks: &[u32],
+    assigned: &[i64; Format::MAX_VARIABLES],
+    model: &mut [i64; Format::MAX_VARIABLES],
+) -> Ending
+    requires { ⌜ Laid (now file) counts (now offsets) (now masks) ⌝ }
+    requires { ⌜ Ascending (now file) (now assigned) (now model) ⌝ }
+    requires { ⌜ ((P : Program) → Accepts (now file) P → (i : ℕ) → i < length (P .rules) → RuleMet P (valued (now assigned)) i) ⌝ }
+    requires { ⌜ length (now model) ≡ maxVariables ⌝ }
+    ensures { λ _. ⌜ length (now (model .exit)) ≡ maxVariables ⌝ }
+    ensures { λ r. ⌜ ((P : Program) → Accepts (now (file .entry)) P → EndsWith P (reduct P) (valued (now (assigned .entry))) (valued (now (model .exit))) r) ⌝ }
+{
+    let swept = sweep(
+        file,
+        counts,
+        offsets,
+        masks,
+        model,
+        assigned,
+        assigned,
+        false,
+        true,
+    );
+    let Sweep::Raises(n) = swept else {
+        return Ending::NoModel;
+    };
+    if n == 0 {
+        return Ending::Model;
+    }
+    settle_in(
+        file,
+        counts,
+        offsets,
+        masks,
+        model,
+        assigned,
+        assigned,
+        false,
     )
 }

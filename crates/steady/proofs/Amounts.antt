@@ -1,11 +1,11 @@
--- A rule's amount at two readings. From the first to the second the plain positions have moved in their directions, each by all but n of its steps; or they are at most
--- n steps short of the first. What is said of `lo` and `hi` holds of the present values and the later ones, and for a head founded from above the other way round.
+-- A rule's amount at two readings. From the first to the second the plain positions have moved in their directions, each by all but n of its steps, or of its strides in a
+-- sum; or they are at most n steps short of the first. What is said of `lo` and `hi` holds of the present values and the later ones, and for a head founded from above the other way round.
 use Prim.Native.Nat.{ℕ, zero, suc, _+_, _-_, _*_, _<_, _≤_}
 use mathlib.Core.Path.{_≡_, refl, ap, subst}
 use mathlib.Core.List.{List}
 use mathlib.Core.Bool.{Bool, true, false, not, cond, _&&_}
 use native.Mathlib.Omega.{arith}
-use native.Mathlib.Nat.{mul-le-mul, mul-comm}
+use native.Mathlib.Nat.{mul-le-mul, mul-comm, mul-assoc}
 use lib.Dec.{T, eqb}
 use lib.IntN.{ℤ, pos, negsuc, natAbs, _+ℤ_, _*ℤ_}
 use lib.Signed.{_≤ℤ_, leZ, leZ-yes, ltZ}
@@ -117,7 +117,7 @@ module _ {vs : List Variable} {r : Rule} (p : RulePromise vs r) (n : ℕ) where
   plain i = plainDirection (termForm (r .form)) (variableIn vs (bodyVariable r i)) (termIn (r .terms) i .number)
 
   -- a position of a form without literals is plain
-  plain-at : termForm (r .form) ≤ 5 → (i : ℕ) → i < count → termIn ts i .op ≡ 0
+  pub plain-at : termForm (r .form) ≤ 5 → (i : ℕ) → i < length (r .terms) → termIn (r .terms) i .op ≡ 0
   plain-at h i l = p .body .terms i l .plain-op (plain-position (termForm (r .form)) i h)
 
   -- the sum at a reading
@@ -132,38 +132,43 @@ module _ {vs : List Variable} {r : Rule} (p : RulePromise vs r) (n : ℕ) where
     pub rising : 2 ≤ termForm (r .form) → termForm (r .form) ≤ 4 → (i : ℕ) → i < length (r .terms) → lo i ≤ℤ hi i
     rising h k i l = rw (← plain-rising (termForm (r .form)) (variableIn vs (bodyVariable r i)) (termIn ts i .number) h k) at (m i l (plain-at (omega arith) i l))
 
-    -- the rises are reckoned from `at` and `aim`
-    module _ (at aim : ℕ → ℤ) (near : (i : ℕ) → i < length (r .terms) → apart at aim i ≤ distance (lo i) (hi i) + n) where
+    -- the rise of a sum is reckoned from `at` and `aim`, in strides
+    module _ (at aim : ℕ → ℤ) (own : ℕ) (stride : ℕ → ℕ) (near : (i : ℕ) → i < length (r .terms) → apart at aim i ≤ distance (lo i) (hi i) + n * stride i) where
       position-short : termForm (r .form) ≡ 1 → (w i : ℕ) → i < count → w ≤ natAbs (termIn ts i .number)
-          → ((termIn ts i .number *ℤ lo i) +ℤ pos (w * apart at aim i)) ≤ℤ ((termIn ts i .number *ℤ hi i) +ℤ pos (w * n))
+          → ((termIn ts i .number *ℤ lo i) +ℤ pos (w * apart at aim i)) ≤ℤ ((termIn ts i .number *ℤ hi i) +ℤ pos (w * (n * stride i)))
       position-short q w i l h =
           let k = termIn ts i .number in
           let v = distance (lo i) (hi i) in
+          let u = n * stride i in
           let g = gain k (lo i) (hi i) (rw (← plain-sum (termForm (r .form)) (variableIn vs (bodyVariable r i)) k q) at (m i l (plain-at (omega arith) i l))) in
-          omega (int, g, weighed v n h (near i l), sum-is (k *ℤ lo i) (pos (natAbs k * v)), sum-is (k *ℤ lo i) (pos (w * apart at aim i)), sum-is (k *ℤ hi i) (pos (w * n)))
+          omega (int, g, weighed v u h (near i l), sum-is (k *ℤ lo i) (pos (natAbs k * v)), sum-is (k *ℤ lo i) (pos (w * apart at aim i)), sum-is (k *ℤ hi i) (pos (w * u)))
 
-      -- the rise takes a sum at most n times the divisor too far
-      pub sum-short : termForm (r .form) ≡ 1 → (sumAt lo +ℤ pos (rise (divisorOf r) (r .terms) at aim)) ≤ℤ (sumAt hi +ℤ pos (natAbs (divisorOf r) * n))
+      -- it takes the sum at most n strides of the head times the divisor too far
+      pub sum-short : termForm (r .form) ≡ 1 → (sumAt lo +ℤ pos (rise own stride (divisorOf r) (r .terms) at aim)) ≤ℤ (sumAt hi +ℤ pos (natAbs (divisorOf r) * (n * own)))
       unfolding rise
       sum-short q =
           let f : ℕ → ℤ = λ i. termIn ts i .number *ℤ lo i in
           let g : ℕ → ℤ = λ i. termIn ts i .number *ℤ hi i in
           let steps = apart at aim in
-          let a = rise-within (natAbs d) (numberAt ts) steps f g n count
-          (λ i l. position-short q (weightAt (natAbs d) (numberAt ts) steps i) i l (weight-number _ (termIn ts i .number) (steps i))) in
-          let s = riseBelow (natAbs d) (numberAt ts) steps count in
+          let room = natAbs d * own in
+          let a = rise-within room (numberAt ts) stride steps f g n count
+          (λ i l. position-short q (weightAt room (numberAt ts) stride steps i) i l (weight-number _ (termIn ts i .number) (stride i) (steps i))) in
+          let s = riseBelow room (numberAt ts) stride steps count in
+          let e : room * n ≡ natAbs d * (n * own) = omega (arith, mul-assoc (natAbs d) own n, ap (λ (z : ℕ). natAbs d * z) (mul-comm own n)) in
           omega (
             int,
             a,
+            e,
             sum-is c (sumBelow f count),
             sum-is c (sumBelow g count),
             sum-is (sumAt lo) (pos s),
-            sum-is (sumAt hi) (pos (natAbs d * n)),
-            sum-is (sumBelow g count) (pos (natAbs d * n)),
-            sum-is (sumBelow f count) (pos (s + roomBelow (natAbs d) (numberAt ts) steps count * n)),
+            sum-is (sumAt hi) (pos (natAbs d * (n * own))),
+            sum-is (sumBelow g count) (pos (room * n)),
+            sum-is (sumBelow f count) (pos (s + roomBelow room (numberAt ts) stride steps count * n)),
           )
 
-      -- and a product at most n too far
+    module _ (at aim : ℕ → ℤ) (near : (i : ℕ) → i < length (r .terms) → apart at aim i ≤ distance (lo i) (hi i) + n) where
+      -- the rise takes a product at most n too far
       module _ (q : termForm (r .form) ≡ 4) (low : (i : ℕ) → i < length (r .terms) → pos 0 ≤ℤ lo i)
           (under : (i : ℕ) → i < length (r .terms) → pos 1 ≤ℤ at i → pos 1 ≤ℤ hi i) where
         first : 0 < count

@@ -38,6 +38,10 @@ distance-back a b = cases (leZ a b) (λ t. distance a b ≡ distance b a)
     (λ t. omega (int, distance-up a b (omega int), distance-down b a (omega int)))
     (λ t. omega (int, distance-down a b (omega int), distance-up b a (omega int)))
 
+-- no steps
+pub distance-none : (a b : ℤ) → distance a b ≡ 0 → b ≡ a
+distance-none a b e = cases (leZ a b) (λ t. b ≡ a) (λ t. omega (int, distance-up a b (omega int))) (λ t. omega (int, distance-down a b (omega int)))
+
 -- of two values at or after a, the one that is at most n steps short of the other is at most n steps nearer
 pub short-distance : (x : Variable) (n : ℕ) (a b c : ℤ) → T (notPast x a b) → T (notPast x a c) → ShortBy n x b c → distance a b ≤ distance a c + n
 unfolding notPast ahead swaps
@@ -75,6 +79,11 @@ pub slack-same : (n : ℕ) (d : Direction) (a : ℤ) → Slack n d a a
 slack-same n Rising a = omega (int, sum-is a (pos n))
 slack-same n Falling a = omega (int, sum-is a (pos n))
 slack-same n Mixed a = refl
+
+pub slack-more : {n m : ℕ} → n ≤ m → (d : Direction) (a b : ℤ) → Slack n d a b → Slack m d a b
+slack-more {n} {m} h Rising a b s = omega (int, sum-is b (pos n), sum-is b (pos m))
+slack-more {n} {m} h Falling a b s = omega (int, sum-is a (pos n), sum-is a (pos m))
+slack-more h Mixed a b s = s
 
 pub slack-back : (n : ℕ) (d : Direction) (a b : ℤ) → Slack n (opposite d) a b → Slack n d b a
 slack-back n Rising a b s = s

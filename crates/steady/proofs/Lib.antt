@@ -1,3 +1,4 @@
+pub mod Ahead
 pub mod Distances
 pub mod Weights
 pub mod Amounts

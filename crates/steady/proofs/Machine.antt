@@ -1,5 +1,5 @@
 -- What the code reckons with: steps and weights that fit the machine's numbers, and one more position of a rise.
-use Prim.Native.Nat.{ℕ, zero, suc, _+_, _-_, _*_, _^_, _<_, _≤_}
+use Prim.Native.Nat.{ℕ, zero, suc, _+_, _-_, _*_, _/_, _^_, _<_, _≤_}
 use mathlib.Core.Path.{_≡_, refl, sym, ap, ap₂, _∙_, subst}
 use mathlib.Core.List.{List}
 use mathlib.Core.Bool.{Bool, true, false, not, cond, _&&_}
@@ -7,14 +7,14 @@ use native.Mathlib.Omega.{arith}
 use native.Mathlib.Nat.{mul-le-mul}
 use native.Mathlib.Numerals.{add-one}
 use lib.Dec.{T, eqb, ltb}
-use lib.IntN.{ℤ, pos, negsuc, negℤ, natAbs, _+ℤ_, _-ℤ_, _*ℤ_}
-use lib.Signed.{_≤ℤ_, leZ, ltZ, ltZ-no}
+use lib.IntN.{ℤ, pos, negsuc, negℤ, natAbs, _+ℤ_, _-ℤ_}
+use lib.Signed.{_≤ℤ_, leZ, leZ-yes, ltZ, ltZ-no, quotZ}
 use lib.ListN.{length}
 use borrow.Author.Tests.{ne-eqb}
 use mir.Syntax.{w64}
 use mir.Val.{SFits, ofZ}
 use Rattle.format.specs.Limits.{maxNumber, maxDivisor}
-use Rattle.format.proofs.Int.{int, sum-is, neg-is}
+use Rattle.format.proofs.Int.{int, sum-is, neg-is, abs-is, not-negative}
 use Rattle.format.proofs.Ints.{sfits-abs, abs-add}
 use Rattle.words.specs.Bit.{bit}
 use Rattle.program.specs.Program.{termIn}
@@ -24,11 +24,12 @@ use Rattle.program.specs.Readings.{valued}
 use Rattle.program.specs.Variables.{fromAbove, swaps}
 use Rattle.program.specs.declared.Term.{Term}
 use Rattle.program.specs.declared.Variable.{Variable}
-use Rattle.program.proofs.Tests.{is-test}
+use Rattle.program.proofs.Tests.{cases, is-test, and-left, and-right}
 use Rattle.bodies.specs.Readings.{readingOf}
 use Rattle.bodies.proofs.Loops.{reading-small}
-use Rattle.steady.specs.Estimate.{distance, apart, further, weight, roomBelow, weightAt, riseBelow, numberAt, rise, factorRise}
-use Rattle.steady.specs.Steps.{stepsOf, stepsAt}
+use Rattle.steady.specs.Estimate.{distance, apart, further, weight, roomBelow, weightAt, riseBelow, numberAt, rise, factorRise, outruns}
+use Rattle.steady.specs.Steps.{stepsOf, stepsAt, Shared}
+use Rattle.steady.specs.Strides.{strideBy, strideOf, strideAt}
 use Rattle.steady.proofs.Distances.{distance-up, distance-down, distance-most}
 use Rattle.steady.proofs.Weights.{weight-room, room-most}
 
@@ -121,114 +122,159 @@ module _ (at aim : ℕ → ℤ) where
       go false true = h 1
       go false false = omega arith
 
--- ---- weights
+-- ---- strides
 
 -- a divisor is its own size
 pub own-size : (d : ℤ) → pos 1 ≤ℤ d → d ≡ pos (natAbs d)
 own-size (pos n) h = refl
 own-size (negsuc n) h = absurd (h .le)
 
-pub weight-none : (room : ℕ) (k s : ℤ) → s ≡ pos 0 → pos 0 ≡ pos (weight room k (natAbs s))
-unfolding weight
-weight-none room k s e = rw e
+-- and so is a room
+pub room-size : (d : ℤ) → pos 0 ≤ℤ d → d ≡ pos (natAbs d)
+room-size (pos n) h = refl
+room-size (negsuc n) h = absurd (h .le)
 
-pub weight-some : (room k s : ℤ) → pos 0 ≤ℤ room → (ofZ w64 s ≡ 0 → ⊥) → smaller room (pos (natAbs k)) ≡ pos (weight (natAbs room) k (natAbs s))
+module _ (a : ℤ) where
+  pub stride-so : (leZ (pos 1) a && leZ a (pos maxNumber)) ≡ true → a ≡ pos (strideBy a)
+  unfolding strideBy
+  stride-so e = rw e (own-size a (leZ-yes (and-left (leZ (pos 1) a) (leZ a (pos maxNumber)) (is-test e))))
+
+  pub stride-not : (leZ (pos 1) a && leZ a (pos maxNumber)) ≡ false → pos 1 ≡ pos (strideBy a)
+  unfolding strideBy
+  stride-not e = rw e
+
+  pub stride-least : 1 ≤ strideBy a
+  unfolding strideBy
+  stride-least = cases (leZ (pos 1) a && leZ a (pos maxNumber)) (λ t. 1 ≤ cond t (natAbs a) 1)
+      (λ t. let l = and-left (leZ (pos 1) a) (leZ a (pos maxNumber)) t in omega (int, l, abs-is a)) (λ t. omega arith)
+
+  pub stride-most : strideBy a ≤ maxNumber
+  unfolding strideBy
+  stride-most = cases (leZ (pos 1) a && leZ a (pos maxNumber)) (λ t. cond t (natAbs a) 1 ≤ maxNumber)
+      (λ t. let l = and-left (leZ (pos 1) a) (leZ a (pos maxNumber)) t in
+      let m = and-right (leZ (pos 1) a) (leZ a (pos maxNumber)) t in
+      omega (int, l, m, abs-is a, not-negative {z = a} (omega int)))
+      (λ t. omega arith)
+
+  -- as the code has it
+  pub stride-own : {r : ℤ} → r ≡ pos (strideBy a) → (pos 1 ≤ℤ r) × (natAbs r ≤ maxNumber)
+  stride-own e = rw e (omega (int, stride-least), stride-most)
+
+-- ---- weights
+
+pub weight-none : (room : ℕ) (k : ℤ) (stride : ℕ) (s : ℤ) → s ≡ pos 0 → pos 0 ≡ pos (weight room k stride (natAbs s))
 unfolding weight
-weight-some (pos room) k s h f = simp (ne-eqb (natAbs s) 0 (nonzero s f)) (go (ltb (natAbs k) room))
+weight-none room k stride s e = rw e
+
+-- a number of the machine that is not 0
+pub nonzero : (s : ℤ) → (ofZ w64 s ≡ 0 → ⊥) → natAbs s ≡ 0 → ⊥
+nonzero (pos n) f e = f e
+nonzero (negsuc n) f e = let z : ⊥ = omega arith in z
+
+pub weight-some : (room k stride s : ℤ) → pos 0 ≤ℤ room → pos 1 ≤ℤ stride → (ofZ w64 s ≡ 0 → ⊥)
+    → smaller (quotZ room stride) (pos (natAbs k)) ≡ pos (weight (natAbs room) k (natAbs stride) (natAbs s))
+unfolding weight
+weight-some (pos room) k (pos stride) s h o f = simp (ne-eqb (natAbs s) 0 (nonzero s f)) (go (ltb (natAbs k) (room / stride)))
   where
-    go : (t : Bool) → cond t (pos (natAbs k)) (pos room) ≡ pos (cond t (natAbs k) room)
+    go : (t : Bool) → cond t (pos (natAbs k)) (pos (room / stride)) ≡ pos (cond t (natAbs k) (room / stride))
     go true = refl
     go false = refl
+weight-some (pos room) k (negsuc stride) s h o f = absurd (o .le)
+weight-some (negsuc room) k stride s h o f = absurd (h .le)
 
-    nonzero : (s : ℤ) → (ofZ w64 s ≡ 0 → ⊥) → natAbs s ≡ 0 → ⊥
-    nonzero (pos n) f e = f e
-    nonzero (negsuc n) f e = let z : ⊥ = omega arith in z
-weight-some (negsuc room) k s h f = absurd (h .le)
+-- the code's tests of a stride are those of the definition
+pub outruns-as : (ts : List Term) (kept : ℕ) (first aims strides : List ℤ) (i : ℕ) (own : ℤ) {o steps stride : ℤ} {t : Term} → pos 1 ≤ℤ own → o ≡ own → t ≡ termIn ts i
+    → steps ≡ pos (stepsOf kept first aims i (t .variable)) → stride ≡ pos (strideOf strides (t .variable))
+    → (eqb (t .op) 0 && (not (eqb (ofZ w64 steps) 0) && ltZ o stride)) ≡ outruns (natAbs own) (strideAt strides ts) ts (stepsAt kept first aims ts) i
+outruns-as ts kept first aims strides i own h e q p s = rw (e ∙ own-size own h, p, s, q) refl
 
 -- ---- one more position
 
-module _ (d : ℕ) (number : ℕ → ℤ) (steps : ℕ → ℕ) where
-  pub room-none : d ≡ roomBelow d number steps 0
+module _ (d : ℕ) (number : ℕ → ℤ) (stride steps : ℕ → ℕ) where
+  pub room-none : d ≡ roomBelow d number stride steps 0
   unfolding roomBelow
   room-none = refl
 
-  pub rise-none : 0 ≡ riseBelow d number steps 0
+  pub rise-none : 0 ≡ riseBelow d number stride steps 0
   unfolding riseBelow
   rise-none = refl
 
-  pub room-more : (i : ℕ) → pos (roomBelow d number steps i) -ℤ pos (weightAt d number steps i) ≡ pos (roomBelow d number steps (i + 1))
+  room-more : (i : ℕ) → pos (roomBelow d number stride steps i) -ℤ pos (weightAt d number stride steps i * stride i) ≡ pos (roomBelow d number stride steps (i + 1))
   unfolding roomBelow
-  room-more i = rw add-one (let r = roomBelow d number steps i in let w = weightAt d number steps i in
-      omega (int, sum-is (pos r) (negℤ (pos w)), neg-is (pos w), weight-room r (number i) (steps i)))
+  room-more i = rw add-one (let r = roomBelow d number stride steps i in let t = weightAt d number stride steps i * stride i in
+      omega (int, sum-is (pos r) (negℤ (pos t)), neg-is (pos t), weight-room r (number i) (stride i) (steps i)))
 
-  pub rise-more : (i : ℕ) → riseBelow d number steps i + weightAt d number steps i * steps i ≡ riseBelow d number steps (i + 1)
+  rise-more : (i : ℕ) → riseBelow d number stride steps i + weightAt d number stride steps i * steps i ≡ riseBelow d number stride steps (i + 1)
   unfolding riseBelow
   rise-more i = rw add-one
 
-  -- where no room is left no more is added
-  rise-stays : (i k m : ℕ) → m ≡ k + i → roomBelow d number steps i ≡ 0 → (roomBelow d number steps m ≡ 0) × (riseBelow d number steps i ≡ riseBelow d number steps m)
-  unfolding riseBelow roomBelow
-  rise-stays i zero m q e =
-      let p : i ≡ m = omega arith in
-      (subst (λ (x : ℕ). roomBelow d number steps x ≡ 0) p e, ap (riseBelow d number steps) p)
-  rise-stays i (suc k) zero q e = let f : ⊥ = omega arith in absurd f
-  rise-stays i (suc k) (suc m) q e =
-      let h = rise-stays i k m (omega arith) e in
-      let z : weightAt d number steps m ≡ 0 = omega (arith, h .0, weight-room (roomBelow d number steps m) (number m) (steps m)) in
-      (omega (arith, h .0), omega (arith, h .1, ap (λ (x : ℕ). x * steps m) z))
+  module _ (one : (i : ℕ) → 1 ≤ stride i) where
+    -- a weight is no more than what is taken
+    weight-taken : (i : ℕ) → weightAt d number stride steps i ≤ weightAt d number stride steps i * stride i
+    weight-taken i =
+        let w = weightAt d number stride steps i in
+        omega (arith, mul-le-mul {n₁ = w} {m₁ = 1} {n₂ = w} {m₂ = stride i} (omega arith) (one i))
 
-  pub rise-whole : (i m : ℕ) → i ≤ m → roomBelow d number steps i ≡ 0 → riseBelow d number steps i ≡ riseBelow d number steps m
-  rise-whole i m h e = rise-stays i (m - i) m (omega arith) e .1
+    -- where no room is left no more is added
+    rise-stays : (i k m : ℕ) → m ≡ k + i → roomBelow d number stride steps i ≡ 0
+        → (roomBelow d number stride steps m ≡ 0) × (riseBelow d number stride steps i ≡ riseBelow d number stride steps m)
+    unfolding riseBelow roomBelow
+    rise-stays i zero m q e =
+        let p : i ≡ m = omega arith in
+        (subst (λ (x : ℕ). roomBelow d number stride steps x ≡ 0) p e, ap (riseBelow d number stride steps) p)
+    rise-stays i (suc k) zero q e = let f : ⊥ = omega arith in absurd f
+    rise-stays i (suc k) (suc m) q e =
+        let h = rise-stays i k m (omega arith) e in
+        let z : weightAt d number stride steps m ≡ 0 = omega (arith, h .0, weight-taken m, weight-room (roomBelow d number stride steps m) (number m) (stride m) (steps m)) in
+        (omega (arith, h .0), omega (arith, h .1, ap (λ (x : ℕ). x * steps m) z))
 
-  -- few and small steps make a small rise
-  pub rise-small : (b m : ℕ) → ((i : ℕ) → steps i ≤ b) → riseBelow d number steps m + roomBelow d number steps m * b ≤ d * b
-  unfolding riseBelow roomBelow
-  rise-small b zero h = omega arith
-  rise-small b (suc m) h =
-      let r = roomBelow d number steps m in
-      let w = weightAt d number steps m in
-      let l = weight-room r (number m) (steps m) in
-      let e : (r - w) + w ≡ r = omega arith in
-      omega (arith, rise-small b m h, ap (λ (z : ℕ). z * b) e, mul-le-mul {n₁ = w} {m₁ = steps m} {n₂ = w} {m₂ = b} (omega arith) (h m))
+    pub rise-whole : (i m : ℕ) → i ≤ m → roomBelow d number stride steps i ≡ 0 → riseBelow d number stride steps i ≡ riseBelow d number stride steps m
+    rise-whole i m h e = rise-stays i (m - i) m (omega arith) e .1
+
+    -- few and small steps make a small rise
+    rise-small : (b m : ℕ) → ((i : ℕ) → steps i ≤ b) → riseBelow d number stride steps m + roomBelow d number stride steps m * b ≤ d * b
+    unfolding riseBelow roomBelow
+    rise-small b zero h = omega arith
+    rise-small b (suc m) h =
+        let r = roomBelow d number stride steps m in
+        let w = weightAt d number stride steps m in
+        let l = weight-room r (number m) (stride m) (steps m) in
+        let e : (r - w * stride m) + w * stride m ≡ r = omega arith in
+        omega (arith, rise-small b m h, ap (λ (z : ℕ). z * b) e, mul-le-mul {n₁ = w} {m₁ = steps m} {n₂ = w * stride m} {m₂ = b} (weight-taken m) (h m))
+
+    -- the whole rise is small
+    pub rise-near : d ≤ maxDivisor * maxNumber → (m : ℕ) → ((i : ℕ) → steps i ≤ maxNumber + maxNumber) → riseBelow d number stride steps m ≤ maxDivisor * maxNumber * (maxNumber + maxNumber)
+    rise-near few m small = omega (arith, rise-small (maxNumber + maxNumber) m small)
 
   -- ---- a turn of the loop, as the machine has it
 
   module _ (i : ℕ) where
-    pub weight-here : {w room k step : ℤ} → w ≡ pos (weight (natAbs room) k (natAbs step)) → room ≡ pos (roomBelow d number steps i) → k ≡ number i → step ≡ pos (steps i)
-        → w ≡ pos (weightAt d number steps i)
-    weight-here e p q r = e ∙ rw (p, q, r) refl
-
-    pub lift-here : {w step : ℤ} → w ≡ pos (weightAt d number steps i) → step ≡ pos (steps i) → w *ℤ step ≡ pos (weightAt d number steps i * steps i)
-    lift-here p q = ap₂ _*ℤ_ p q
-
-    pub total-here : {total lift : ℤ} → total ≡ pos (riseBelow d number steps i) → lift ≡ pos (weightAt d number steps i * steps i)
-        → total +ℤ lift ≡ pos (riseBelow d number steps (i + 1))
+    pub total-here : {total lift : ℤ} → total ≡ pos (riseBelow d number stride steps i) → lift ≡ pos (weightAt d number stride steps i * steps i)
+        → total +ℤ lift ≡ pos (riseBelow d number stride steps (i + 1))
     total-here p q = ap₂ _+ℤ_ p q ∙ ap pos (rise-more i)
 
-    pub room-here : {room w : ℤ} → room ≡ pos (roomBelow d number steps i) → w ≡ pos (weightAt d number steps i) → room -ℤ w ≡ pos (roomBelow d number steps (i + 1))
+    pub room-here : {room taken : ℤ} → room ≡ pos (roomBelow d number stride steps i) → taken ≡ pos (weightAt d number stride steps i * stride i)
+        → room -ℤ taken ≡ pos (roomBelow d number stride steps (i + 1))
     room-here p q = ap₂ _-ℤ_ p q ∙ room-more i
 
     -- everything fits
-    module _ (few : d ≤ maxDivisor) (small : (i : ℕ) → steps i ≤ maxNumber + maxNumber) where
-      lift-small : weightAt d number steps i * steps i ≤ maxDivisor * (maxNumber + maxNumber)
-      lift-small = mul-le-mul {n₁ = weightAt d number steps i} {m₁ = steps i} {n₂ = maxDivisor} {m₂ = maxNumber + maxNumber}
-          (omega (arith, weight-room (roomBelow d number steps i) (number i) (steps i), room-most d number steps i)) (small i)
+    module _ (few : d ≤ maxDivisor * maxNumber) where
+      pub total-fits : ((i : ℕ) → 1 ≤ stride i) → ((i : ℕ) → steps i ≤ maxNumber + maxNumber) → {total lift : ℤ} → total ≡ pos (riseBelow d number stride steps i)
+          → lift ≡ pos (weightAt d number stride steps i * steps i) → SFits w64 (total +ℤ lift)
+      total-fits one small p q = rw (total-here p q) (sfits-abs (pos (riseBelow d number stride steps (i + 1))) _ (rise-near one few (i + 1) small) (omega arith))
 
-      pub lift-fits : {w step : ℤ} → w ≡ pos (weightAt d number steps i) → step ≡ pos (steps i) → natAbs w * natAbs step < 2 ^ 63
-      lift-fits p q = rw (p, q) (omega (arith, lift-small))
+      pub room-fits : {room taken : ℤ} → room ≡ pos (roomBelow d number stride steps i) → taken ≡ pos (weightAt d number stride steps i * stride i) → SFits w64 (room -ℤ taken)
+      room-fits p q = rw (room-here p q) (sfits-abs (pos (roomBelow d number stride steps (i + 1))) d (room-most d number stride steps (i + 1)) (omega arith))
 
-      pub total-fits : {total lift : ℤ} → total ≡ pos (riseBelow d number steps i) → lift ≡ pos (weightAt d number steps i * steps i) → natAbs total + natAbs lift < 2 ^ 63
-      total-fits p q = rw (p, q) (omega (arith, lift-small, rise-small (maxNumber + maxNumber) i small))
-
-      pub room-fits : {room w : ℤ} → room ≡ pos (roomBelow d number steps i) → w ≡ pos (weightAt d number steps i) → SFits w64 (room -ℤ w)
-      room-fits p q = rw (room-here p q) (sfits-abs (pos (roomBelow d number steps (i + 1))) d (room-most d number steps (i + 1)) (omega arith))
-
-  -- the whole rise is small
-  pub rise-near : d ≤ maxDivisor → (m : ℕ) → ((i : ℕ) → steps i ≤ maxNumber + maxNumber) → riseBelow d number steps m ≤ maxDivisor * (maxNumber + maxNumber)
-  rise-near few m small = omega (arith, rise-small (maxNumber + maxNumber) m small)
+-- the share of a term in the room left is that of its position
+pub shared-here : (d : ℕ) (ts : List Term) (kept : ℕ) (first aims strides : List ℤ) (i : ℕ) {room : ℤ} {t : Term} {taken lift : ℤ}
+    → Shared (natAbs room) (t .number) (strideOf strides (t .variable)) (stepsOf kept first aims i (t .variable)) taken lift
+    → room ≡ pos (roomBelow d (numberAt ts) (strideAt strides ts) (stepsAt kept first aims ts) i) → t ≡ termIn ts i
+    → Shared (roomBelow d (numberAt ts) (strideAt strides ts) (stepsAt kept first aims ts) i) (numberAt ts i) (strideAt strides ts i) (stepsAt kept first aims ts i) taken lift
+shared-here d ts kept first aims strides i h p q = rw (p, q) at h
 
 -- the rise of a sum, from the steps that the code counts
-pub rise-is : (d : ℤ) (ts : List Term) (kept : ℕ) (first aims second : List ℤ)
-    → riseBelow (natAbs d) (numberAt ts) (stepsAt kept first aims ts) (length ts) ≡ rise d ts (readingOf kept first second ts) (readingOf kept aims second ts)
+pub rise-is : (own : ℕ) (stride : ℕ → ℕ) (d : ℤ) (ts : List Term) (kept : ℕ) (first aims second : List ℤ)
+    → riseBelow (natAbs d * own) (numberAt ts) stride (stepsAt kept first aims ts) (length ts) ≡ rise own stride d ts (readingOf kept first second ts) (readingOf kept aims second ts)
 unfolding rise
-rise-is d ts kept first aims second = ap (λ (f : ℕ → ℕ). riseBelow (natAbs d) (numberAt ts) f (length ts)) (sym (steps-are kept first aims second ts))
+rise-is own stride d ts kept first aims second = ap (λ (f : ℕ → ℕ). riseBelow (natAbs d * own) (numberAt ts) stride f (length ts)) (sym (steps-are kept first aims second ts))

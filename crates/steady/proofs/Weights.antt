@@ -1,9 +1,9 @@
--- The rise of a sum: the weights are no larger than the numbers, and together no larger than the room.
-use Prim.Native.Nat.{ℕ, zero, suc, _+_, _-_, _*_, _<_, _≤_}
+-- The rise of a sum: the weights are no larger than the numbers, and together, in strides, no larger than the room.
+use Prim.Native.Nat.{ℕ, zero, suc, _+_, _-_, _*_, _/_, _<_, _≤_}
 use mathlib.Core.Path.{_≡_, refl, ap}
 use mathlib.Core.Bool.{Bool, true, false, cond}
 use native.Mathlib.Omega.{arith}
-use native.Mathlib.Nat.{mul-le-mul}
+use native.Mathlib.Nat.{mul-le-mul, mul-comm, mul-assoc, div-mul-le-self}
 use lib.Dec.{eqb, ltb}
 use lib.IntN.{ℤ, pos, natAbs, _+ℤ_}
 use lib.Signed.{_≤ℤ_}
@@ -14,24 +14,26 @@ use Rattle.steady.specs.Estimate.{weight, roomBelow, weightAt, riseBelow
 
 -- ---- a weight
 
-module _ (room : ℕ) (k : ℤ) (steps : ℕ) where
-  pub weight-room : weight room k steps ≤ room
+module _ (room : ℕ) (k : ℤ) (stride steps : ℕ) where
+  pub weight-room : weight room k stride steps * stride ≤ room
   unfolding weight
-  weight-room = go (eqb steps 0) (ltb (natAbs k) room) refl
+  weight-room = go (eqb steps 0) (ltb (natAbs k) (room / stride)) refl
     where
-      go : (s t : Bool) → ltb (natAbs k) room ≡ t → cond s 0 (cond t (natAbs k) room) ≤ room
+      go : (s t : Bool) → ltb (natAbs k) (room / stride) ≡ t → cond s 0 (cond t (natAbs k) (room / stride)) * stride ≤ room
       go true t e = omega arith
-      go false true e = omega (arith, ltb-true (natAbs k) room e)
-      go false false e = omega arith
+      go false true e =
+          let l = ltb-true (natAbs k) (room / stride) e in
+          omega (arith, div-mul-le-self room stride, mul-le-mul {n₁ = natAbs k} {m₁ = stride} {n₂ = room / stride} {m₂ = stride} (omega arith) (omega arith))
+      go false false e = div-mul-le-self room stride
 
-  pub weight-number : weight room k steps ≤ natAbs k
+  pub weight-number : weight room k stride steps ≤ natAbs k
   unfolding weight
-  weight-number = go (eqb steps 0) (ltb (natAbs k) room) refl
+  weight-number = go (eqb steps 0) (ltb (natAbs k) (room / stride)) refl
     where
-      go : (s t : Bool) → ltb (natAbs k) room ≡ t → cond s 0 (cond t (natAbs k) room) ≤ natAbs k
+      go : (s t : Bool) → ltb (natAbs k) (room / stride) ≡ t → cond s 0 (cond t (natAbs k) (room / stride)) ≤ natAbs k
       go true t e = omega arith
       go false true e = omega arith
-      go false false e = omega (arith, ltb-false (natAbs k) room e)
+      go false false e = omega (arith, ltb-false (natAbs k) (room / stride) e)
 
 -- ---- one position
 
@@ -41,27 +43,23 @@ weighed {w} {m} {e} v n h k = omega (arith, mul-le-mul {n₁ = w} {m₁ = e} {n�
 
 -- ---- the positions together
 
-module _ (d : ℕ) (number : ℕ → ℤ) (steps : ℕ → ℕ) where
-  pub room-most : (m : ℕ) → roomBelow d number steps m ≤ d
+module _ (d : ℕ) (number : ℕ → ℤ) (stride steps : ℕ → ℕ) where
+  pub room-most : (m : ℕ) → roomBelow d number stride steps m ≤ d
   unfolding roomBelow
   room-most zero = omega arith
   room-most (suc m) = let h = room-most m in omega arith
 
-  room-less : (m : ℕ) → roomBelow d number steps (suc m) + weightAt d number steps m ≡ roomBelow d number steps m
-  unfolding roomBelow
-  room-less m = omega (arith, weight-room (roomBelow d number steps m) (number m) (steps m))
-
   -- what the sums lack is at most n for each piece of the room that is taken
   pub rise-within : (f g : ℕ → ℤ) (n m : ℕ)
-      → ((i : ℕ) → i < m → (f i +ℤ pos (weightAt d number steps i * steps i)) ≤ℤ (g i +ℤ pos (weightAt d number steps i * n)))
-      → (sumBelow f m +ℤ pos (riseBelow d number steps m + roomBelow d number steps m * n)) ≤ℤ (sumBelow g m +ℤ pos (d * n))
+      → ((i : ℕ) → i < m → (f i +ℤ pos (weightAt d number stride steps i * steps i)) ≤ℤ (g i +ℤ pos (weightAt d number stride steps i * (n * stride i))))
+      → (sumBelow f m +ℤ pos (riseBelow d number stride steps m + roomBelow d number stride steps m * n)) ≤ℤ (sumBelow g m +ℤ pos (d * n))
   unfolding sumBelow riseBelow roomBelow
   rise-within f g n zero h = omega int
   rise-within f g n (suc m) h =
       let a = rise-within f g n m (λ i l. h i (omega arith)) in
       let b = h m (omega arith) in
-      let w = weightAt d number steps m in
-      let r = roomBelow d number steps m in
+      let w = weightAt d number stride steps m in
+      let r = roomBelow d number stride steps m in
       omega (
         int,
         a,
@@ -69,13 +67,15 @@ module _ (d : ℕ) (number : ℕ → ℤ) (steps : ℕ → ℕ) where
         sum-is (sumBelow f m) (f m),
         sum-is (sumBelow g m) (g m),
         sum-is (f m) (pos (w * steps m)),
-        sum-is (g m) (pos (w * n)),
-        sum-is (sumBelow f m) (pos (riseBelow d number steps m + r * n)),
+        sum-is (g m) (pos (w * (n * stride m))),
+        sum-is (sumBelow f m) (pos (riseBelow d number stride steps m + r * n)),
         sum-is (sumBelow g m) (pos (d * n)),
-        sum-is (sumBelow f m +ℤ f m) (pos (riseBelow d number steps m + w * steps m + (r - w) * n)),
+        sum-is (sumBelow f m +ℤ f m) (pos (riseBelow d number stride steps m + w * steps m + (r - w * stride m) * n)),
         sum-is (sumBelow g m +ℤ g m) (pos (d * n)),
-        split n (weight-room r (number m) (steps m)),
+        split w n (stride m) (weight-room r (number m) (stride m) (steps m)),
       )
     where
-      split : {w r : ℕ} (n : ℕ) → w ≤ r → (r - w) * n + w * n ≡ r * n
-      split {w} {r} n h = let e : (r - w) + w ≡ r = omega arith in omega (arith, ap (λ (z : ℕ). z * n) e)
+      split : {r : ℕ} (w n t : ℕ) → w * t ≤ r → (r - w * t) * n + w * (n * t) ≡ r * n
+      split {r} w n t h =
+          let e : (r - w * t) + w * t ≡ r = omega arith in
+          omega (arith, ap (λ (z : ℕ). z * n) e, mul-assoc w t n, ap (λ (z : ℕ). w * z) (mul-comm n t))

@@ -1,3 +1,4 @@
 pub mod Estimate
 pub mod Short
 pub mod Steps
+pub mod Strides

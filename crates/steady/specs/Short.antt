@@ -1,5 +1,5 @@
--- Values on the way to their aims that fall short of them by at most n steps. vs are the program's variables.
-use Prim.Native.Nat.{ℕ, _<_}
+-- Values on the way to their aims that fall short of them by at most n strides. vs are the program's variables.
+use Prim.Native.Nat.{ℕ, _*_, _<_}
 use mathlib.Core.Path.{_≡_}
 use mathlib.Core.Bool.{true}
 use mathlib.Core.List.{List}
@@ -38,6 +38,6 @@ module _ (vs : List Variable) (r : Rule) (at aim to : ℕ → ℤ) where
     pub at-aim : at i ≡ aim i
     pub at-to : at i ≡ to i
 
-  -- every position moves so or stays
-  abbrev pub Short : ℕ → Type 0
-  Short n = (i : ℕ) → i < length (r .terms) → Moving n i ⊎ Staying i
+  -- every position stays, or moves and is at most n of its strides short
+  abbrev pub Short : ℕ → (ℕ → ℕ) → Type 0
+  Short n stride = (i : ℕ) → i < length (r .terms) → Moving (n * stride i) i ⊎ Staying i

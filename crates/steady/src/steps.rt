@@ -50,13 +50,13 @@ pub fn further(x: Variable, a: i64, steps: i64) -> i64
     }
 }
 
-// The weight that a position takes of the room left, by its number and its steps.
-pub fn weight(room: i64, number: i64, steps: i64) -> i64
-    requires { ⌜ (pos 0 ≤ℤ room) × (natAbs number < 2 ^ 63) ⌝ }
-    ensures { λ r. ⌜ r ≡ pos (weight (natAbs room) number (natAbs steps)) ⌝ }
+// The weight that a position takes of the room left, by its number, its stride and its steps.
+pub fn weight(room: i64, number: i64, stride: i64, steps: i64) -> i64
+    requires { ⌜ (pos 0 ≤ℤ room) × (natAbs room + natAbs number < 2 ^ 63) × (pos 1 ≤ℤ stride) ⌝ }
+    ensures { λ r. ⌜ r ≡ pos (weight (natAbs room) number (natAbs stride) (natAbs steps)) ⌝ }
 {
     if steps == 0 {
         return 0;
     }
-    numbers::extreme(false, room, numbers::size(number))
+    numbers::extreme(false, room / stride, numbers::size(number))
 }

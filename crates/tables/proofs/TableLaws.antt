@@ -15,7 +15,7 @@ use Rattle.program.specs.Fields.{valueAt, nextAt}
 use Rattle.program.specs.Program.{Program, Rule, ruleOf, ruleIn, variablesAt}
 use Rattle.program.specs.Reading.{Reads, accepted, whole, Accepts}
 use Rattle.reader.specs.Parts.{rulePlace, constraintPlace}
-use Rattle.reader.proofs.Published.{counts-of, variables-are, limited, rule-lies, next-rule, first-constraint}
+use Rattle.reader.proofs.Published.{counts-of, variables-are, rule-lies, next-rule, first-constraint}
 use Rattle.reduct.specs.Masks.{Mask}
 use Rattle.tables.specs.Tabled.{readAt, Entered, MaskOf, ReadersAre}
 use Rattle.tables.specs.Entries.{RuleHere, EntryMade}
@@ -36,7 +36,7 @@ module _ {s : List ℕ} {v m c : ℕ} (r : Reads s (accepted v m c)) {P : Progra
       let l = rule-lies a i (omega (arith, z .rules-are)) in
       rw e (record { inside = l .inside; standing = subst (λ (n : ℕ). Standing s n (valueAt s (rulePlace s P i))) (z .variables-are) (l .standing); few = l .evaluable .few })
 
-  module _ (i at next : ℕ) (os os′ ms ms′ : List ℕ) (h : i < m) (e : at ≡ rulePlace s P i) (lo : length os ≡ maxRules) (lm : length ms ≡ maxRules)
+  module _ (i at next : ℕ) (os os′ ms ms′ : List ℕ) (h : i < m) (e : at ≡ rulePlace s P i) (lo : i < length os) (lm : i < length ms)
       (n : EntryMade s v at i next os os′ ms ms′) (t : FirstPlaced s P i os ms) where
     within : i < length (P .rules)
     within = omega (arith, counts-of r a .rules-are)
@@ -53,12 +53,9 @@ module _ {s : List ℕ} {v m c : ℕ} (r : Reads s (accepted v m c)) {P : Progra
     pub placed-more : FirstPlaced s P (i + 1) os′ ms′
     placed-more j l = rw (n .placed, n .masked) (go (ℕ-discrete j i))
       where
-        few : i < maxRules
-        few = omega (arith, limited r .few-rules)
-
         go : Dec (j ≡ i) → RuleAt s P j (getD (set os i at) j 0) (getD (set ms i (n .mask)) j 0)
         go (yes q) =
-            rw (q, getD-set-same os i at 0 (omega (arith, few)), getD-set-same ms i (n .mask) 0 (omega (arith, few)))
+            rw (q, getD-set-same os i at 0 lo, getD-set-same ms i (n .mask) 0 lm)
             (record { accepts = a; among = within; placed = e; masked = mask-here })
         go (no g) = rw (getD-set-other os i j at 0 g, getD-set-other ms i j (n .mask) 0 g) (t j (omega arith))
 

@@ -1,5 +1,5 @@
 -- Where the rules of a file stand, by the tables of a run.
-use Prim.Native.Nat.{ℕ, _<_}
+use Prim.Native.Nat.{ℕ, _<_, _≤_}
 use mathlib.Core.Path.{_≡_}
 use mathlib.Core.List.{List}
 use lib.ListN.{length, getD}
@@ -34,7 +34,13 @@ pub record Placed (s : List ℕ) (P : Program) (offsets masks : List ℕ) : Type
 -- the tables are those of a file that is accepted with these counts
 pub record Laid (s : List ℕ) (k : Counts) (offsets masks : List ℕ) : Type 0 where
   pub accepted : AcceptedAs s k
+  pub offsets-reach : k .rules ≤ length offsets
+  pub masks-reach : k .rules ≤ length masks
   pub placed : (P : Program) → Accepts s P → Placed s P offsets masks
+
+-- the first n entries of two tables are the same
+abbrev pub SameBelow : ℕ → List ℕ → List ℕ → Type 0
+SameBelow n xs ys = (i : ℕ) → i < n → getD ys i 0 ≡ getD xs i 0
 
 -- the table has the place of each rule of the program that a file means
 abbrev pub OffsetsOf : List ℕ → List ℕ → Type 0

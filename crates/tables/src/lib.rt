@@ -3,7 +3,7 @@ ghost use mathlib.Core.Path.{_≡_};
 ghost use mathlib.Core.Bool.{_&&_, false};
 ghost use Prim.Native.Nat.{ℕ, _<_, _≤_};
 ghost use lib.Dec.{eqb};
-ghost use lib.ListN.{length, getD};
+ghost use lib.ListN.{length, getD, set};
 ghost use Rattle.format.specs.Limits.{maxFile, maxRules, maxTerms};
 ghost use Rattle.words.specs.Bit.{has, bit};
 ghost use Rattle.program.specs.Program.{Program, ruleOf};
@@ -13,7 +13,7 @@ ghost use Rattle.program.specs.Reading.{AcceptedAs, Accepts};
 ghost use Rattle.reader.specs.Parts.{constraintPlace};
 ghost use Rattle.tables.specs.Tabled.{rowWords, readersWords, readAt, Entered, ReadersAre};
 ghost use Rattle.tables.specs.Entries.{RuleHere, EntryMade};
-ghost use Rattle.tables.specs.Laid.{OffsetsOf, Laid};
+ghost use Rattle.tables.specs.Laid.{OffsetsOf, SameBelow, Laid};
 use format::Format;
 use parts::places::next_at;
 use parts::places::value_at;
@@ -27,6 +27,9 @@ pub struct Tables {}
 impl Tables {
     // The words of a set of rules.
     pub const ROW: usize = Format::MAX_RULES / Words::BITS;
+
+    // Files of no more rules have small tables.
+    pub const FEW: usize = 128;
 
     // The words of a set of rules for each variable.
     pub const READERS: usize = Format::MAX_VARIABLES * Tables::ROW;
@@ -53,11 +56,27 @@ fn wide(at: u16) -> usize
 }
 
 // Where rule i stands.
+pub fn place_in(offsets: &[u16], i: usize) -> usize
+    requires { ⌜ i < length (now offsets) ⌝ }
+    ensures { λ r. ⌜ r ≡ getD (now (offsets .entry)) i 0 ⌝ }
+{
+    wide(offsets[i])
+}
+
+// The mask of rule i.
+pub fn mask_in(masks: &[u32], i: usize) -> u32
+    requires { ⌜ i < length (now masks) ⌝ }
+    ensures { λ r. ⌜ r ≡ getD (now (masks .entry)) i 0 ⌝ }
+{
+    masks[i]
+}
+
+// Where rule i stands, in a table for the most rules.
 pub fn place_of(offsets: &[u16; Format::MAX_RULES], i: usize) -> usize
     requires { ⌜ i < maxRules ⌝ }
     ensures { λ r. ⌜ r ≡ getD (now (offsets .entry)) i 0 ⌝ }
 {
-    wide(offsets[i])
+    place_in(offsets, i)
 }
 
 // Rule k reads the variable at position j of its body, where the mask has that position.
@@ -94,12 +113,11 @@ fn enter(
     variables: usize,
     at: usize,
     i: usize,
-    offsets: &mut [u16; Format::MAX_RULES],
-    masks: &mut [u32; Format::MAX_RULES],
+    offsets: &mut [u16],
+    masks: &mut [u32],
 ) -> usize
     requires { ⌜ RuleHere (now file) variables at ⌝ }
-    requires { ⌜ (at ≤ maxFile) × (i < maxRules) × (length (now offsets) ≡ maxRules) × (length (now masks) ≡ maxRules) ⌝ }
-    ensures { λ _. ⌜ (length (now (offsets .exit)) ≡ maxRules) × (length (now (masks .exit)) ≡ maxRules) ⌝ }
+    requires { ⌜ (at ≤ maxFile) × (i < length (now offsets)) × (i < length (now masks)) ⌝ }
     ensures { λ r. ⌜ EntryMade (now (file .entry)) variables at i r (now (offsets .entry)) (now (offsets .exit)) (now (masks .entry)) (now (masks .exit)) ⌝ }
 {
     let mask = kept_positions(file, variables, value_at(file, at));
@@ -109,15 +127,9 @@ fn enter(
 }
 
 // Enters the place and the mask of every rule of a file that is accepted with these counts, and answers where the field after the last rule stands.
-pub fn fill_tables(
-    file: &[u8],
-    counts: Counts,
-    offsets: &mut [u16; Format::MAX_RULES],
-    masks: &mut [u32; Format::MAX_RULES],
-) -> usize
+pub fn fill_tables(file: &[u8], counts: Counts, offsets: &mut [u16], masks: &mut [u32]) -> usize
     requires { ⌜ AcceptedAs (now file) counts ⌝ }
-    requires { ⌜ (length (now offsets) ≡ maxRules) × (length (now masks) ≡ maxRules) ⌝ }
-    ensures { λ _. ⌜ (length (now (offsets .exit)) ≡ maxRules) × (length (now (masks .exit)) ≡ maxRules) ⌝ }
+    requires { ⌜ (counts .rules ≤ length (now offsets)) × (counts .rules ≤ length (now masks)) ⌝ }
     ensures { λ _. ⌜ Laid (now (file .entry)) counts (now (offsets .exit)) (now (masks .exit)) ⌝ }
     ensures { λ r. ⌜ ((P : Program) → Accepts (now (file .entry)) P → r ≡ constraintPlace (now (file .entry)) P 0) ⌝ }
 {
@@ -131,6 +143,42 @@ pub fn fill_tables(
         i += 1;
     }
     at
+}
+
+// Copies entry i of both tables.
+fn copy_entry(
+    offsets: &[u16],
+    masks: &[u32],
+    i: usize,
+    places: &mut [u16; Format::MAX_RULES],
+    all: &mut [u32; Format::MAX_RULES],
+)
+    requires { ⌜ (i < length (now offsets)) × (i < length (now masks)) × (i < maxRules) ⌝ }
+    ensures { λ _. ⌜ now (places .exit) ≡ set (now (places .entry)) i (getD (now (offsets .entry)) i 0) ⌝ }
+    ensures { λ _. ⌜ now (all .exit) ≡ set (now (all .entry)) i (getD (now (masks .entry)) i 0) ⌝ }
+{
+    places[i] = offsets[i];
+    all[i] = masks[i];
+}
+
+// Copies the entries of so many rules to tables for the most rules.
+pub fn copy_tables(
+    rules: usize,
+    offsets: &[u16],
+    masks: &[u32],
+    places: &mut [u16; Format::MAX_RULES],
+    all: &mut [u32; Format::MAX_RULES],
+)
+    requires { ⌜ (rules ≤ length (now offsets)) × (rules ≤ length (now masks)) × (rules ≤ maxRules) ⌝ }
+    requires { ⌜ (length (now places) ≡ maxRules) × (length (now all) ≡ maxRules) ⌝ }
+    ensures { λ _. ⌜ SameBelow rules (now (offsets .entry)) (now (places .exit)) ⌝ }
+    ensures { λ _. ⌜ SameBelow rules (now (masks .entry)) (now (all .exit)) ⌝ }
+{
+    let mut i = 0;
+    while i < rules {
+        copy_entry(offsets, masks, i, places, all);
+        i += 1;
+    }
 }
 
 // Enters every rule of a file that is accepted with these counts, by its place and its mask, among the readers of its variables.

@@ -1,8 +1,8 @@
 -- The laws of targets.
-pub mod Ahead
 pub mod TargetLaws
 pub mod AimLaws
 pub mod LandLaws
 pub mod RuleLaws
 pub mod OpenLaws
 pub mod LiftLaws
+pub mod Wrong

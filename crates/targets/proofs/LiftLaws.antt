@@ -1,7 +1,7 @@
 -- A rule lifts the aim of its head, and the aims that arrive.
 use Prim.Native.Nat.{ℕ, _<_}
-use mathlib.Core.Path.{_≡_, refl, sym, ap, fun-ext, subst, _∙_}
-use mathlib.Core.Bool.{Bool, true, false, not}
+use mathlib.Core.Path.{_≡_, refl, sym, ap, ap₂, fun-ext, subst, _∙_}
+use mathlib.Core.Bool.{Bool, true, false, not, cond}
 use mathlib.Core.List.{List}
 use native.Mathlib.Omega.{arith}
 use lib.Dec.{T}
@@ -19,34 +19,48 @@ use Rattle.program.specs.declared.Given.{Given}
 use Rattle.program.specs.declared.Given.the-variants.{Nothing, Value}
 use Rattle.program.specs.declared.Variable.{Variable}
 use Rattle.program.proofs.Promises.{accepts-promises}
-use Rattle.program.proofs.Tests.{is-test, is-true, and-left, and-right}
+use Rattle.program.proofs.Tests.{cases}
+use Rattle.program.proofs.Variables.{past-refl, past-total}
 use Rattle.bodies.specs.Readings.{readingOf}
 use Rattle.steady.specs.Estimate.{estimate}
+use Rattle.steady.specs.Strides.{strideOf, strideAt}
 use Rattle.reader.proofs.Published.{program-limited, counts-of}
 use Rattle.reduct.specs.Filling.{Filled}
 use Rattle.meaning.specs.Reduct.{Reckoning, reckoned}
 use Rattle.meaning.proofs.InRanges.{within-small}
-use Rattle.meaning.proofs.Laws.{at-refl}
+use Rattle.meaning.proofs.Laws.{at-refl, at-trans}
 use Rattle.meaning.proofs.Monotone.{head-founded}
 use Rattle.meaning.proofs.Narrowing.{narrows-founded, narrows-past, narrows-within}
 use Rattle.run.specs.Running.{headOf, stopped, RuleStands, SomeRule, Running}
 use Rattle.run.proofs.RunLaws.{lies}
 use Rattle.run.proofs.RaiseLaws.{raised-is}
 use Rattle.targets.specs.Targets.{From, Drawn, Justified}
-use Rattle.targets.specs.Aims.{isOpen, reaches, estimatedBy, lifts, firstAims, SameIf, Aiming, SomeAims, AimsKept, Landing}
+use Rattle.targets.specs.Aims.{isOpen, laterOf, estimatedBy, liftTo, nextAim, firstAims, SameIf, Aiming, SomeAims, AimsKept, Landing}
 use Rattle.targets.proofs.AimLaws.{not-not}
 use Rattle.targets.proofs.TargetLaws.{justified-start, justified-lift, target-progress}
 use Rattle.targets.proofs.RuleLaws.{rule-steady}
 use Rattle.targets.proofs.OpenLaws.{open-on, open-ends, first-from, first-drawn, all-short, aims-are}
 
--- what is given where it reaches the target
-reaches-value : (x : Variable) (t : ℤ) (g : Given) → T (reaches x t g) → (b : ℤ) × (g ≡ Value b) × T (notPast x t b)
-unfolding reaches
-reaches-value x t Nothing h = absurd h
-reaches-value x t (Value b) h = (b, refl, h)
+-- what is given where the aim z is lifted to a on the way to t
+record LiftedTo (x : Variable) (z t : ℤ) (g : Given) (a : ℤ) : Type 0 where
+  given : ℤ
+  gives-it : g ≡ Value given
+  enough : T (notPast x a given)
+  on : T (notPast x z a)
+  within : T (notPast x a t)
 
-module _ {s : List ℕ} {P : Program} {R : Reckoning} {θ : Valuation} {offsets masks : List ℕ} {others stops : List ℤ} {cut : Bool} {m : List ℤ} {A₀ : Valuation} {aims : List ℤ}
-    (k : Aiming s P R θ offsets masks others stops cut m A₀ aims) where
+lift-to : (x : Variable) (z t : ℤ) (g : Given) → T (notPast x z t) → (liftTo x z t g ≡ z → ⊥) → LiftedTo x z t g (liftTo x z t g)
+unfolding liftTo laterOf
+lift-to x z t Nothing o f = absurd (f refl)
+lift-to x z t (Value b) o f =
+    cases (notPast x t b) (λ u. (cond u t (cond (notPast x b z) z b) ≡ z → ⊥) → LiftedTo x z t (Value b) (cond u t (cond (notPast x b z) z b)))
+    (λ u f. record { given = b; gives-it = refl; enough = u; on = o; within = past-refl x t })
+    (λ u. cases (notPast x b z) (λ w. (cond w z b ≡ z → ⊥) → LiftedTo x z t (Value b) (cond w z b)) (λ w f. absurd (f refl))
+    (λ w f. record { given = b; gives-it = refl; enough = past-refl x b; on = past-total x z b w; within = past-total x b t u }))
+    f
+
+module _ {s : List ℕ} {P : Program} {R : Reckoning} {θ : Valuation} {offsets masks : List ℕ} {others stops : List ℤ} {cut : Bool} {strides m : List ℤ} {A₀ : Valuation}
+    {aims : List ℤ} (k : Aiming s P R θ offsets masks others stops cut strides m A₀ aims) where
   self-from : From (reckoned P R) θ (valued m) (valued m)
   self-from = record { standard = k .progress .standard; within = k .progress .within; after = λ v. at-refl v (valued m v) }
 
@@ -67,96 +81,131 @@ module _ {s : List ℕ} {P : Program} {R : Reckoning} {θ : Valuation} {offsets 
     few = omega (arith, accepts-promises (k .reckons .accepts) .rules i l .head-declared, program-limited (k .reckons .accepts) .few-variables)
 
     abbrev found : Given
-    found = estimatedBy P (getD masks i 0) cut stops others m aims i
+    found = estimatedBy P (getD masks i 0) cut strides stops others m aims i
 
-    lifted : lifts P (getD masks i 0) cut stops others m target aims i ≡ true
-        → Justified (reckoned P R) θ (valued m) A₀ (valued (set aims (headOf P i) (valued target (headOf P i))))
-    unfolding lifts
-    lifted e =
+    -- the aim, its target, and what it is lifted to
+    abbrev z : ℤ
+    z = valued aims (headOf P i)
+
+    abbrev t : ℤ
+    t = valued target (headOf P i)
+
+    abbrev next : ℤ
+    next = nextAim P (getD masks i 0) cut strides stops others m target aims i
+
+    -- an aim that changes has an open target, towards which it is lifted
+    next-open : (next ≡ z → ⊥) → (isOpen cut x (valued stops (headOf P i)) z t ≡ true) × LiftedTo x z t found next
+    unfolding nextAim
+    next-open = go (isOpen cut x (valued stops (headOf P i)) z t) refl
+      where
+        go : (o : Bool) → isOpen cut x (valued stops (headOf P i)) z t ≡ o → (cond o (liftTo x z t found) z ≡ z → ⊥)
+            → (o ≡ true) × LiftedTo x z t found (cond o (liftTo x z t found) z)
+        go true e f = (refl, lift-to x z t found (open-on cut x (valued stops (headOf P i)) z t e) f)
+        go false e f = absurd (f refl)
+
+    lifted : (next ≡ z → ⊥) → Justified (reckoned P R) (strideOf strides) θ (valued m) A₀ (valued (set aims (headOf P i) next))
+    lifted f =
         let h = headOf P i in
-        let t = valued target h in
         let n = k .reckons .narrows in
-        let o = is-true (isOpen cut x (valued stops h) (valued aims h) t) (and-left (isOpen cut x (valued stops h) (valued aims h) t) (reaches x t found) (is-test e)) in
-        let b = reaches-value x t found (and-right (isOpen cut x (valued stops h) (valued aims h) t) (reaches x t found) (is-test e)) in
-        justified-lift (k .progress) (k .justified) i l (subst T (sym (narrows-founded n h)) (head-founded (accepts-promises (k .reckons .accepts)) i l)) t (b .0)
-        (rule-steady (k .reckons) m aims self-from (k .justified .from) i l (b .0) (b .1))
-        (record { le = subst T (sym (narrows-past n h t (b .0))) (b .2) })
-        (record { le = subst T (sym (narrows-past n h (valued aims h) t)) (open-on cut x (valued stops h) (valued aims h) t o) })
-        (open-ends (k .reckons) h (valued aims h) t o)
-        (raised-is aims h t (omega (arith, few, full)))
+        let q = next-open f in
+        let b = q .1 in
+        justified-lift (k .progress) (k .justified) i l (subst T (sym (narrows-founded n h)) (head-founded (accepts-promises (k .reckons .accepts)) i l)) next (b .given)
+        (rule-steady (k .reckons) strides m aims self-from (k .justified .from) i l (b .given) (b .gives-it))
+        (record { le = subst T (sym (narrows-past n h next (b .given))) (b .enough) })
+        (record { le = subst T (sym (narrows-past n h z next)) (b .on) })
+        (at-trans (record { le = subst T (sym (narrows-past n h next t)) (b .within) }) (open-ends (k .reckons) h z t (q .0)))
+        (raised-is aims h next (omega (arith, few, full)))
 
-    -- the same, of the code's head v and target t
-    pub aiming-on : {v : ℕ} {t : ℤ} {b : Bool} → v ≡ headOf P i → t ≡ valued target (headOf P i) → b ≡ lifts P (getD masks i 0) cut stops others m target aims i → b ≡ true
-        → Aiming s P R θ offsets masks others stops cut m A₀ (set aims v t)
-    aiming-on ev et e b = rw (ev, et) (record { reckons = k .reckons; progress = k .progress; justified = lifted (sym e ∙ b) })
+    -- the same, of the code's head v and next aim a
+    pub aiming-on : {v : ℕ} {a : ℤ} → v ≡ headOf P i → a ≡ next → (a ≡ valued aims v → ⊥) → Aiming s P R θ offsets masks others stops cut strides m A₀ (set aims v a)
+    aiming-on {v} {a} ev ea f = rw (ev, ea) (record {
+      reckons = k .reckons;
+      progress = k .progress;
+      justified = lifted (λ e. f (ea ∙ e ∙ ap (valued aims) (sym ev)));
+    })
 
 -- a rule of some aims
 module _ {s : List ℕ} {c : Counts} (r : AcceptedAs s c) where
   pub rule-among : {P : Program} → Accepts s P → (i : ℕ) → i < c .rules → i < length (P .rules)
   rule-among a i l = omega (arith, counts-of r a .rules-are)
 
-  pub some-rule : {offsets masks : List ℕ} {others stops : List ℤ} {cut : Bool} {m aims : List ℤ} → SomeAims s offsets masks others stops cut m aims → {i : ℕ} → i < c .rules
+  pub some-rule : {offsets masks : List ℕ} {others stops : List ℤ} {cut : Bool} {strides m aims : List ℤ} → SomeAims s offsets masks others stops cut strides m aims → {i : ℕ} → i < c .rules
       → SomeRule s (getD offsets i 0)
   some-rule k {i} l = let q = k .aiming .reckons in record { program = k .program; rule = i; here = q .stands i (rule-among (q .accepts) i l) }
 
 -- ---- a run
 
+pub running-small : {s : List ℕ} {P : Program} {R : Reckoning} {θ : Valuation} {offsets masks readers : List ℕ} {others stops : List ℤ} {cut : Bool} {m : List ℤ} {w : List ℕ}
+    → Running s P R θ offsets masks readers others stops cut m w → Small m
+running-small {m = m} k =
+    let r = k .task .basis .reckons in
+    within-small (accepts-promises (r .accepts)) m (narrows-within (r .narrows) (k .progress .within))
+
 module _ {s : List ℕ} {P : Program} {R : Reckoning} {θ : Valuation} {offsets masks readers : List ℕ} {others stops : List ℤ} {cut : Bool} {m : List ℤ} {w : List ℕ}
-    (k : Running s P R θ offsets masks readers others stops cut m w) (target : List ℤ) {c : Counts} (r : AcceptedAs s c) (before first : List ℤ)
-    (lm : length m ≡ maxVariables) (la : length first ≡ maxVariables) (f : Filled (firstAims (variablesAt s (c .variables)) cut stops m target) maxVariables before first) where
-  are : valued first ≡ firstAims (P .variables) cut stops m target
-  are = aims-are (k .task .basis .reckons) m target (k .progress) r before first lm la f
+    (k : Running s P R θ offsets masks readers others stops cut m w) (strides target : List ℤ) {c : Counts} (r : AcceptedAs s c) (before first : List ℤ)
+    (lm : length m ≡ maxVariables) (la : length first ≡ maxVariables) (f : Filled (firstAims (variablesAt s (c .variables)) cut strides stops m target) maxVariables before first) where
+  are : valued first ≡ firstAims (P .variables) cut strides stops m target
+  are = aims-are (k .task .basis .reckons) strides m target (k .progress) r before first lm la f
 
   from : From (reckoned P R) θ (valued m) (valued first)
-  from = rw are (first-from (k .task .basis .reckons) m target (k .progress))
+  from = rw are (first-from (k .task .basis .reckons) strides m target (k .progress))
 
   -- the first aims
-  pub aiming-start : Aiming s P R θ offsets masks others stops cut m (valued first) first
+  pub aiming-start : Aiming s P R θ offsets masks others stops cut strides m (valued first) first
   aiming-start = record { reckons = k .task .basis .reckons; progress = k .progress; justified = justified-start (k .progress) from }
 
   -- every aim that was lifted from them is its target
-  pub aiming-arrived : (aims : List ℤ) {a : Bool} → AimsKept s offsets masks others stops cut m first aims → SameIf aims target a → a ≡ true → Landing s P R θ offsets masks readers others stops cut target m w
+  pub aiming-arrived : (aims : List ℤ) {a : Bool} → AimsKept s offsets masks others stops cut strides m first aims → SameIf aims target a → a ≡ true → Landing s P R θ offsets masks readers others stops cut target m w
   aiming-arrived aims lift same e =
-      record { run = k; goal = target-progress (k .progress) drawn there _ (all-short (k .task .basis .reckons) m target (k .progress) from); under = there .from .after }
+      record { run = k; goal = target-progress (k .progress) drawn there _ (all-short (k .task .basis .reckons) strides m target (k .progress) from); under = there .from .after }
     where
-      there : Justified (reckoned P R) θ (valued m) (valued first) (valued target)
-      there = subst (λ (A : Valuation). Justified (reckoned P R) θ (valued m) (valued first) A) (fun-ext (same e)) (lift _ _ _ _ aiming-start .justified)
+      there : Justified (reckoned P R) (strideOf strides) θ (valued m) (valued first) (valued target)
+      there = subst (λ (A : Valuation). Justified (reckoned P R) (strideOf strides) θ (valued m) (valued first) A) (fun-ext (same e)) (lift _ _ _ _ aiming-start .justified)
 
-      drawn : Drawn (reckoned P R) (valued m) (valued target) (valued first)
-      drawn = rw are (first-drawn (k .task .basis .reckons) m target (k .progress))
+      drawn : Drawn (reckoned P R) (strideOf strides) (valued m) (valued target) (valued first)
+      drawn = rw are (first-drawn (k .task .basis .reckons) strides m target (k .progress))
+
+-- what rule r, whose head is h, is estimated to give
+abbrev estimateOf : List ℤ → ℕ → List ℤ → List ℤ → List ℤ → Variable → ℕ → Rule → Given
+estimateOf strides mask m others aims x h r =
+    estimate x (strideOf strides h) (strideAt strides (r .terms)) r (readingOf mask m others (r .terms)) (readingOf mask aims others (r .terms))
 
 -- ---- the ways of the tests
 
-module _ (x : Variable) (t : ℤ) {g : Given} where
-  pub nothing-reaches : g ≡ Nothing → false ≡ reaches x t g
-  unfolding reaches
-  nothing-reaches e = rw e
+module _ (x : Variable) (z t : ℤ) {g : Given} where
+  pub nothing-lifts : g ≡ Nothing → z ≡ liftTo x z t g
+  unfolding liftTo
+  nothing-lifts e = rw e
 
-  pub value-reaches : (b : ℤ) {q : Bool} → g ≡ Value b → q ≡ not (notPast x t b) → not q ≡ reaches x t g
-  unfolding reaches
-  value-reaches b e h = rw (e, h) (not-not (notPast x t b))
+  module _ (b : ℤ) (e : g ≡ Value b) {q : Bool} (h : q ≡ not (notPast x t b)) where
+    pub reached-lifts : not q ≡ true → t ≡ liftTo x z t g
+    unfolding liftTo
+    reached-lifts k = rw (e, sym (not-not (notPast x t b)) ∙ ap not (sym h) ∙ k)
+
+    pub later-lifts : not q ≡ false → {a : ℤ} → a ≡ laterOf x z b → a ≡ liftTo x z t g
+    unfolding liftTo
+    later-lifts k l = l ∙ rw (e, sym (not-not (notPast x t b)) ∙ ap not (sym h) ∙ k)
 
 -- of rule i, by the code's variable, stop, aim and target of its head
-module _ (P : Program) (mask : ℕ) (cut : Bool) (stops others m target aims : List ℤ) (i : ℕ) {x : Variable} {b z t : ℤ} (ex : x ≡ variableIn (P .variables) (headOf P i))
+module _ (P : Program) (mask : ℕ) (cut : Bool) (strides stops others m target aims : List ℤ) (i : ℕ) {x : Variable} {b z t : ℤ} (ex : x ≡ variableIn (P .variables) (headOf P i))
     (eb : b ≡ valued stops (headOf P i)) (ez : z ≡ valued aims (headOf P i)) (et : t ≡ valued target (headOf P i)) where
-  pub closed-lifts : isOpen cut x b z t ≡ false → false ≡ lifts P mask cut stops others m target aims i
-  unfolding lifts
-  closed-lifts e = rw (← ex, ← eb, ← ez, ← et, e)
+  pub closed-next : isOpen cut x b z t ≡ false → z ≡ nextAim P mask cut strides stops others m target aims i
+  unfolding nextAim
+  closed-next e = rw (← ex, ← eb, ← ez, ← et, e)
 
-  pub open-lifts : {q : Bool} {f g : Given} → isOpen cut x b z t ≡ true → q ≡ reaches x t g → g ≡ stopped cut x b mask f
-      → f ≡ estimate x (ruleIn (P .rules) i) (readingOf mask m others (ruleIn (P .rules) i .terms)) (readingOf mask aims others (ruleIn (P .rules) i .terms))
-      → q ≡ lifts P mask cut stops others m target aims i
-  unfolding lifts
-  open-lifts e h k l = rw (← ex, ← eb, ← ez, ← et, e) (h ∙ ap (reaches x t) (k ∙ ap (stopped cut x b mask) l))
+  pub open-next : {a : ℤ} {f g : Given} → isOpen cut x b z t ≡ true → a ≡ liftTo x z t g → g ≡ stopped cut x b mask f
+      → f ≡ estimateOf strides mask m others aims x (headOf P i) (ruleIn (P .rules) i)
+      → a ≡ nextAim P mask cut strides stops others m target aims i
+  unfolding nextAim
+  open-next e h k l = rw (← ex, ← eb, ← ez, ← et, e) (h ∙ ap (liftTo x z t) (k ∙ ap (stopped cut x b mask) l))
 
--- what the field's value is estimated to give
-pub estimate-here : {s : List ℕ} {P : Program} {i at : ℕ} → RuleStands s P i at → {v : List ℕ} → v ≡ valueAt s at → (x : Variable) (mask : ℕ) (m aims others : List ℤ) {g : Given}
-    → g ≡ estimate x (ruleOf v) (readingOf mask m others (ruleOf v .terms)) (readingOf mask aims others (ruleOf v .terms))
-    → g ≡ estimate x (ruleIn (P .rules) i) (readingOf mask m others (ruleIn (P .rules) i .terms)) (readingOf mask aims others (ruleIn (P .rules) i .terms))
-estimate-here h q x mask m aims others e =
-    e ∙ ap (λ (r : Rule). estimate x r (readingOf mask m others (r .terms)) (readingOf mask aims others (r .terms))) (ap ruleOf q ∙ sym (lies h .is))
+-- what the field's value is estimated to give, by the code's head
+pub estimate-here : {s : List ℕ} {P : Program} {i at : ℕ} → RuleStands s P i at → {v : List ℕ} → v ≡ valueAt s at → (x : Variable) (mask : ℕ) (strides m aims others : List ℤ) {h : ℕ}
+    → h ≡ headOf P i → {g : Given} → g ≡ estimateOf strides mask m others aims x h (ruleOf v) → g ≡ estimateOf strides mask m others aims x (headOf P i) (ruleIn (P .rules) i)
+estimate-here k q x mask strides m aims others p e =
+    e ∙ ap₂ (estimateOf strides mask m others aims x) p (ap ruleOf q ∙ sym (lies k .is))
 
 -- aims that were lifted are some aims too
-pub some-aims : {s offsets masks : List ℕ} {others stops : List ℤ} {cut : Bool} {m aims : List ℤ} → SomeAims s offsets masks others stops cut m aims → (aims⁺ : List ℤ)
-    → AimsKept s offsets masks others stops cut m aims aims⁺ → SomeAims s offsets masks others stops cut m aims⁺
+pub some-aims : {s offsets masks : List ℕ} {others stops : List ℤ} {cut : Bool} {strides m aims : List ℤ} → SomeAims s offsets masks others stops cut strides m aims
+    → (aims⁺ : List ℤ) → AimsKept s offsets masks others stops cut strides m aims aims⁺ → SomeAims s offsets masks others stops cut strides m aims⁺
 some-aims k aims⁺ f = record { program = k .program; reckoning = k .reckoning; assigned = k .assigned; first = k .first; aiming = f _ _ _ _ (k .aiming) }

@@ -1,14 +1,15 @@
 -- What an open target says, and that the first aims are the targets drawn back.
-use Prim.Native.Nat.{ℕ, _+_, _≤_}
+use Prim.Native.Nat.{ℕ, _+_, _*_, _≤_}
 use mathlib.Core.Path.{_≡_, refl, sym, ap, fun-ext, subst, _∙_}
 use mathlib.Core.Logic.{_⊎_, inl, inr}
 use mathlib.Core.Bool.{Bool, true, false, not, cond, _&&_, _||_}
 use mathlib.Core.List.{List}
 use native.Mathlib.Omega.{arith}
-use lib.Dec.{T, T-not, ltb}
+use native.Mathlib.Nat.{mul-le-mul}
+use lib.Dec.{T, ltb}
 use borrow.Author.Tests.{ltb-true, ltb-false}
 use lib.IntN.{ℤ, pos, negℤ, natAbs, _+ℤ_, _-ℤ_}
-use lib.Signed.{leZ, _≤ℤ_}
+use lib.Signed.{_≤ℤ_}
 use lib.ListN.{length, List·getD-eq-default}
 use Rattle.format.specs.Limits.{maxVariables, maxNumber}
 use Rattle.format.proofs.Int.{int, sum-is, neg-is, abs-is}
@@ -31,35 +32,34 @@ use Rattle.meaning.proofs.Narrowing.{narrows-founded, narrows-past, narrows-wit
 use Rattle.meaning.proofs.Theory.{Progress}
 use Rattle.run.specs.Running.{Reckons}
 use Rattle.steady.specs.Short.{ShortBy}
+use Rattle.steady.specs.Strides.{strideOf}
+use Rattle.steady.proofs.Ahead.{ahead-past}
+use Rattle.steady.proofs.Machine.{stride-least}
 use Rattle.targets.specs.Targets.{AllShort, From, Drawn}
-use Rattle.targets.specs.Aims.{isOpen, oneBack, firstAim, firstAims}
-use Rattle.targets.proofs.Ahead.{ahead-past}
+use Rattle.targets.specs.Aims.{isOpen, drawnBack, laterOf, firstAim, firstAims}
 use Rattle.targets.proofs.AimLaws.{open-after, standard-closed, closed-aim, past-aim}
 use Rattle.targets.proofs.RuleLaws.{narrows-ahead}
 
--- ---- one step back
+-- ---- drawn back
 
 module _ (x : Variable) where
-  back-ahead : (t : ℤ) → ahead x t ≡ (ahead x (oneBack x t) +ℤ pos 1)
-  unfolding oneBack ahead swaps
-  back-ahead t = cases (fromAbove x) (λ b. cond b (negℤ t) t ≡ (cond b (negℤ (cond b (t +ℤ pos 1) (t -ℤ pos 1))) (cond b (t +ℤ pos 1) (t -ℤ pos 1)) +ℤ pos 1))
-      (λ b. omega (int, neg-is t, neg-is (t +ℤ pos 1), sum-is t (pos 1), sum-is (negℤ (t +ℤ pos 1)) (pos 1)))
-      (λ b. omega (int, sum-is t (negℤ (pos 1)), sum-is (t -ℤ pos 1) (pos 1)))
+  back-ahead : (s : ℕ) (t : ℤ) → ahead x t ≡ (ahead x (drawnBack x s t) +ℤ pos s)
+  unfolding drawnBack ahead swaps
+  back-ahead s t = cases (fromAbove x) (λ b. cond b (negℤ t) t ≡ (cond b (negℤ (cond b (t +ℤ pos s) (t -ℤ pos s))) (cond b (t +ℤ pos s) (t -ℤ pos s)) +ℤ pos s))
+      (λ b. omega (int, neg-is t, neg-is (t +ℤ pos s), sum-is t (pos s), sum-is (negℤ (t +ℤ pos s)) (pos s)))
+      (λ b. omega (int, sum-is t (negℤ (pos s)), neg-is (pos s), sum-is (t -ℤ pos s) (pos s)))
 
-  -- it is at or after what comes before
-  back-after : (z t : ℤ) → T (not (notPast x t z)) → T (notPast x z (oneBack x t))
-  back-after z t n = ahead-past x z (oneBack x t)
-      (cases (leZ (ahead x t) (ahead x z)) (λ b. ahead x z ≤ℤ ahead x (oneBack x t)) (λ h. absurd (T-not (notPast x t z) n (ahead-past x t z (omega int))))
-      (λ h. omega (int, back-ahead t, sum-is (ahead x (oneBack x t)) (pos 1))))
-
-  back-before : (t : ℤ) → T (notPast x (oneBack x t) t)
-  back-before t = ahead-past x (oneBack x t) t (omega (int, back-ahead t, sum-is (ahead x (oneBack x t)) (pos 1)))
+  back-before : (s : ℕ) (t : ℤ) → T (notPast x (drawnBack x s t) t)
+  back-before s t = ahead-past x (drawnBack x s t) t (omega (int, back-ahead s t, sum-is (ahead x (drawnBack x s t)) (pos s)))
 
   -- small values are not far apart
   small-short : (n : ℕ) (a b : ℤ) → natAbs a ≤ n → natAbs b ≤ n → ShortBy (n + n) x a b
   unfolding ahead swaps
   small-short n a b h k = cases (fromAbove x) (λ t. cond t (negℤ a) a ≤ℤ (cond t (negℤ b) b +ℤ pos (n + n)))
       (λ t. omega (int, neg-is a, neg-is b, abs-is a, abs-is b, sum-is (negℤ b) (pos (n + n)))) (λ t. omega (int, abs-is a, abs-is b, sum-is b (pos (n + n))))
+
+  short-more : {n k : ℕ} → n ≤ k → (a b : ℤ) → ShortBy n x a b → ShortBy k x a b
+  short-more {n} {k} l a b h = omega (int, h, sum-is (ahead x b) (pos n), sum-is (ahead x b) (pos k))
 
 -- ---- an open target
 
@@ -82,14 +82,18 @@ module _ (cut : Bool) (x : Variable) (stop z t : ℤ) (o : isOpen cut x stop z t
 
 -- ---- the first aims of a run
 
--- of a variable
-module _ (cut : Bool) (x : Variable) (stop z t : ℤ) (Q : ℤ → Type 0) where
-  first-is : (isOpen cut x stop z t ≡ true → Q (oneBack x t)) → Q z → Q (firstAim cut x stop z t)
+-- of a variable: drawn back, which comes after what it has; or what it has
+module _ (cut : Bool) (x : Variable) (s : ℕ) (stop z t : ℤ) (Q : ℤ → Type 0) where
+  later-is : (T (not (notPast x (drawnBack x s t) z)) → Q (drawnBack x s t)) → Q z → Q (laterOf x z (drawnBack x s t))
+  unfolding laterOf
+  later-is f q = cases (notPast x (drawnBack x s t) z) (λ b. Q (cond b z (drawnBack x s t))) (λ b. q) f
+
+  first-is : (isOpen cut x stop z t ≡ true → T (not (notPast x (drawnBack x s t) z)) → Q (drawnBack x s t)) → Q z → Q (firstAim cut x s stop z t)
   unfolding firstAim
   first-is f q = go (isOpen cut x stop z t) f
     where
-      go : (b : Bool) → (b ≡ true → Q (oneBack x t)) → Q (cond b (oneBack x t) z)
-      go true f = f refl
+      go : (b : Bool) → (b ≡ true → T (not (notPast x (drawnBack x s t) z)) → Q (drawnBack x s t)) → Q (cond b (laterOf x z (drawnBack x s t)) z)
+      go true f = later-is (f refl) q
       go false f = q
 
 module _ {s : List ℕ} {P : Program} {R : Reckoning} {θ : Valuation} {offsets masks : List ℕ} {others stops : List ℤ} {cut : Bool}
@@ -100,21 +104,24 @@ module _ {s : List ℕ} {P : Program} {R : Reckoning} {θ : Valuation} {offsets 
       let x = variableIn (P .variables) v in
       k .ends v t (record { to-far = open-far cut x (valued stops v) z t o; to-stop = open-stop cut x (valued stops v) z t o })
 
-  module _ (m target : List ℤ) (p : Progress (reckoned P R) θ (valued m)) where
+  module _ (strides m target : List ℤ) (p : Progress (reckoned P R) θ (valued m)) where
     abbrev aim : Valuation
-    aim = firstAims (P .variables) cut stops m target
+    aim = firstAims (P .variables) cut strides stops m target
 
-    at-variable : (v : ℕ) (Q : ℤ → Type 0) → (isOpen cut (variableIn (P .variables) v) (valued stops v) (valued m v) (valued target v) ≡ true
-        → Q (oneBack (variableIn (P .variables) v) (valued target v))) → Q (valued m v) → Q (aim v)
-    at-variable v = first-is cut (variableIn (P .variables) v) (valued stops v) (valued m v) (valued target v)
+    -- the target of v drawn back
+    abbrev back : ℕ → ℤ
+    back v = drawnBack (variableIn (P .variables) v) (strideOf strides v) (valued target v)
+
+    at-variable : (v : ℕ) (Q : ℤ → Type 0)
+        → (isOpen cut (variableIn (P .variables) v) (valued stops v) (valued m v) (valued target v) ≡ true → T (not (notPast (variableIn (P .variables) v) (back v) (valued m v))) → Q (back v))
+        → Q (valued m v) → Q (aim v)
+    at-variable v = first-is cut (variableIn (P .variables) v) (strideOf strides v) (valued stops v) (valued m v) (valued target v)
 
     first-after : (v : ℕ) → AtOrBefore (reckoned P R) v (valued m v) (aim v)
     first-after v =
-        let x = variableIn (P .variables) v in
         at-variable v (AtOrBefore (reckoned P R) v (valued m v))
-        (λ o. record {
-          le = subst T (sym (narrows-past (k .narrows) v (valued m v) (oneBack x (valued target v))))
-              (back-after x (valued m v) (valued target v) (open-after x cut (valued stops v) (valued m v) (valued target v) o));
+        (λ o n. record {
+          le = subst T (sym (narrows-past (k .narrows) v (valued m v) (back v))) (past-total (variableIn (P .variables) v) (valued m v) (back v) n);
         })
         (at-refl v (valued m v))
 
@@ -122,7 +129,7 @@ module _ {s : List ℕ} {P : Program} {R : Reckoning} {θ : Valuation} {offsets 
     first-last v =
         let x = variableIn (P .variables) v in
         at-variable v (λ a. AtOrBefore (reckoned P R) v a (far (R .variable v)))
-        (λ o. at-trans (record { le = subst T (sym (narrows-past (k .narrows) v (oneBack x (valued target v)) (valued target v))) (back-before x (valued target v)) })
+        (λ o n. at-trans (record { le = subst T (sym (narrows-past (k .narrows) v (back v) (valued target v))) (back-before x (strideOf strides v) (valued target v)) })
         (open-ends v (valued m v) (valued target v) o))
         (to-far (p .within) v)
 
@@ -131,37 +138,42 @@ module _ {s : List ℕ} {P : Program} {R : Reckoning} {θ : Valuation} {offsets 
       standard = λ v n.
           let x = variableIn (P .variables) v in
           let n′ = subst (λ (b : Bool). T (not b)) (narrows-founded (k .narrows) v) n in
-          sym (closed-aim x cut (valued stops v) (valued m v) (valued target v) (standard-closed x cut (valued stops v) (valued m v) (valued target v) n′)) ∙ p .standard v n;
+          sym (closed-aim x cut (valued stops v) (valued m v) (valued target v) _ (standard-closed x cut (valued stops v) (valued m v) (valued target v) n′)) ∙ p .standard v n;
       within = within-ends (λ v. at-trans (from-start (p .within) v) (first-after v)) first-last;
       after = first-after;
     }
 
-    pub first-drawn : Drawn (reckoned P R) (valued m) (valued target) aim
+    pub first-drawn : Drawn (reckoned P R) (strideOf strides) (valued m) (valued target) aim
     first-drawn = record {
       drawn = λ v.
-          let x = variableIn (P .variables) v in
-          at-variable v (λ a. (a ≡ valued m v) ⊎ (ahead (R .variable v) (valued target v) ≡ (ahead (R .variable v) a +ℤ pos 1)))
-          (λ o. inr (rw (narrows-ahead (k .narrows) v (valued target v), narrows-ahead (k .narrows) v (oneBack x (valued target v))) (back-ahead x (valued target v))))
+          at-variable v (λ a. (a ≡ valued m v) ⊎ (ahead (R .variable v) (valued target v) ≡ (ahead (R .variable v) a +ℤ pos (strideOf strides v))))
+          (λ o n. inr (rw (narrows-ahead (k .narrows) v (valued target v), narrows-ahead (k .narrows) v (back v))
+          (back-ahead (variableIn (P .variables) v) (strideOf strides v) (valued target v))))
           (inl refl);
     }
 
     -- a model is not far short of values in the ranges
-    pub all-short : {A : Valuation} → From (reckoned P R) θ (valued m) A → (M : Valuation) → Model (reckoned P R) θ M → AllShort (reckoned P R) (maxNumber + maxNumber) M A
-    all-short {A} f M h = record { by = λ v. small-short (R .variable v) maxNumber (A v) (M v) (small (f .within) v) (small (h .within) v) }
+    pub all-short : {A : Valuation} → From (reckoned P R) θ (valued m) A → (M : Valuation) → Model (reckoned P R) θ M
+        → AllShort (reckoned P R) (strideOf strides) (maxNumber + maxNumber) M A
+    all-short {A} f M h = record { by = λ v. short-more (R .variable v) (few v) (A v) (M v) (small-short (R .variable v) maxNumber (A v) (M v) (small (f .within) v) (small (h .within) v)) }
       where
         small : {N : Valuation} → Within (reckoned P R) N → (v : ℕ) → natAbs (N v) ≤ maxNumber
         small w = value-small (accepts-promises (k .accepts)) (narrows-within (k .narrows) w)
 
+        few : (v : ℕ) → maxNumber + maxNumber ≤ (maxNumber + maxNumber) * strideOf strides v
+        few v =
+            mul-le-mul {n₁ = maxNumber + maxNumber} {m₁ = 1} {n₂ = maxNumber + maxNumber} {m₂ = strideOf strides v} (omega arith) (stride-least (valued strides v))
+
     -- the code's list has them
     module _ {c : Counts} (r : AcceptedAs s c) (before aims : List ℤ) (lm : length m ≡ maxVariables) (la : length aims ≡ maxVariables)
-        (f : Filled (firstAims (variablesAt s (c .variables)) cut stops m target) maxVariables before aims) where
+        (f : Filled (firstAims (variablesAt s (c .variables)) cut strides stops m target) maxVariables before aims) where
       pub aims-are : valued aims ≡ aim
       aims-are = fun-ext (λ v. go v (ltb v maxVariables) refl)
         where
           go : (v : ℕ) (b : Bool) → ltb v maxVariables ≡ b → valued aims v ≡ aim v
           go v true e =
-              f .below v (ltb-true v maxVariables e) ∙ ap (λ (vs : List Variable). firstAims vs cut stops m target v) (sym (variables-are r (k .accepts)))
+              f .below v (ltb-true v maxVariables e) ∙ ap (λ (vs : List Variable). firstAims vs cut strides stops m target v) (sym (variables-are r (k .accepts)))
           go v false e =
               let l = ltb-false v maxVariables e in
               List·getD-eq-default aims (pos 0) (omega arith) ∙ sym (List·getD-eq-default m (pos 0) (omega arith))
-              ∙ past-aim (P .variables) cut stops m target v (omega (arith, program-limited (k .accepts) .few-variables))
+              ∙ past-aim (P .variables) cut strides stops m target v (omega (arith, program-limited (k .accepts) .few-variables))

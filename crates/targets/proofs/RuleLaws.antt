@@ -1,5 +1,5 @@
 -- What a rule is estimated to give, stopped where lifts stop, is steady: by the law of `steady`, for the positions that the tables say are read in the model.
-use Prim.Native.Nat.{ℕ, zero, suc, _<_, _≤_}
+use Prim.Native.Nat.{ℕ, zero, suc, _*_, _<_, _≤_}
 use mathlib.Core.Path.{_≡_, refl, sym, ap, fun-ext, subst, _∙_}
 use mathlib.Core.Logic.{_⊎_, inl, inr}
 use mathlib.Core.Bool.{Bool, true, false, not, cond}
@@ -29,10 +29,11 @@ use Rattle.meaning.proofs.Narrowing.{narrows-founded, narrows-past, narrows-wit
 use Rattle.run.specs.Running.{freeBit, stopped, KeptOrStandard, Reckons}
 use Rattle.steady.specs.Estimate.{estimate}
 use Rattle.steady.specs.Short.{ShortBy, Moving, Staying, Short}
+use Rattle.steady.specs.Strides.{strideOf, strideAt}
+use Rattle.steady.proofs.Ahead.{past-ahead}
 use Rattle.steady.proofs.SteadyLaws.{steady}
 use Rattle.targets.specs.Targets.{AllShort, From, GivesNear, Steady}
 use Rattle.targets.specs.Aims.{estimatedBy}
-use Rattle.targets.proofs.Ahead.{past-ahead}
 
 -- ---- a valuation in a list
 
@@ -105,7 +106,7 @@ unfolding ahead swaps
 narrows-ahead n v a = rw (n .kind-is v)
 
 module _ {s : List ℕ} {P : Program} {R : Reckoning} {θ : Valuation} {offsets masks : List ℕ} {others stops : List ℤ} {cut : Bool}
-    (k : Reckons s P R θ offsets masks others stops cut) (m aims : List ℤ) (fm : From (reckoned P R) θ (valued m) (valued m))
+    (k : Reckons s P R θ offsets masks others stops cut) (strides m aims : List ℤ) (fm : From (reckoned P R) θ (valued m) (valued m))
     (fa : From (reckoned P R) θ (valued m) (valued aims)) (i : ℕ) (l : i < length (P .rules)) where
   abbrev vs : List Variable
   vs = P .variables
@@ -129,17 +130,17 @@ module _ {s : List ℕ} {P : Program} {R : Reckoning} {θ : Valuation} {offsets 
   later : {M : Valuation} → From (reckoned P R) θ (valued m) M → (v : ℕ) → T (notPast (variableIn vs v) (valued m v) (M v))
   later {M} f v = subst T (narrows-past (k .narrows) v (valued m v) (M v)) (f .after v .le)
 
-  module _ (n : ℕ) (to : List ℤ) (ft : From (reckoned P R) θ (valued m) (valued to)) (near : AllShort (reckoned P R) n (valued to) (valued aims)) where
-    near-by : (v : ℕ) → ShortBy n (variableIn vs v) (valued aims v) (valued to v)
+  module _ (n : ℕ) (to : List ℤ) (ft : From (reckoned P R) θ (valued m) (valued to)) (near : AllShort (reckoned P R) (strideOf strides) n (valued to) (valued aims)) where
+    near-by : (v : ℕ) → ShortBy (n * strideOf strides v) (variableIn vs v) (valued aims v) (valued to v)
     near-by v = rw (narrows-ahead (k .narrows) v (valued aims v), narrows-ahead (k .narrows) v (valued to v)) at (near .by v)
 
-    short : Short vs rule (read m) (read aims) (read to) n
+    short : Short vs rule (read m) (read aims) (read to) n (strideAt strides (rule .terms))
     short j h = go (bit mask j) refl
       where
         x : ℕ
         x = bodyVariable rule j
 
-        moving : bit mask j ≡ true → kept vs rule j ≡ true → Moving vs rule (read m) (read aims) (read to) n j
+        moving : bit mask j ≡ true → kept vs rule j ≡ true → Moving vs rule (read m) (read aims) (read to) (n * strideAt strides (rule .terms) j) j
         moving e q =
             let a = read-first mask m others (rule .terms) j e in
             let b = read-first mask aims others (rule .terms) j e in
@@ -165,11 +166,11 @@ module _ {s : List ℕ} {P : Program} {R : Reckoning} {θ : Valuation} {offsets 
               at-to = a ∙ standard fm x q ∙ sym (standard ft x q) ∙ sym c;
             }
 
-        kept-or : bit mask j ≡ true → KeptOrStandard P i j → Moving vs rule (read m) (read aims) (read to) n j ⊎ Staying vs rule (read m) (read aims) (read to) j
+        kept-or : bit mask j ≡ true → KeptOrStandard P i j → Moving vs rule (read m) (read aims) (read to) (n * strideAt strides (rule .terms) j) j ⊎ Staying vs rule (read m) (read aims) (read to) j
         kept-or e (inl q) = inl (moving e q)
         kept-or e (inr q) = inr (fixed e q)
 
-        go : (b : Bool) → bit mask j ≡ b → Moving vs rule (read m) (read aims) (read to) n j ⊎ Staying vs rule (read m) (read aims) (read to) j
+        go : (b : Bool) → bit mask j ≡ b → Moving vs rule (read m) (read aims) (read to) (n * strideAt strides (rule .terms) j) j ⊎ Staying vs rule (read m) (read aims) (read to) j
         go true e = kept-or e (k .keeps i l j h e)
         go false e =
             let a = read-second mask m others (rule .terms) j e in
@@ -180,20 +181,22 @@ module _ {s : List ℕ} {P : Program} {R : Reckoning} {θ : Valuation} {offsets 
             })
 
     -- what is found at the values is near to the estimate
-    found-near : (b : ℤ) → estimatedBy P mask cut stops others m aims i ≡ Value b → GivesNear (reckoned P R) θ (valued to) i n b
+    found-near : (b : ℤ) → estimatedBy P mask cut strides stops others m aims i ≡ Value b → GivesNear (reckoned P R) (strideOf strides) θ (valued to) i n b
     found-near b e =
         let h = rule .head in
         let x = variableIn vs h in
-        let r = stopped-near n x (valued stops h) cut mask (estimate x rule (read m) (read aims)) (evaluate rule (read to))
-        (steady (accepts-promises (k .accepts) .rules i l) (read m) (read aims) (read to) n short) b e in
+        let own = strideOf strides h in
+        let stride = strideAt strides (rule .terms) in
+        let r = stopped-near (n * own) x (valued stops h) cut mask (estimate x own stride rule (read m) (read aims)) (evaluate rule (read to))
+        (steady (accepts-promises (k .accepts) .rules i l) own stride (read m) (read aims) (read to) n short) b e in
         record {
           given = r .0;
           gives-it = k .finds i l to (standard ft) ∙ r .1;
           near = rw (narrows-ahead (k .narrows) h b, narrows-ahead (k .narrows) h (r .0)) (r .2);
         }
 
-  pub rule-steady : (b : ℤ) → estimatedBy P mask cut stops others m aims i ≡ Value b → Steady (reckoned P R) θ (valued m) (valued aims) i b
-  rule-steady b e n M f near = subst (λ (N : Valuation). GivesNear (reckoned P R) θ N i n b) is (found-near n (listed M (length vs)) (rw (sym is) at f) (rw (sym is) at near) b e)
+  pub rule-steady : (b : ℤ) → estimatedBy P mask cut strides stops others m aims i ≡ Value b → Steady (reckoned P R) (strideOf strides) θ (valued m) (valued aims) i b
+  rule-steady b e n M f near = subst (λ (N : Valuation). GivesNear (reckoned P R) (strideOf strides) θ N i n b) is (found-near n (listed M (length vs)) (rw (sym is) at f) (rw (sym is) at near) b e)
     where
       is : valued (listed M (length vs)) ≡ M
       is = fun-ext (listed-is (length vs) M (past-zero P (narrows-within (k .narrows) (f .within))))

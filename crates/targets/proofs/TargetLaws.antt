@@ -1,5 +1,5 @@
--- Where the aims are the targets, every model is at or after them: by induction on how far a model is short of the targets drawn back.
-use Prim.Native.Nat.{ℕ, zero, suc}
+-- Where the aims are the targets, every model is at or after them: by induction on how many strides a model is short of the targets drawn back.
+use Prim.Native.Nat.{ℕ, zero, suc, _*_}
 use mathlib.Core.Path.{_≡_, subst, _∙_}
 use mathlib.Core.Logic.{_⊎_, inl, inr}
 use mathlib.Core.Bool.{not}
@@ -13,8 +13,8 @@ use Rattle.meaning.proofs.Laws.{at-trans, from-start, to-far, within-ends}
 use Rattle.meaning.proofs.Theory.{Progress}
 use Rattle.meaning.proofs.Steps.{Raised}
 use Rattle.steady.specs.Short.{ShortBy}
+use Rattle.steady.proofs.Ahead.{past-ahead, ahead-past}
 use Rattle.targets.specs.Targets.{AllShort, From, Steady, Drawn, Justified}
-use Rattle.targets.proofs.Ahead.{past-ahead, ahead-past}
 
 module _ {𝒮 : System} {θ m : Valuation} (p : Progress 𝒮 θ m) where
   open System 𝒮 using (variable, Rule, In, head, gives)
@@ -23,12 +23,13 @@ module _ {𝒮 : System} {θ m : Valuation} (p : Progress 𝒮 θ m) where
   model-from {M} k = record { standard = k .standard; within = k .within; after = p .floor .under M k }
 
   -- the first aims
-  pub justified-start : {A : Valuation} → From 𝒮 θ m A → Justified 𝒮 θ m A A
+  pub justified-start : {stride : ℕ → ℕ} {A : Valuation} → From 𝒮 θ m A → Justified 𝒮 stride θ m A A
   justified-start f = record { from = f; short = λ M k n s. s }
 
-  -- ---- the aim of a head is its target, where one of its rules gives as much
+  -- ---- the aim of a head is lifted, where one of its rules gives as much
 
-  module _ {A₀ A A⁺ : Valuation} (j : Justified 𝒮 θ m A₀ A) (r : Rule) (i : In r) (f : T (isFounded (variable (head r)))) (t b : ℤ) (steady : Steady 𝒮 θ m A r b)
+  module _ {stride : ℕ → ℕ} {A₀ A A⁺ : Valuation} (j : Justified 𝒮 stride θ m A₀ A) (r : Rule) (i : In r) (f : T (isFounded (variable (head r)))) (t b : ℤ)
+      (steady : Steady 𝒮 stride θ m A r b)
       (enough : AtOrBefore 𝒮 (head r) t b) (on : AtOrBefore 𝒮 (head r) (A (head r)) t) (to : AtOrBefore 𝒮 (head r) t (far (variable (head r))))
       (is : Raised A A⁺ (head r) t) where
     lifted-from : From 𝒮 θ m A⁺
@@ -51,45 +52,54 @@ module _ {𝒮 : System} {θ m : Valuation} (p : Progress 𝒮 θ m) where
         last v (inr q) = rw (q .1, ← q .0) to
 
     -- the head of a model has what the rule gives there
-    head-short : (M : Valuation) → Model 𝒮 θ M → (n : ℕ) → AllShort 𝒮 n M A → ShortBy n (variable (head r)) t (M (head r))
+    head-short : (M : Valuation) → Model 𝒮 θ M → (n : ℕ) → AllShort 𝒮 stride n M A → ShortBy (n * stride (head r)) (variable (head r)) t (M (head r))
     head-short M k n s =
         let x = variable (head r) in
         let g = steady n M (model-from k) s in
         let has = past-ahead x (g .given) (M (head r)) (rw (g .gives-it) at (k .rules r i)) in
-        omega (int, past-ahead x t b (enough .le), g .near, has, sum-is (ahead x (g .given)) (pos n), sum-is (ahead x (M (head r))) (pos n))
+        omega (int, past-ahead x t b (enough .le), g .near, has, sum-is (ahead x (g .given)) (pos (n * stride (head r))), sum-is (ahead x (M (head r))) (pos (n * stride (head r))))
 
-    pub justified-lift : Justified 𝒮 θ m A₀ A⁺
+    pub justified-lift : Justified 𝒮 stride θ m A₀ A⁺
     justified-lift = record { from = lifted-from; short = λ M k n s. record { by = λ v. at M k n (j .short M k n s) v (is v) } }
       where
-        at : (M : Valuation) → Model 𝒮 θ M → (n : ℕ) → AllShort 𝒮 n M A → (v : ℕ) → (A⁺ v ≡ A v) ⊎ ((head r ≡ v) × (A⁺ v ≡ t))
-            → ShortBy n (variable v) (A⁺ v) (M v)
+        at : (M : Valuation) → Model 𝒮 θ M → (n : ℕ) → AllShort 𝒮 stride n M A → (v : ℕ) → (A⁺ v ≡ A v) ⊎ ((head r ≡ v) × (A⁺ v ≡ t))
+            → ShortBy (n * stride v) (variable v) (A⁺ v) (M v)
         at M k n s v (inl q) = rw q (s .by v)
         at M k n s v (inr q) = rw (q .1, ← q .0) (head-short M k n s)
 
   -- ---- every aim is its target
 
-  module _ {T′ A₀ : Valuation} (d : Drawn 𝒮 m T′ A₀) (j : Justified 𝒮 θ m A₀ T′) (N : ℕ) (all : (M : Valuation) → Model 𝒮 θ M → AllShort 𝒮 N M A₀) where
+  module _ {stride : ℕ → ℕ} {T′ A₀ : Valuation} (d : Drawn 𝒮 stride m T′ A₀) (j : Justified 𝒮 stride θ m A₀ T′) (N : ℕ)
+      (all : (M : Valuation) → Model 𝒮 θ M → AllShort 𝒮 stride N M A₀) where
     module _ (M : Valuation) (k : Model 𝒮 θ M) where
-      -- short of the targets by so much, short of them drawn back by one less
-      nearer : (n : ℕ) → AllShort 𝒮 (suc n) M A₀ → AllShort 𝒮 n M A₀
+      -- short of the targets by so many strides, short of them drawn back by one less
+      nearer : (n : ℕ) → AllShort 𝒮 stride (suc n) M A₀ → AllShort 𝒮 stride n M A₀
       nearer n s = record { by = λ v. at v (d .drawn v) }
         where
-          at : (v : ℕ) → (A₀ v ≡ m v) ⊎ (ahead (variable v) (T′ v) ≡ (ahead (variable v) (A₀ v) +ℤ pos 1)) → ShortBy n (variable v) (A₀ v) (M v)
+          at : (v : ℕ) → (A₀ v ≡ m v) ⊎ (ahead (variable v) (T′ v) ≡ (ahead (variable v) (A₀ v) +ℤ pos (stride v))) → ShortBy (n * stride v) (variable v) (A₀ v) (M v)
           at v (inl q) =
               let x = variable v in
-              rw q (omega (int, past-ahead x (m v) (M v) (p .floor .under M k v .le), sum-is (ahead x (M v)) (pos n)))
+              rw q (omega (int, past-ahead x (m v) (M v) (p .floor .under M k v .le), sum-is (ahead x (M v)) (pos (n * stride v))))
           at v (inr q) =
               let x = variable v in
-              omega (int, q, j .short M k (suc n) s .by v, sum-is (ahead x (A₀ v)) (pos 1), sum-is (ahead x (M v)) (pos (suc n)), sum-is (ahead x (M v)) (pos n))
+              let h = j .short M k (suc n) s .by v in
+              omega (
+                int,
+                q,
+                h,
+                sum-is (ahead x (A₀ v)) (pos (stride v)),
+                sum-is (ahead x (M v)) (pos (suc n * stride v)),
+                sum-is (ahead x (M v)) (pos (n * stride v)),
+              )
 
-      nearest : (n : ℕ) → AllShort 𝒮 n M A₀ → AllShort 𝒮 0 M A₀
+      nearest : (n : ℕ) → AllShort 𝒮 stride n M A₀ → AllShort 𝒮 stride 0 M A₀
       nearest zero s = s
       nearest (suc n) s = nearest n (nearer n s)
 
       reached : (v : ℕ) → AtOrBefore 𝒮 v (T′ v) (M v)
       reached v =
           let x = variable v in
-          record { le = ahead-past x (T′ v) (M v) (omega (int, j .short M k 0 (nearest N (all M k)) .by v, sum-is (ahead x (M v)) (pos 0))) }
+          record { le = ahead-past x (T′ v) (M v) (omega (int, j .short M k 0 (nearest N (all M k)) .by v, sum-is (ahead x (M v)) (pos (0 * stride v)))) }
 
     pub target-floor : Floor 𝒮 θ T′
     target-floor = record { under = reached }

@@ -1,14 +1,21 @@
 // The aims: the targets drawn back at first, and the targets in the end.
 ghost use mathlib.Core.Path.{_≡_};
+ghost use mathlib.Core.Bool.{not};
 ghost use Prim.Native.Nat.{_*_, _<_, _≤_};
+ghost use lib.Dec.{T};
+ghost use lib.IntN.{pos, natAbs};
+ghost use lib.Signed.{_≤ℤ_};
 ghost use lib.ListN.{length};
-ghost use Rattle.format.specs.Limits.{maxVariables};
+ghost use Rattle.format.specs.Limits.{maxVariables, maxNumber};
 ghost use Rattle.program.specs.Program.{variablesAt};
+ghost use Rattle.program.specs.Evaluable.{Small};
+ghost use Rattle.program.specs.Variables.{notPast};
 ghost use Rattle.reduct.specs.Filling.{Filled};
-ghost use Rattle.targets.specs.Aims.{isOpen, firstAim, firstAims, SameIf};
+ghost use Rattle.targets.specs.Aims.{isOpen, drawnBack, laterOf, firstAim, firstAims, SameIf};
 use format::Format;
 use parts::variables;
 use program::Variable;
+use steady::strides::stride_by;
 
 // Whether the target of x, which has this value, comes after it, no further than the far end, nor than the stop where lifts stop.
 pub fn is_open(x: Variable, cut: bool, stop: i64, value: i64, target: i64) -> bool
@@ -21,18 +28,33 @@ pub fn is_open(x: Variable, cut: bool, stop: i64, value: i64, target: i64) -> bo
     founded & (after & (!past & (!cut | !stopped)))
 }
 
-// The first aim of x: an open target drawn back by one step, else its value.
-fn first_aim(x: Variable, cut: bool, stop: i64, value: i64, target: i64) -> i64
-    ensures { λ r. ⌜ r ≡ firstAim cut x stop value target ⌝ }
+// The later of two values in the order of x; the first where they are the same.
+pub fn later(x: Variable, a: i64, b: i64) -> i64
+    ensures { λ r. ⌜ r ≡ laterOf x a b ⌝ }
+{
+    if x.is_before(a, b) { b } else { a }
+}
+
+// The target, which comes after the value, drawn back by the stride, but no further than the value.
+fn draw(x: Variable, value: i64, target: i64, stride: i64) -> i64
+    requires { ⌜ (natAbs value ≤ maxNumber) × (pos 1 ≤ℤ stride) × (natAbs stride ≤ maxNumber) × T (not (notPast x target value)) ⌝ }
+    ensures { λ r. ⌜ r ≡ laterOf x value (drawnBack x (natAbs stride) target) ⌝ }
+{
+    if x.is_from_above() {
+        return later(x, value, target + stride);
+    }
+    later(x, value, target - stride)
+}
+
+// The first aim of x: an open target drawn back by the stride, else its value.
+fn first_aim(x: Variable, cut: bool, stop: i64, value: i64, target: i64, stride: i64) -> i64
+    requires { ⌜ (natAbs value ≤ maxNumber) × (pos 1 ≤ℤ stride) × (natAbs stride ≤ maxNumber) ⌝ }
+    ensures { λ r. ⌜ r ≡ firstAim cut x (natAbs stride) stop value target ⌝ }
 {
     if !is_open(x, cut, stop, value, target) {
         return value;
     }
-    if x.is_from_above() {
-        target + 1
-    } else {
-        target - 1
-    }
+    draw(x, value, target, stride)
 }
 
 // The first aim of variable v of a file.
@@ -44,19 +66,21 @@ fn aim_at(
     stops: &[i64; Format::MAX_VARIABLES],
     cut: bool,
     target: &[i64; Format::MAX_VARIABLES],
+    strides: &[i64; Format::MAX_VARIABLES],
 ) -> i64
     requires { ⌜ (8 * variables ≤ length (now file)) × (variables ≤ maxVariables) ⌝ }
-    requires { ⌜ v < maxVariables ⌝ }
-    ensures { λ r. ⌜ r ≡ firstAims (variablesAt (now (file .entry)) variables) cut (now (stops .entry)) (now (model .entry)) (now (target .entry)) v ⌝ }
+    requires { ⌜ (v < maxVariables) × Small (now model) ⌝ }
+    ensures { λ r. ⌜ r ≡ firstAims (variablesAt (now (file .entry)) variables) cut (now (strides .entry)) (now (stops .entry)) (now (model .entry)) (now (target .entry)) v ⌝ }
 {
     let value = model[v];
     let stop = stops[v];
     let goal = target[v];
+    let number = strides[v];
     if v >= variables {
         return value;
     }
     let x = variables::variable(file, v as u8);
-    first_aim(x, cut, stop, value, goal)
+    first_aim(x, cut, stop, value, goal, stride_by(number))
 }
 
 // The first aims of all variables.
@@ -67,16 +91,17 @@ pub fn draw_back(
     stops: &[i64; Format::MAX_VARIABLES],
     cut: bool,
     target: &[i64; Format::MAX_VARIABLES],
+    strides: &[i64; Format::MAX_VARIABLES],
     aims: &mut [i64; Format::MAX_VARIABLES],
 )
     requires { ⌜ (8 * variables ≤ length (now file)) × (variables ≤ maxVariables) ⌝ }
-    requires { ⌜ length (now aims) ≡ maxVariables ⌝ }
+    requires { ⌜ (length (now aims) ≡ maxVariables) × Small (now model) ⌝ }
     ensures { λ _. ⌜ length (now (aims .exit)) ≡ maxVariables ⌝ }
-    ensures { λ _. ⌜ Filled (firstAims (variablesAt (now (file .entry)) variables) cut (now (stops .entry)) (now (model .entry)) (now (target .entry))) maxVariables
-        (now (aims .entry)) (now (aims .exit)) ⌝ }
+    ensures { λ _. ⌜ Filled (firstAims (variablesAt (now (file .entry)) variables) cut (now (strides .entry)) (now (stops .entry)) (now (model .entry)) (now (target .entry)))
+        maxVariables (now (aims .entry)) (now (aims .exit)) ⌝ }
 {
     for v in 0..Format::MAX_VARIABLES {
-        let aim = aim_at(file, variables, v, model, stops, cut, target);
+        let aim = aim_at(file, variables, v, model, stops, cut, target, strides);
         aims[v] = aim;
     }
 }

@@ -28,8 +28,8 @@ fn line_length(count: usize) -> usize
     }
 }
 
-// The values become the targets, where the first `count` rules of the line, 256 at most, show that every model is at or after them; else nothing changes. Targets and
-// line are advice, and may be any numbers.
+// The values become the targets, where the first `count` rules of the line, 256 at most, show that every model is at or after them; else nothing changes. Targets,
+// line and strides are advice, and may be any numbers.
 pub fn leap(
     file: &[u8],
     counts: Counts,
@@ -44,6 +44,7 @@ pub fn leap(
     line: &[usize; Format::MAX_VARIABLES],
     count: usize,
     target: &[i64; Format::MAX_VARIABLES],
+    strides: &[i64; Format::MAX_VARIABLES],
 ) -> bool
     requires { ⌜ AcceptedAs (now file) counts ⌝ }
     requires { ⌜ SomeRun (now file) (now offsets) (now masks) (now readers) (now others) (now stops) cut (now model) (now waiting) ⌝ }
@@ -61,7 +62,7 @@ pub fn leap(
     let n = counts.variables;
     let most = line_length(count);
     let mut aims = [0i64; Format::MAX_VARIABLES];
-    aims::draw_back(file, n, model, stops, cut, target, &mut aims);
+    aims::draw_back(file, n, model, stops, cut, target, strides, &mut aims);
     lifting::lift_all(
         file,
         counts,
@@ -74,6 +75,7 @@ pub fn leap(
         stops,
         cut,
         target,
+        strides,
         &mut aims,
     );
     if !aims::arrived(&aims, target) {

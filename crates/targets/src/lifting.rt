@@ -1,4 +1,4 @@
-// Rules lift the aims of their heads to the targets.
+// Rules lift the aims of their heads towards the targets.
 ghost use mathlib.Core.Path.{_≡_};
 ghost use Prim.Native.Nat.{ℕ, _≤_};
 ghost use lib.ListN.{length};
@@ -7,8 +7,9 @@ ghost use Rattle.program.specs.Program.{Program};
 ghost use Rattle.program.specs.Reading.{AcceptedAs};
 ghost use Rattle.program.specs.Evaluable.{Small};
 ghost use Rattle.run.specs.Running.{RuleStands, SomeRule};
-ghost use Rattle.targets.specs.Aims.{reaches, lifts, SomeAims, AimsKept};
+ghost use Rattle.targets.specs.Aims.{liftTo, nextAim, SomeAims, AimsKept};
 use crate::aims::is_open;
+use crate::aims::later;
 use format::Format;
 use parts::places::value_at;
 use parts::variables;
@@ -18,18 +19,21 @@ use program::Variable;
 use run::demands;
 use tables::place_of;
 
-// Whether what is given is at or after the target of the head x.
-fn reaches(x: Variable, target: i64, given: Given) -> bool
-    ensures { λ r. ⌜ r ≡ reaches x target given ⌝ }
+// The aim of x lifted to what is given, but no further than the target; or the aim, where what is given does not come after it.
+fn lift_to(x: Variable, aim: i64, target: i64, given: Given) -> i64
+    ensures { λ r. ⌜ r ≡ liftTo x aim target given ⌝ }
 {
     let Given::Value(b) = given else {
-        return false;
+        return aim;
     };
-    !x.is_before(b, target)
+    if !x.is_before(b, target) {
+        return target;
+    }
+    later(x, aim, b)
 }
 
-// Whether the rule whose field stands at `at` lifts the aim of its head to the target.
-fn lifts(
+// The aim of the head of the rule whose field stands at `at`, after the rule has lifted it.
+fn next_aim(
     file: &[u8],
     at: usize,
     mask: u32,
@@ -38,12 +42,13 @@ fn lifts(
     stops: &[i64; Format::MAX_VARIABLES],
     cut: bool,
     target: &[i64; Format::MAX_VARIABLES],
+    strides: &[i64; Format::MAX_VARIABLES],
     aims: &[i64; Format::MAX_VARIABLES],
-) -> bool
+) -> i64
     requires { ⌜ SomeRule (now file) at ⌝ }
     requires { ⌜ Small (now model) × Small (now aims) × Small (now others) ⌝ }
     ensures { λ r. ⌜ ((P : Program) (i : ℕ) → RuleStands (now (file .entry)) P i at
-        → r ≡ lifts P mask cut (now (stops .entry)) (now (others .entry)) (now (model .entry)) (now (target .entry)) (now (aims .entry)) i) ⌝ }
+        → r ≡ nextAim P mask cut (now (strides .entry)) (now (stops .entry)) (now (others .entry)) (now (model .entry)) (now (target .entry)) (now (aims .entry)) i) ⌝ }
 {
     let head = demands::head_at(file, at);
     let x = variables::variable(file, head);
@@ -52,10 +57,19 @@ fn lifts(
     let stop = stops[v];
     let goal = target[v];
     if !is_open(x, cut, stop, aim, goal) {
-        return false;
+        return aim;
     }
-    let given = steady::estimate(value_at(file, at), x, mask, model, aims, others);
-    reaches(x, goal, demands::stop_at(cut, x, stop, mask, given))
+    let given = steady::estimate(
+        value_at(file, at),
+        x,
+        head,
+        mask,
+        model,
+        aims,
+        others,
+        strides,
+    );
+    lift_to(x, aim, goal, demands::stop_at(cut, x, stop, mask, given))
 }
 
 // Rule i, if it is one, lifts the aim of its head, or changes nothing; whether it did.
@@ -70,27 +84,40 @@ fn lift(
     stops: &[i64; Format::MAX_VARIABLES],
     cut: bool,
     target: &[i64; Format::MAX_VARIABLES],
+    strides: &[i64; Format::MAX_VARIABLES],
     aims: &mut [i64; Format::MAX_VARIABLES],
 ) -> bool
     requires { ⌜ AcceptedAs (now file) counts ⌝ }
-    requires { ⌜ SomeAims (now file) (now offsets) (now masks) (now others) (now stops) cut (now model) (now aims) ⌝ }
+    requires { ⌜ SomeAims (now file) (now offsets) (now masks) (now others) (now stops) cut (now strides) (now model) (now aims) ⌝ }
     requires { ⌜ length (now aims) ≡ maxVariables ⌝ }
     ensures { λ _. ⌜ length (now (aims .exit)) ≡ maxVariables ⌝ }
-    ensures { λ _. ⌜ AimsKept (now (file .entry)) (now (offsets .entry)) (now (masks .entry)) (now (others .entry)) (now (stops .entry)) cut (now (model .entry))
-        (now (aims .entry)) (now (aims .exit)) ⌝ }
+    ensures { λ _. ⌜ AimsKept (now (file .entry)) (now (offsets .entry)) (now (masks .entry)) (now (others .entry)) (now (stops .entry)) cut (now (strides .entry))
+        (now (model .entry)) (now (aims .entry)) (now (aims .exit)) ⌝ }
 {
     if i >= counts.rules {
         return false;
     }
     let at = place_of(offsets, i);
     let mask = masks[i];
-    if !lifts(file, at, mask, model, others, stops, cut, target, aims) {
-        return false;
-    }
+    let next = next_aim(
+        file,
+        at,
+        mask,
+        model,
+        others,
+        stops,
+        cut,
+        target,
+        strides,
+        aims,
+    );
     let head = demands::head_at(file, at);
     let v = format::wide(head);
-    let goal = target[v];
-    aims[v] = goal;
+    let aim = aims[v];
+    if next == aim {
+        return false;
+    }
+    aims[v] = next;
     true
 }
 
@@ -107,14 +134,15 @@ fn pass(
     stops: &[i64; Format::MAX_VARIABLES],
     cut: bool,
     target: &[i64; Format::MAX_VARIABLES],
+    strides: &[i64; Format::MAX_VARIABLES],
     aims: &mut [i64; Format::MAX_VARIABLES],
 ) -> bool
     requires { ⌜ AcceptedAs (now file) counts ⌝ }
-    requires { ⌜ SomeAims (now file) (now offsets) (now masks) (now others) (now stops) cut (now model) (now aims) ⌝ }
+    requires { ⌜ SomeAims (now file) (now offsets) (now masks) (now others) (now stops) cut (now strides) (now model) (now aims) ⌝ }
     requires { ⌜ (length (now aims) ≡ maxVariables) × (count ≤ maxVariables) ⌝ }
     ensures { λ _. ⌜ length (now (aims .exit)) ≡ maxVariables ⌝ }
-    ensures { λ _. ⌜ AimsKept (now (file .entry)) (now (offsets .entry)) (now (masks .entry)) (now (others .entry)) (now (stops .entry)) cut (now (model .entry))
-        (now (aims .entry)) (now (aims .exit)) ⌝ }
+    ensures { λ _. ⌜ AimsKept (now (file .entry)) (now (offsets .entry)) (now (masks .entry)) (now (others .entry)) (now (stops .entry)) cut (now (strides .entry))
+        (now (model .entry)) (now (aims .entry)) (now (aims .exit)) ⌝ }
 {
     let mut some = false;
     for k in 0..count {
@@ -130,11 +158,27 @@ fn pass(
             stops,
             cut,
             target,
+            strides,
             aims,
         );
         some = some | lifted;
     }
     some
+}
+
+// The passes over a line in which aims are lifted: as many as it has rules, or these if that is more, since a lift may be a part of the way.
+pub struct Lifts {}
+
+impl Lifts {
+    pub const LEAST: usize = 40;
+}
+
+fn passes(count: usize) -> usize {
+    if count < Lifts::LEAST {
+        Lifts::LEAST
+    } else {
+        count
+    }
 }
 
 // Passes over the line until one lifts no aim.
@@ -150,16 +194,17 @@ pub fn lift_all(
     stops: &[i64; Format::MAX_VARIABLES],
     cut: bool,
     target: &[i64; Format::MAX_VARIABLES],
+    strides: &[i64; Format::MAX_VARIABLES],
     aims: &mut [i64; Format::MAX_VARIABLES],
 )
     requires { ⌜ AcceptedAs (now file) counts ⌝ }
-    requires { ⌜ SomeAims (now file) (now offsets) (now masks) (now others) (now stops) cut (now model) (now aims) ⌝ }
+    requires { ⌜ SomeAims (now file) (now offsets) (now masks) (now others) (now stops) cut (now strides) (now model) (now aims) ⌝ }
     requires { ⌜ (length (now aims) ≡ maxVariables) × (count ≤ maxVariables) ⌝ }
     ensures { λ _. ⌜ length (now (aims .exit)) ≡ maxVariables ⌝ }
-    ensures { λ _. ⌜ AimsKept (now (file .entry)) (now (offsets .entry)) (now (masks .entry)) (now (others .entry)) (now (stops .entry)) cut (now (model .entry))
-        (now (aims .entry)) (now (aims .exit)) ⌝ }
+    ensures { λ _. ⌜ AimsKept (now (file .entry)) (now (offsets .entry)) (now (masks .entry)) (now (others .entry)) (now (stops .entry)) cut (now (strides .entry))
+        (now (model .entry)) (now (aims .entry)) (now (aims .exit)) ⌝ }
 {
-    let mut left = count;
+    let mut left = passes(count);
     while left > 0 {
         if !pass(
             file,
@@ -173,6 +218,7 @@ pub fn lift_all(
             stops,
             cut,
             target,
+            strides,
             aims,
         ) {
             return;

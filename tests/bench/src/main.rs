@@ -1,4 +1,4 @@
-//! How long the proved calls take, beside (1) Rust written for speed alone, (2) a port of the proved code, statement by statement, and (3) naive
+//! How long the proved calls take, beside (1) Rust written for speed alone, (2) a port of the proved code as it was before leaps, and (3) naive
 //! iteration, the second checker. Rows of one kind double in size, so that the table shows how the time grows. Before anything is timed, the first
 //! two are held to the proved calls: every answer, and every byte of the lent buffer and around it, on the rows, on seeded inputs, on the same
 //! inputs with variables founded from above, on seeded files to be written anew, on seeded nested files, on seeded files with lent ranges and, of the
@@ -393,7 +393,7 @@ fn main() {
     }
     println!("Times and ratios (the proved call's time by the other's) are medians of {ROUNDS} rounds of one run, {SLOW} for calls over 20 ms; in a");
     println!("round every program has its turn, about 1 ms.");
-    println!("fast: Rust for speed alone, by its own algorithms; port: the proved code in Rust, statement by statement; naive: the second checker.");
+    println!("fast: Rust for speed alone, by its own algorithms; port: the proved code in Rust as it was before leaps; naive: the second checker.");
     println!("search: begin and every step; step: one step and then the next, on sets that no step changes.\n");
     header();
     for p in &plans {

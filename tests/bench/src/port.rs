@@ -1,4 +1,4 @@
-//! The calls as the proved code has them, statement by statement, with no proofs. It reads rules and terms from the file's bytes, keeps a set
+//! The calls as the proved code had them before leaps, with no proofs. It reads rules and terms from the file's bytes, keeps a set
 //! of rules still to look at and, for each variable, the set of rules that read it at a kept position.
 
 mod bounds;

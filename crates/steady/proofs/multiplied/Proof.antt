@@ -15,7 +15,7 @@ use Rattle.bodies.specs.Readings.{readingOf}
 use Rattle.bodies.proofs.Loops.{reading-small, product-small}
 use Rattle.steady.specs.Estimate.{further, factorRise}
 use Rattle.steady.proofs.Machine.{apart-small, factor-small}
-use Rattle.steady.proofs.SteadyLaws.{estimated-product}
+use Rattle.steady.proofs.SteadyLaws.{moved-product}
 use borrow.Author.Needs.{needs}
 use Rattle.steady.proofs.multiplied.Statement.{statement}
 use Rattle.steady.proofs.multiplied.Tie as tie
@@ -81,7 +81,7 @@ returns c =
     let z : toZ w64 (ofZ w64 (c .further .result)) ≡ c .further .result = search needs in
     z ∙ c .further .ensures
     ∙ ap₂ (further (s .args .x)) (p ∙ c .before .before .plus .ensures ∙ ap₂ _+ℤ_ (same-c s) (v ∙ c .before .before .before .product .ensures)) (r ∙ c .before .factor-rise .ensures)
-    ∙ sym (estimated-product (s .args .x) (s .args .c) (pos 1) (termsOf (s .args .body .now)) (at s) (aim s) refl)
+    ∙ sym (moved-product (s .args .x) (s .args .c) (pos 1) (termsOf (s .args .body .now)) (at s) (aim s) refl)
 
 pub multiplied-spec : {M : Type 1} → statement M
 multiplied-spec =

@@ -1,15 +1,15 @@
 -- One rule more is entered at each turn, for every program that the file means; there is one, since it is accepted.
 use native.Mathlib.Omega.{arith}
 use borrow.Author.Needs.{needs}
-use mathlib.Core.Path.{_≡_}
-use Prim.Native.Nat.{ℕ, _≤_, _-_}
+use mathlib.Core.Path.{_≡_, refl}
+use Prim.Native.Nat.{ℕ, _<_, _≤_, _-_}
 use lib.ListN.{length}
-use Rattle.format.specs.Limits.{maxRules}
 use Rattle.program.specs.Program.{Program}
 use Rattle.program.specs.Reading.{Accepts}
 use Rattle.reader.specs.Parts.{rulePlace}
 use Rattle.reader.proofs.Published.{reads-accepts, counts-of, limited, first-rule}
 use Rattle.tables.specs.Laid.{FirstPlaced}
+use Rattle.tables.proofs.LaidLaws.{length-stays}
 use Rattle.tables.proofs.TableLaws.{here, short-place, placed-more, placed-all, next-place, place-after}
 use Rattle.tables.proofs.fill_tables.Statement.{statement}
 use Rattle.tables.proofs.fill_tables.Tie as tie
@@ -19,30 +19,31 @@ last h k = omega arith
 
 abbrev Inv-loop : tie.InvT-loop
 Inv-loop file offsets₀ masks₀ n rules at₀ i₀ offsets masks at i =
-    (i ≤ rules) × ((length offsets ≡ maxRules) × (length masks ≡ maxRules))
+    (i ≤ rules) × ((length offsets ≡ length offsets₀) × (length masks ≡ length masks₀))
     × ((P : Program) → Accepts file P → (at ≡ rulePlace file P i) × FirstPlaced file P i offsets masks)
 
 abbrev μ-loop : tie.MeasureT-loop
 μ-loop file offsets₀ masks₀ n rules at₀ i₀ offsets masks at i = rules - i
 
 mul-at : tie.Need-mul-at Inv-loop μ-loop
-mul-at c = let v = limited (c .before .pre .0) in omega arith
+mul-at c = let v = limited (c .before .before .before .pre .0) in omega arith
 
 loop-holds : tie.Need-loop-holds Inv-loop μ-loop
-loop-holds c = let r = c .before .pre .0 in (
+loop-holds c = let r = c .before .before .before .pre .0 in (
   omega arith,
-  c .before .pre .1,
+  (refl, refl),
   λ P x. (omega (arith, first-rule x, counts-of r x .variables-are), λ j l. absurd (omega arith)),
 )
 
 enter-requires : tie.Need-enter-requires Inv-loop μ-loop
-enter-requires c κs = let r = c .before .before .before .before .before .pre .0 in
+enter-requires c κs = let b = c .before .before .before .before .before .before .before in
+    let r = b .pre .0 in
     let l = c .before .before .before .loop in
     let t = c .before .before .loop-test .taken in
     let f = limited r in
     let a = reads-accepts r in
     let h = here r (a .accepts) _ _ t (l .inv .2 (a .meant) (a .accepts) .0) in
-    (h, (short-place r h, omega arith, l .inv .1 .0, l .inv .1 .1))
+    (h, (short-place r h, omega (arith, b .pre .1 .0, l .inv .1 .0), omega (arith, b .pre .1 .1, l .inv .1 .1)))
 
 add-i : tie.Need-add-i Inv-loop μ-loop
 add-i c = search needs
@@ -51,23 +52,53 @@ loop-less : tie.Need-loop-less Inv-loop μ-loop
 loop-less c = search needs
 
 loop-again : tie.Need-loop-again Inv-loop μ-loop
-loop-again c = let r = c .before .before .before .before .before .before .pre .0 in
-    let l = c .before .before .before .before .loop in
-    let t = c .before .before .before .loop-test .taken in
-    let n = c .enter .ensures .1 in (
+loop-again c =
+    let x = c .before .before .before .before in
+    let b = x .before .before .before .before .before .before .before .before in
+    let r = b .pre .0 in
+    let l = x .before .before .before .before .loop in
+    let t = x .before .before .before .loop-test .taken in
+    let n = x .enter .ensures in (
       omega arith,
-      c .enter .ensures .0,
-      λ P x. let e = l .inv .2 P x in
-          (next-place r x _ _ _ _ _ _ _ t (e .0) (l .inv .1 .0) (l .inv .1 .1) n (e .1), placed-more r x _ _ _ _ _ _ _ t (e .0) (l .inv .1 .0) (l .inv .1 .1) n (e .1)),
+      (length-stays (l .offsets) (l .i) _ (n .placed) (l .inv .1 .0), length-stays (l .masks) (l .i) _ (n .masked) (l .inv .1 .1)),
+      λ P a. let e = l .inv .2 P a in
+          let o : l .i < length (l .offsets) = omega (arith, b .pre .1 .0, l .inv .1 .0) in
+          let m : l .i < length (l .masks) = omega (arith, b .pre .1 .1, l .inv .1 .1) in
+          (next-place r a _ _ _ _ _ _ _ t (e .0) o m n (e .1), placed-more r a _ _ _ _ _ _ _ t (e .0) o m n (e .1)),
     )
+
+same-length : tie.Need-same-length Inv-loop μ-loop
+same-length c = search needs
+
+same-length-2 : tie.Need-same-length-2 Inv-loop μ-loop
+same-length-2 c = search needs
 
 returns : tie.Need-returns Inv-loop μ-loop
 returns c = let l = c .before .loop in
-    let r = c .before .before .before .pre .0 in
-    let e = last (l .inv .0) (c .loop-test .left) in
-    (l .inv .1, (record { accepted = r; placed = λ P x. placed-all r x e (l .inv .2 P x .1) }, λ P x. place-after r x e (l .inv .2 P x .0)))
+    let b = c .before .before .before .before .before in
+    let r = b .pre .0 in
+    let e = last (l .inv .0) (c .loop-test .left) in (
+      record {
+        accepted = r;
+        offsets-reach = omega (arith, b .pre .1 .0, l .inv .1 .0);
+        masks-reach = omega (arith, b .pre .1 .1, l .inv .1 .1);
+        placed = λ P x. placed-all r x e (l .inv .2 P x .1);
+      },
+      λ P x. place-after r x e (l .inv .2 P x .0),
+    )
 
 pub fill-tables-spec : {M : Type 1} → statement M
 fill-tables-spec =
     tie.close
-    (tie.spec Inv-loop μ-loop mul-at loop-holds enter-requires add-i loop-less loop-again returns)
+    (tie.spec
+    Inv-loop
+    μ-loop
+    mul-at
+    loop-holds
+    enter-requires
+    add-i
+    loop-less
+    loop-again
+    same-length
+    same-length-2
+    returns)

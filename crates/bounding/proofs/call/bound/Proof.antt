@@ -1,89 +1,56 @@
--- The run with lent ranges ends in the bounds, which are written.
-use mathlib.Core.Path.{refl}
-use lib.IntN.{pos}
-use lib.ListN.{replicate}
-use Rattle.format.specs.Limits.{maxVariables}
-use Rattle.program.specs.Readings.{valued}
-use Rattle.reader.proofs.Published.{limited}
-use Rattle.reduct.proofs.Fills.{zeros}
-use Rattle.tables.proofs.LaidLaws.{offsets-of}
-use Rattle.bounding.proofs.CallLaws.{zero-past, bound-basis, some-basis, ends-bounds, bounds-small, bounds-written}
+-- Small tables reach to the last of few rules, large ones to the last of the most.
 use borrow.Author.Needs.{needs}
+use Rattle.reader.proofs.Published.{limited}
 use Rattle.bounding.proofs.call.bound.Statement.{statement}
 use Rattle.bounding.proofs.call.bound.Tie as tie
 
-fill-tables-requires : tie.Need-fill-tables-requires
-fill-tables-requires c κs = let b = c .before .before .before .before in (b .pre .0, (refl, refl))
+slice-aggregate-bound-in : tie.Need-slice-aggregate-bound-in
+slice-aggregate-bound-in c = search needs
 
-set-masks-requires : tie.Need-set-masks-requires
-set-masks-requires c κs =
-    let b = c .before .before .before .before .before .before .before in
-    let t = c .before .before .fill-tables .ensures in
-    (b .pre .0, (offsets-of (t .1 .0), t .0 .1))
+slice-aggregate-bound-in-2 : tie.Need-slice-aggregate-bound-in-2
+slice-aggregate-bound-in-2 c = search needs
 
-set-ends-requires : tie.Need-set-ends-requires
-set-ends-requires c κs = let l = limited (c .before .before .before .before .before .before .before .before .before .before .pre .0) in ((l .inside, l .few-variables), (refl, refl))
-
-reckon-requires : tie.Need-reckon-requires
-reckon-requires c κs =
-    let b = c .before .before .before .before .before .before .before .before .before .before .before .before .before .before .before .before in
-    let a = b .args in
-    let low = valued (a .lows .now) in
-    let high = valued (a .highs .now) in
-    let t = c .before .before .before .before .before .before .before .before .before .before .before .fill-tables in
-    let m = c .before .before .before .before .before .before .before .before .set-masks in
-    let e = c .before .before .before .before .before .set-ends in (
-      b .pre .0,
-      (
-        some-basis (a .file .now) (a .counts) (b .pre .0) low high (b .pre .1 .0) (t .ensures .1 .0) (m .last .1 .1 .1 .1 .1 .0) (m .ensures .1) (replicate maxVariables (pos 0)) (e .last .1 .1 .1 .1 .0) (e .last .1 .1 .1 .1 .1 .0)
-            (zeros maxVariables) (e .ensures .1 .0) (e .ensures .1 .1),
-        (zero-past (a .file .now) (a .counts) (b .pre .0) low high (b .pre .1 .0) _ (zeros maxVariables), refl),
-      ),
-    )
-
-write-values-requires : tie.Need-write-values-requires
-write-values-requires c κs =
-    let b = c .before .before .before .before .before .before .before .before .before .before .before .before .before .before .before .before .before .before .before in
-    let a = b .args in
-    let low = valued (a .lows .now) in
-    let high = valued (a .highs .now) in
-    let t = c .before .before .before .before .before .before .before .before .before .before .before .before .before .before .fill-tables in
-    let m = c .before .before .before .before .before .before .before .before .before .before .before .set-masks in
-    let e = c .before .before .before .before .before .before .before .before .set-ends in
-    let r = c .before .before .reckon in
-    let n = r .last .1 .1 .1 .1 .1 .1 .1 .1 .0 in
-    let w = ends-bounds (a .file .now) (a .counts) (b .pre .0) low high (b .pre .1 .0) (valued n) (r .result)
-    (λ P x. r .ensures .1 P _ (bound-basis (a .file .now) (a .counts) (b .pre .0) low high (b .pre .1 .0) (t .ensures .1 .0) (m .last .1 .1 .1 .1 .1 .0) (m .ensures .1) (replicate maxVariables (pos 0)) (e .last .1 .1 .1 .1 .0) (e .last .1 .1 .1 .1 .1 .0)
-    (zeros maxVariables) (e .ensures .1 .0) (e .ensures .1 .1) P x)) in
-    ((limited (b .pre .0) .few-variables, b .pre .1 .1), bounds-small (a .file .now) (a .counts) (b .pre .0) low high (b .pre .1 .0) (valued n) w)
+bound-in-requires : tie.Need-bound-in-requires
+bound-in-requires c κs =
+    let p = c .before .before .before .before .before .before .before .pre in
+    let t = c .before .before .before .if1 .taken in
+    (p .0, ((t, t), (p .1 .0, p .1 .1)))
 
 same-length : tie.Need-same-length
 same-length c = search needs
 
 returns : tie.Need-returns
-returns c =
-    let b = c .before .before .before .before .before .before .before .before .before .before .before .before .before .before .before .before .before .before .before .before .before .before in
-    let a = b .args in
-    let low = valued (a .lows .now) in
-    let high = valued (a .highs .now) in
-    let t = c .before .before .before .before .before .before .before .before .before .before .before .before .before .before .before .before .before .fill-tables in
-    let m = c .before .before .before .before .before .before .before .before .before .before .before .before .before .before .set-masks in
-    let e = c .before .before .before .before .before .before .before .before .before .before .before .set-ends in
-    let r = c .before .before .before .before .before .reckon in
-    let n = r .last .1 .1 .1 .1 .1 .1 .1 .1 .0 in
-    let w = ends-bounds (a .file .now) (a .counts) (b .pre .0) low high (b .pre .1 .0) (valued n) (r .result)
-    (λ P x. r .ensures .1 P _ (bound-basis (a .file .now) (a .counts) (b .pre .0) low high (b .pre .1 .0) (t .ensures .1 .0) (m .last .1 .1 .1 .1 .1 .0) (m .ensures .1) (replicate maxVariables (pos 0)) (e .last .1 .1 .1 .1 .0) (e .last .1 .1 .1 .1 .1 .0)
-    (zeros maxVariables) (e .ensures .1 .0) (e .ensures .1 .1) P x)) in
-    bounds-written (a .file .now) (a .counts) (b .pre .0) low high (valued n) w _ _ (c .before .before .write-values .ensures)
+returns c = search needs
+
+slice-aggregate-bound-in-3 : tie.Need-slice-aggregate-bound-in-3
+slice-aggregate-bound-in-3 c = search needs
+
+slice-aggregate-bound-in-4 : tie.Need-slice-aggregate-bound-in-4
+slice-aggregate-bound-in-4 c = search needs
+
+bound-in-requires-2 : tie.Need-bound-in-requires-2
+bound-in-requires-2 c κs =
+    let p = c .before .before .before .before .before .before .before .pre in
+    let t = limited (p .0) .few-rules in
+    (p .0, ((t, t), (p .1 .0, p .1 .1)))
+
+same-length-2 : tie.Need-same-length-2
+same-length-2 c = search needs
+
+returns-2 : tie.Need-returns-2
+returns-2 c = search needs
 
 pub bound-spec : {M : Type 1} → statement M
 bound-spec =
     tie.close
     (tie.spec
-    fill-tables-requires
-    set-masks-requires
-    set-ends-requires
-    reckon-requires
-    write-values-requires
+    slice-aggregate-bound-in
+    slice-aggregate-bound-in-2
+    bound-in-requires
     same-length
-    returns)
+    returns
+    slice-aggregate-bound-in-3
+    slice-aggregate-bound-in-4
+    bound-in-requires-2
+    same-length-2
+    returns-2)

@@ -11,7 +11,7 @@ use Rattle.checker.proofs.call.check_constraints.Tie as tie
 first-unmet-constraint-requires : tie.Need-first-unmet-constraint-requires
 first-unmet-constraint-requires c κs =
     let b = c .before .before in
-    (b .pre .0 .accepted, (b .pre .1 .0, small-in (b .args .file .now) (b .args .counts) (b .pre .0 .accepted) (b .args .values .now) (b .pre .1 .1 .0)))
+    (b .pre .0, (b .pre .1 .0, small-in (b .args .file .now) (b .args .counts) (b .pre .0) (b .args .values .now) (b .pre .1 .1 .0)))
 
 enum-known-unmet : tie.Need-enum-known-unmet
 enum-known-unmet c = search needs

@@ -1,46 +1,50 @@
--- Invariant: every rule before i is met; a rule that demands more than its head has is not.
+-- One rule more is met at each turn, for every program that the file means; there is one, since it is accepted.
 use Prim.Native.Nat.{ℕ, _-_, _<_, _≤_}
+use mathlib.Core.Path.{_≡_}
 use native.Mathlib.Omega.{arith}
-use Rattle.program.specs.Program.{Program}
-use Rattle.tables.specs.Laid.{Placed}
-use Rattle.meaning.specs.Stable.{RuleMet}
-use Rattle.run.proofs.RunLaws.{at-stands, some-stands, looked-reduct}
-use Rattle.run.proofs.StepLaws.{demands-more, demands-enough}
-use Rattle.checker.proofs.MetLaws.{laid-rules, laid-stands, rule-unmet-at, rule-met-at, rules-met}
+use borrow.Author.Tests.{not-true, not-false}
 use borrow.Author.Needs.{needs}
-use Rattle.checker.proofs.rules.first_unmet_rule.Statement.{statement}
+use Rattle.program.specs.Program.{Program}
+use Rattle.program.specs.Reading.{Accepts}
 use Rattle.program.specs.Readings.{valued}
+use Rattle.reader.specs.Parts.{rulePlace}
+use Rattle.reader.proofs.Published.{counts-of, limited, first-rule}
+use Rattle.meaning.specs.Stable.{RuleMet}
+use Rattle.ascent.proofs.AscentLaws.{some-stands, place-inside, place-next}
+use Rattle.checker.proofs.MetLaws.{rule-unmet-at, rule-met-at, rules-met}
+use Rattle.checker.proofs.rules.first_unmet_rule.Statement.{statement}
 use Rattle.checker.proofs.rules.first_unmet_rule.Tie as tie
 
+last : {i n : ℕ} → i ≤ n → n ≤ i → i ≡ n
+last h k = omega arith
+
 abbrev Inv-loop : tie.InvT-loop
-Inv-loop file offsets masks assigned rules i₀ i = (i ≤ rules) × ((P : Program) → Placed file P offsets masks → (j : ℕ) → j < i → RuleMet P (valued assigned) j)
+Inv-loop file assigned rules at₀ i₀ at i =
+    (i ≤ rules) × ((P : Program) → Accepts file P → at ≡ rulePlace file P i) × ((P : Program) → Accepts file P → (j : ℕ) → j < i → RuleMet P (valued assigned) j)
 
 abbrev μ-loop : tie.MeasureT-loop
-μ-loop file offsets masks assigned rules i₀ i = rules - i
+μ-loop file assigned rules at₀ i₀ at i = rules - i
+
+mul-at : tie.Need-mul-at Inv-loop μ-loop
+mul-at c = let v = limited (c .before .before .pre .0) in omega arith
 
 loop-holds : tie.Need-loop-holds Inv-loop μ-loop
-loop-holds c = (omega arith, λ P p j h. let f : ⊥ = omega arith in absurd f)
+loop-holds c =
+    let r = c .before .before .pre .0 in
+    (omega arith, λ P x. omega (arith, first-rule x, counts-of r x .variables-are), λ P x j l. absurd (omega arith))
 
-look-requires : tie.Need-look-requires Inv-loop μ-loop
-look-requires c κs =
-    let b = c .before .before .before in
-    let t = laid-stands (b .pre .0) (c .before .loop .i) (c .loop-test .taken) in
-    (t .0, (some-stands (t .1), (b .pre .1, b .pre .1)))
-
-enum-known-found : tie.Need-enum-known-found Inv-loop μ-loop
-enum-known-found c = search needs
+is-met-requires : tie.Need-is-met-requires Inv-loop μ-loop
+is-met-requires c κs = let p = c .before .before .before .before .pre in (some-stands (p .0) (c .loop-test .taken) (c .before .loop .inv .1), p .1)
 
 returns : tie.Need-returns Inv-loop μ-loop
 returns c =
-    let b = c .before .before .before .before .before .before .before in
-    let l = c .before .before .before .before .before .loop in
-    λ P p. let h = c .before .before .before .before .loop-test .taken in
-    rule-unmet-at (b .pre .0) (valued (b .args .assigned .now)) (l .i) h P p (l .inv .1 P p)
-    (let h = p .stands (l .i) (let e = laid-rules (b .pre .0) p in omega arith) in
-    demands-more P _ _ _ _ (looked-reduct h (b .args .assigned .now) (b .args .assigned .now) (b .args .assigned .now) (c .before .before .before .look .ensures P (at-stands h))) (c .before .found .given .1))
+    let b = c .before .before .before .before .before .before in
+    let v = c .before .before .before .loop .inv in
+    λ P x.
+    rule-unmet-at (b .pre .0) x (valued (b .args .assigned .now)) (c .before .before .loop-test .taken) (v .1 P x) (c .before .is-met .result) (c .before .is-met .ensures) (v .2 P x) (not-true _ (c .if1 .taken))
 
-enum-told : tie.Need-enum-told Inv-loop μ-loop
-enum-told c = search needs
+next-at-requires : tie.Need-next-at-requires Inv-loop μ-loop
+next-at-requires c κs = place-inside (c .before .before .before .before .before .before .pre .0) (c .before .before .loop-test .taken) (c .before .before .before .loop .inv .1)
 
 add-i : tie.Need-add-i Inv-loop μ-loop
 add-i c = search needs
@@ -50,20 +54,19 @@ loop-less c = search needs
 
 loop-again : tie.Need-loop-again Inv-loop μ-loop
 loop-again c =
-    let b = c .before .before .before .before .before .before in
-    let l = c .before .before .before .before .loop in
-    let h = c .before .before .before .loop-test .taken in (
+    let b = c .before .before .before .before .before .before .before in
+    let v = c .before .before .before .before .loop .inv in
+    let t = c .before .before .before .loop-test .taken in (
       omega arith,
-      λ P p. rule-met-at (b .pre .0) (valued (b .args .assigned .now)) (l .i) P (l .inv .1 P p)
-          (let h = p .stands (l .i) (let e = laid-rules (b .pre .0) p in omega arith) in
-          demands-enough P _ _ _ _ (looked-reduct h (b .args .assigned .now) (b .args .assigned .now) (b .args .assigned .now) (c .before .before .look .ensures P (at-stands h))) (c .enum-told .given .1)),
+      place-next (b .pre .0) t (v .1) (c .next-at .ensures),
+      λ P x. rule-met-at (b .pre .0) x (valued (b .args .assigned .now)) t (v .1 P x) (c .before .before .is-met .result) (c .before .before .is-met .ensures) (v .2 P x) (not-false _ (c .before .if1 .left)),
     )
 
 returns-2 : tie.Need-returns-2 Inv-loop μ-loop
 returns-2 c =
-    let b = c .before .before .before in
-    let l = c .before .loop in
-    λ P p. rules-met (b .pre .0) (valued (b .args .assigned .now)) (l .i) (c .loop-test .left) P p (l .inv .1 P p)
+    let b = c .before .before .before .before in
+    let v = c .before .loop .inv in
+    λ P x. rules-met (b .pre .0) x (valued (b .args .assigned .now)) (last (v .0) (c .loop-test .left)) (v .1 P x) (v .2 P x)
 
 pub first-unmet-rule-spec : {M : Type 1} → statement M
 first-unmet-rule-spec =
@@ -71,11 +74,11 @@ first-unmet-rule-spec =
     (tie.spec
     Inv-loop
     μ-loop
+    mul-at
     loop-holds
-    look-requires
-    enum-known-found
+    is-met-requires
     returns
-    enum-told
+    next-at-requires
     add-i
     loop-less
     loop-again

@@ -4,6 +4,7 @@ use native.Mathlib.Omega.{arith}
 use lib.ListN.{length}
 use Rattle.format.specs.Limits.{maxVariables, maxRules}
 use Rattle.words.specs.Bit.{wordCount}
+use Rattle.tables.specs.Tabled.{rowWords}
 use Rattle.program.specs.Evaluable.{Small}
 use Rattle.validity.proofs.ComponentLaws.{values-none}
 use borrow.Author.Needs.{needs}
@@ -11,13 +12,13 @@ use Rattle.guess.proofs.live.keep_live.Statement.{statement}
 use Rattle.guess.proofs.live.keep_live.Tie as tie
 use Rattle.guess.proofs.live.keep_live.Reads as reads
 use Rattle.guess.proofs.live.keep_live.Lts as lts
-use Rattle.guess.proofs.live.live_mask.Reads as live-mask-reads
-use Rattle.guess.proofs.live.set_mask.Reads as set-mask-reads
+use Rattle.guess.proofs.live.is_live.Reads as is-live-reads
+use Rattle.guess.proofs.live.enter.Reads as enter-reads
 use Rattle.guess.proofs.live.top_all.Reads as top-all-reads
 use Rattle.tables.proofs.place_of.Reads as place-of-reads
 
 abbrev Inv-loop : tie.InvT-loop
-Inv-loop file variables rules offsets masks holding model others live₀ tops i₀ live i = (length live ≡ maxRules) × Small tops × (i ≤ rules)
+Inv-loop file variables rules offsets masks holding model others live₀ tops i₀ live i = (length live ≡ rowWords) × Small tops × (i ≤ rules)
 
 abbrev μ-loop : tie.MeasureT-loop
 μ-loop file variables rules offsets masks holding model others live₀ tops i₀ live i = rules - i
@@ -31,20 +32,20 @@ loop-holds c = (c .before .before .before .pre .1 .1, c .top-all .ensures .1, om
 place-of-requires : tie.Need-place-of-requires Inv-loop μ-loop
 place-of-requires c κs = search needs
 
-mul-live-mask : tie.Need-mul-live-mask Inv-loop μ-loop
-mul-live-mask c = search needs
+mul-is-live : tie.Need-mul-is-live Inv-loop μ-loop
+mul-is-live c = search needs
 
-element-copy-out-live-mask : tie.Need-element-copy-out-live-mask Inv-loop μ-loop
-element-copy-out-live-mask c = search needs
+element-copy-out-is-live : tie.Need-element-copy-out-is-live Inv-loop μ-loop
+element-copy-out-is-live c = search needs
 
-live-mask-requires : tie.Need-live-mask-requires Inv-loop μ-loop
-live-mask-requires c κs =
+is-live-requires : tie.Need-is-live-requires Inv-loop μ-loop
+is-live-requires c κs =
     let p = c .before .before .before .before .before .before .before .before .pre in
     let l = c .before .before .before .before .loop in
     (rw (c .before .before .place-of .ensures) (p .0 .2 (l .i) (omega arith)), (l .inv .1, p .1 .0))
 
-set-mask-requires : tie.Need-set-mask-requires Inv-loop μ-loop
-set-mask-requires c κs = search needs
+enter-requires : tie.Need-enter-requires Inv-loop μ-loop
+enter-requires c κs = search needs
 
 add-i : tie.Need-add-i Inv-loop μ-loop
 add-i c = search needs
@@ -67,10 +68,10 @@ keep-live-spec =
     top-all-requires
     loop-holds
     place-of-requires
-    mul-live-mask
-    element-copy-out-live-mask
-    live-mask-requires
-    set-mask-requires
+    mul-is-live
+    element-copy-out-is-live
+    is-live-requires
+    enter-requires
     add-i
     loop-less
     loop-again

@@ -14,10 +14,10 @@ use Rattle.guess.proofs.targets.draw_one.Reads as draw-one-reads
 use Rattle.sequence.proofs.walk.get.Reads as get-reads
 
 abbrev Inv-loop : tie.InvT-loop
-Inv-loop file variables heads count steps model target₀ k₀ target k = (length target ≡ maxVariables) × Small target × (k ≤ count)
+Inv-loop file variables heads count steps strides model target₀ k₀ target k = (length target ≡ maxVariables) × Small target × (k ≤ count)
 
 abbrev μ-loop : tie.MeasureT-loop
-μ-loop file variables heads count steps model target₀ k₀ target k = count - k
+μ-loop file variables heads count steps strides model target₀ k₀ target k = count - k
 
 loop-holds : tie.Need-loop-holds Inv-loop μ-loop
 loop-holds c = search needs

@@ -24,6 +24,15 @@ mul-value c = search needs
 element-copy-out-value : tie.Need-element-copy-out-value
 element-copy-out-value c = search needs
 
+mul-stride : tie.Need-mul-stride
+mul-stride c = search needs
+
+element-copy-out-stride : tie.Need-element-copy-out-stride
+element-copy-out-stride c = search needs
+
+times-requires : tie.Need-times-requires
+times-requires c κs = search needs
+
 rise-of-requires : tie.Need-rise-of-requires
 rise-of-requires c κs = search needs
 
@@ -35,8 +44,8 @@ near-requires c κs = search needs
 
 further-requires : tie.Need-further-requires
 further-requires c κs =
-    let s = c .before .before .before .before .before .before .before .before .before .before in
-    let v = c .before .before .before .before .before .before .before .before .wide .result in
+    let s = c .before .before .before .before .before .before .before .before .before .before .before .before in
+    let v = c .before .before .before .before .before .before .before .before .before .before .wide .result in
     let f : toZ w64 (ofZ w64 (valued (s .args .model .now) v)) ≡ valued (s .args .model .now) v = search needs in
     let g : toZ w64 (ofZ w64 (c .near .result)) ≡ c .near .result = search needs in
     omega (arith, ap natAbs f, ap natAbs g, c .near .ensures, s .pre .0 .1 v)
@@ -60,6 +69,9 @@ draw-one-spec =
     wide-requires
     mul-value
     element-copy-out-value
+    mul-stride
+    element-copy-out-stride
+    times-requires
     rise-of-requires
     variable-requires
     near-requires

@@ -13,10 +13,10 @@ use Rattle.guess.proofs.targets.lower.Lts as lts
 use Rattle.guess.proofs.targets.lower_once.Reads as lower-once-reads
 
 abbrev Inv-loop : tie.InvT-loop
-Inv-loop file rules offsets masks line count model others stops cut target₀ pass₀ target pass = (length target ≡ maxVariables) × Small target × (pass ≤ 4)
+Inv-loop file rules offsets masks line count model others stops cut strides target₀ pass₀ target pass = (length target ≡ maxVariables) × Small target × (pass ≤ 4)
 
 abbrev μ-loop : tie.MeasureT-loop
-μ-loop file rules offsets masks line count model others stops cut target₀ pass₀ target pass = 4 - pass
+μ-loop file rules offsets masks line count model others stops cut strides target₀ pass₀ target pass = 4 - pass
 
 loop-holds : tie.Need-loop-holds Inv-loop μ-loop
 loop-holds c = search needs

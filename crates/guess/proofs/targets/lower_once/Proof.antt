@@ -13,11 +13,11 @@ use Rattle.guess.proofs.targets.lower_once.Lts as lts
 use Rattle.guess.proofs.targets.lower_rule.Reads as lower-rule-reads
 
 abbrev Inv-loop : tie.InvT-loop
-Inv-loop file rules offsets masks line count model others stops cut target₀ some₀ k₀ target some k =
+Inv-loop file rules offsets masks line count model others stops cut strides target₀ some₀ k₀ target some k =
     (length target ≡ maxVariables) × Small target × (k ≤ count)
 
 abbrev μ-loop : tie.MeasureT-loop
-μ-loop file rules offsets masks line count model others stops cut target₀ some₀ k₀ target some k = count - k
+μ-loop file rules offsets masks line count model others stops cut strides target₀ some₀ k₀ target some k = count - k
 
 loop-holds : tie.Need-loop-holds Inv-loop μ-loop
 loop-holds c = search needs

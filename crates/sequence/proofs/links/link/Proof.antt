@@ -14,35 +14,33 @@ use Rattle.sequence.proofs.links.link.Reads as reads
 use Rattle.sequence.proofs.links.link.Lts as lts
 use Rattle.parts.proofs.places.value_at.Reads as value-at-reads
 use Rattle.sequence.proofs.links.link_rule.Reads as link-rule-reads
+use Rattle.sequence.proofs.links.mask_of.Reads as mask-of-reads
 use Rattle.tables.proofs.place_of.Reads as place-of-reads
 
 abbrev Inv-loop : tie.InvT-loop
-Inv-loop file rules offsets masks turned rows₀ i₀ rows i = (length rows ≡ rowsLength) × (i ≤ rules)
+Inv-loop file rules offsets masks live turned rows₀ i₀ rows i = (length rows ≡ rowsLength) × (i ≤ rules)
 
 abbrev μ-loop : tie.MeasureT-loop
-μ-loop file rules offsets masks turned rows₀ i₀ rows i = rules - i
+μ-loop file rules offsets masks live turned rows₀ i₀ rows i = rules - i
 
 loop-holds : tie.Need-loop-holds Inv-loop μ-loop
 loop-holds c = search needs
+
+mask-of-requires : tie.Need-mask-of-requires Inv-loop μ-loop
+mask-of-requires c κs = search needs
 
 place-of-requires : tie.Need-place-of-requires Inv-loop μ-loop
 place-of-requires c κs = search needs
 
 value-at-requires : tie.Need-value-at-requires Inv-loop μ-loop
-value-at-requires c κs = rw (c .place-of .ensures) (lies (c .before .before .before .before .pre .0 .1 (c .before .before .loop .i) (omega arith) .here) .inside)
-
-mul-link-rule : tie.Need-mul-link-rule Inv-loop μ-loop
-mul-link-rule c = search needs
-
-element-copy-out-link-rule : tie.Need-element-copy-out-link-rule Inv-loop μ-loop
-element-copy-out-link-rule c = search needs
+value-at-requires c κs = rw (c .place-of .ensures) (lies (c .before .before .before .before .before .pre .0 .1 (c .before .before .before .loop .i) (omega arith) .here) .inside)
 
 link-rule-requires : tie.Need-link-rule-requires Inv-loop μ-loop
 link-rule-requires c κs =
     let l = c .before .before .before .before .before in
     let p = l .before .before in
     let h = p .pre .0 .1 (l .loop .i) (omega arith) .here in
-    let q = c .before .before .value-at .ensures ∙ ap (valueAt (p .args .file .now)) (c .before .before .before .place-of .ensures) in
+    let q = c .before .value-at .ensures ∙ ap (valueAt (p .args .file .now)) (c .before .before .place-of .ensures) in
     ((here-headed h q, here-evaluable h q .few), l .loop .inv .0)
 
 add-i : tie.Need-add-i Inv-loop μ-loop
@@ -64,10 +62,9 @@ link-spec =
     Inv-loop
     μ-loop
     loop-holds
+    mask-of-requires
     place-of-requires
     value-at-requires
-    mul-link-rule
-    element-copy-out-link-rule
     link-rule-requires
     add-i
     loop-less

@@ -1,13 +1,15 @@
 -- Past the last variable the value stays; another is the variable's first aim.
-use mathlib.Core.Path.{_≡_, _∙_}
+use mathlib.Core.Path.{_≡_, ap, _∙_}
 use native.Mathlib.Omega.{arith}
 use mir.Syntax.{w64}
 use mir.Val.{toZ, ofZ}
-use lib.IntN.{pos}
+use lib.IntN.{ℤ, pos, natAbs}
 use lib.ListN.{getD}
 use borrow.Author.Needs.{needs}
 use Rattle.program.specs.Program.{variablesAt}
 use Rattle.reader.proofs.Published.{variables-length}
+use Rattle.steady.specs.Strides.{strideBy}
+use Rattle.steady.proofs.Machine.{stride-own}
 use Rattle.targets.proofs.AimLaws.{past-aim, aim-variable}
 use Rattle.targets.proofs.aims.aim_at.Statement.{statement}
 use Rattle.targets.proofs.aims.aim_at.Tie as tie
@@ -30,11 +32,17 @@ mul-goal c = search needs
 element-copy-out-goal : tie.Need-element-copy-out-goal
 element-copy-out-goal c = search needs
 
+mul-number : tie.Need-mul-number
+mul-number c = search needs
+
+element-copy-out-number : tie.Need-element-copy-out-number
+element-copy-out-number c = search needs
+
 returns : tie.Need-returns
 returns c =
-    let a = c .before .before .before .before .before .args in
+    let a = c .before .before .before .before .before .before .args in
     let z : toZ w64 (ofZ w64 (getD (a .model .now) (a .v) (pos 0))) ≡ getD (a .model .now) (a .v) (pos 0) = search needs in
-    z ∙ past-aim (variablesAt (a .file .now) (a .variables)) (a .cut) (a .stops .now) (a .model .now) (a .target .now) (a .v)
+    z ∙ past-aim (variablesAt (a .file .now) (a .variables)) (a .cut) (a .strides .now) (a .stops .now) (a .model .now) (a .target .now) (a .v)
     (omega (arith, variables-length (a .file .now) (a .variables)))
 
 cast-variable : tie.Need-cast-variable
@@ -43,18 +51,30 @@ cast-variable c = search needs
 variable-requires : tie.Need-variable-requires
 variable-requires c κs = search needs
 
+stride-by-requires : tie.Need-stride-by-requires
+stride-by-requires c κs = search needs
+
 first-aim-requires : tie.Need-first-aim-requires
-first-aim-requires c κs = search needs
+first-aim-requires c κs =
+    let s = c .before .before .before .before .before .before .before .before in
+    let a = s .args in
+    let z : toZ w64 (ofZ w64 (getD (a .model .now) (a .v) (pos 0))) ≡ getD (a .model .now) (a .v) (pos 0) = search needs in
+    let y : toZ w64 (ofZ w64 (c .stride-by .result)) ≡ c .stride-by .result = search needs in
+    let o = stride-own _ (y ∙ c .stride-by .ensures) in
+    (rw z (s .pre .1 .1 (a .v)), o .0, o .1)
 
 returns-2 : tie.Need-returns-2
 returns-2 c =
-    let a = c .before .before .before .before .before .before .before .args in
+    let a = c .before .before .before .before .before .before .before .before .before .args in
     let z : toZ w64 (ofZ w64 (getD (a .model .now) (a .v) (pos 0))) ≡ getD (a .model .now) (a .v) (pos 0) = search needs in
     let s : toZ w64 (ofZ w64 (getD (a .stops .now) (a .v) (pos 0))) ≡ getD (a .stops .now) (a .v) (pos 0) = search needs in
     let t : toZ w64 (ofZ w64 (getD (a .target .now) (a .v) (pos 0))) ≡ getD (a .target .now) (a .v) (pos 0) = search needs in
+    let n : toZ w64 (ofZ w64 (getD (a .strides .now) (a .v) (pos 0))) ≡ getD (a .strides .now) (a .v) (pos 0) = search needs in
+    let y : toZ w64 (ofZ w64 (c .before .stride-by .result)) ≡ c .before .stride-by .result = search needs in
     let r : toZ w64 (ofZ w64 (c .first-aim .result)) ≡ c .first-aim .result = search needs in
-    r ∙ aim-variable (variablesAt (a .file .now) (a .variables)) (a .cut) (a .stops .now) (a .model .now) (a .target .now) (a .v)
-    (c .before .variable .ensures (a .variables) (omega arith)) s z t (c .first-aim .ensures)
+    r ∙ aim-variable (variablesAt (a .file .now) (a .variables)) (a .cut) (a .strides .now) (a .stops .now) (a .model .now) (a .target .now) (a .v)
+    (c .before .before .variable .ensures (a .variables) (omega arith)) s z t
+    (ap natAbs (y ∙ c .before .stride-by .ensures ∙ ap (λ (k : ℤ). pos (strideBy k)) n)) (c .first-aim .ensures)
 
 pub aim-at-spec : {M : Type 1} → statement M
 aim-at-spec =
@@ -66,8 +86,11 @@ aim-at-spec =
     element-copy-out-stop
     mul-goal
     element-copy-out-goal
+    mul-number
+    element-copy-out-number
     returns
     cast-variable
     variable-requires
+    stride-by-requires
     first-aim-requires
     returns-2)

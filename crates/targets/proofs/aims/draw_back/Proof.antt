@@ -15,17 +15,17 @@ use Rattle.targets.proofs.aims.draw_back.Statement.{statement}
 use Rattle.targets.proofs.aims.draw_back.Tie as tie
 
 abbrev Inv-loop : tie.InvT-loop
-Inv-loop file variables model stops cut target aims₀ v₀ aims v =
-    (v ≤ maxVariables) × (length aims ≡ maxVariables) × Filled (firstAims (variablesAt file variables) cut stops model target) v aims₀ aims
+Inv-loop file variables model stops cut target strides aims₀ v₀ aims v =
+    (v ≤ maxVariables) × (length aims ≡ maxVariables) × Filled (firstAims (variablesAt file variables) cut strides stops model target) v aims₀ aims
 
 abbrev μ-loop : tie.MeasureT-loop
-μ-loop file variables model stops cut target aims₀ v₀ aims v = maxVariables - v
+μ-loop file variables model stops cut target strides aims₀ v₀ aims v = maxVariables - v
 
 loop-holds : tie.Need-loop-holds Inv-loop μ-loop
-loop-holds c = (omega arith, c .before .pre .1, filled-none _ _)
+loop-holds c = (omega arith, c .before .pre .1 .0, filled-none _ _)
 
 aim-at-requires : tie.Need-aim-at-requires Inv-loop μ-loop
-aim-at-requires c κs = search needs
+aim-at-requires c κs = let s = c .before .before .before in (s .pre .0, (omega arith, s .pre .1 .1))
 
 mul-aim : tie.Need-mul-aim Inv-loop μ-loop
 mul-aim c = search needs

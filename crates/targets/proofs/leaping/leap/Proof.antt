@@ -4,7 +4,7 @@ use native.Mathlib.Omega.{arith}
 use borrow.Author.Needs.{needs}
 use borrow.Author.Tests.{not-false}
 use Rattle.reader.proofs.Published.{limited}
-use Rattle.targets.proofs.LiftLaws.{aiming-start, aiming-arrived}
+use Rattle.targets.proofs.LiftLaws.{running-small, aiming-start, aiming-arrived}
 use Rattle.targets.proofs.leaping.leap.Statement.{statement}
 use Rattle.targets.proofs.leaping.leap.Tie as tie
 
@@ -12,7 +12,9 @@ line-length-requires : tie.Need-line-length-requires
 line-length-requires c κs = search needs
 
 draw-back-requires : tie.Need-draw-back-requires
-draw-back-requires c κs = let p = c .before .before .before .before .pre in ((limited (p .0) .inside, limited (p .0) .few-variables), refl)
+draw-back-requires c κs =
+    let p = c .before .before .before .before .pre in
+    ((limited (p .0) .inside, limited (p .0) .few-variables), (refl, running-small (p .1 .0 .run)))
 
 lift-all-requires : tie.Need-lift-all-requires
 lift-all-requires c κs =
@@ -21,7 +23,7 @@ lift-all-requires c κs =
     let k = s .pre .1 .0 .run in (
       s .pre .0,
       (
-        record { program = _; reckoning = _; assigned = _; first = _; aiming = aiming-start k (s .args .target .now) (s .pre .0) _ _ (s .pre .1 .1 .0 .0) (d .0) (d .1) },
+        record { program = _; reckoning = _; assigned = _; first = _; aiming = aiming-start k (s .args .strides .now) (s .args .target .now) (s .pre .0) _ _ (s .pre .1 .1 .0 .0) (d .0) (d .1) },
         (d .0, c .before .before .before .before .before .line-length .ensures),
       ),
     )
@@ -47,8 +49,8 @@ returns-2 c =
       (
         t .1 .0,
         (
-          λ P R θ k. t .1 .1 _ _ _ _ _ _ _ _ _ (aiming-arrived k (s .args .target .now) (s .pre .0) _ _ (s .pre .1 .1 .0 .0) (d .0) (d .1) _ (l .1) h e) .0 .run,
-          t .1 .1 _ _ _ _ _ _ _ _ _ (aiming-arrived (s .pre .1 .0 .run) (s .args .target .now) (s .pre .0) _ _ (s .pre .1 .1 .0 .0) (d .0) (d .1) _ (l .1) h e) .1,
+          λ P R θ k. t .1 .1 _ _ _ _ _ _ _ _ _ (aiming-arrived k (s .args .strides .now) (s .args .target .now) (s .pre .0) _ _ (s .pre .1 .1 .0 .0) (d .0) (d .1) _ (l .1) h e) .0 .run,
+          t .1 .1 _ _ _ _ _ _ _ _ _ (aiming-arrived (s .pre .1 .0 .run) (s .args .strides .now) (s .args .target .now) (s .pre .0) _ _ (s .pre .1 .1 .0 .0) (d .0) (d .1) _ (l .1) h e) .1,
         ),
       ),
     )

@@ -11,12 +11,12 @@ use Rattle.targets.proofs.lifting.pass.Statement.{statement}
 use Rattle.targets.proofs.lifting.pass.Tie as tie
 
 abbrev Inv-loop : tie.InvT-loop
-Inv-loop file counts offsets masks line count model others stops cut target aims₀ some₀ k₀ aims some k =
+Inv-loop file counts offsets masks line count model others stops cut target strides aims₀ some₀ k₀ aims some k =
     (k ≤ count) × (length aims ≡ maxVariables)
-    × AimsKept file offsets masks others stops cut model aims₀ aims
+    × AimsKept file offsets masks others stops cut strides model aims₀ aims
 
 abbrev μ-loop : tie.MeasureT-loop
-μ-loop file counts offsets masks line count model others stops cut target aims₀ some₀ k₀ aims some k = count - k
+μ-loop file counts offsets masks line count model others stops cut target strides aims₀ some₀ k₀ aims some k = count - k
 
 loop-holds : tie.Need-loop-holds Inv-loop μ-loop
 loop-holds c = (omega arith, c .before .pre .1 .1 .0, λ P R θ A₀ k. k)
