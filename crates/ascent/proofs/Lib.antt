@@ -1,1 +1,6 @@
-pub mod AscentLaws
+pub mod PlaceLaws
+pub mod SideLaws
+pub mod LookLaws
+pub mod ValueLaws
+pub mod LevelLaws
+pub mod ClimbLaws

@@ -1,1 +1,3 @@
 pub mod Ascending
+pub mod Level
+pub mod Looking

@@ -33,7 +33,7 @@ use Rattle.lent.specs.BoundsCall.{rangeBytes, turned, BoundsCall, within-bounds
 use Rattle.lent.proofs.Fits.{Fitting, ranges-fitting, lent-within}
 use Rattle.lent.proofs.Ends.{ends-model}
 use Rattle.lent.proofs.Calls.{all-fit, lent-called}
-use Rattle.tables.specs.Laid.{Laid}
+use Rattle.tables.specs.Laid.{OffsetsOf}
 use Rattle.meaning.specs.Reduct.{Reckoning}
 use Rattle.run.specs.Running.{Basis, FullMet, SomeBasis, EndsWith}
 use Rattle.run.specs.declared.Ending.{Ending}
@@ -114,12 +114,12 @@ module _ (s : List ℕ) (k : Counts) (r : AcceptedAs s k) where
       z v ∙ sym (low-past (fit (x .meant) (x .accepts)) v (omega (arith, x .variables-are)))
 
   -- what the run relies on
-  module _ (low high : Valuation) (fit : FitsFile s low high) {os ks : List ℕ} (t : Laid s k os ks) (ms : List ℕ)
+  module _ (low high : Valuation) (fit : FitsFile s low high) (os : List ℕ) (t : OffsetsOf s os) (ms : List ℕ)
       (masks : (P : Program) → Accepts s P → LentMasks P low high (length (P .rules)) ms) (zs others stops : List ℤ) (z : (v : ℕ) → valued zs v ≡ pos 0)
       (o : Filled (otherEnds (variablesAt s (k .variables)) low high) (k .variables) zs others)
       (e : Filled (stopEnds (variablesAt s (k .variables)) low high) (k .variables) zs stops) where
     bound-basis : (P : Program) → Accepts s P → Basis s P (lent P low high) low os ms others stops true
-    bound-basis P x = lent-basis (t .placed P x) low high (fit P x) ms (masks P x) others stops (others-whole low high fit zs others z P x o) (stops-whole low high fit zs stops z P x e)
+    bound-basis P x = lent-basis x t low high (fit P x) ms (masks P x) others stops (others-whole low high fit zs others z P x o) (stops-whole low high fit zs stops z P x e)
 
     -- a head that has its stop is full
     bound-full : (P : Program) → Accepts s P → FullMet P (lent P low high) low stops true
@@ -129,15 +129,15 @@ module _ (s : List ℕ) (k : Counts) (r : AcceptedAs s k) where
         → (P : Program) → Accepts s P → EndsWith P (lent P low high) low m r
     bound-ends m r f P x = f P (lent P low high) (bound-basis P x) (bound-full P x)
 
-    pub some-basis : k .rules ≤ length ms → SomeBasis s low os ms others stops true true
-    some-basis l =
+    pub some-basis : k .rules ≤ length os → k .rules ≤ length ms → SomeBasis s low os ms others stops true true
+    some-basis h l =
         let x = reads-accepts r in
         record {
           program = x .meant;
           reckoning = lent (x .meant) low high;
           basis = bound-basis (x .meant) (x .accepts);
           full-met = bound-full (x .meant) (x .accepts);
-          reach = record { offsets-reach = omega (arith, x .rules-are, t .offsets-reach); masks-reach = omega (arith, x .rules-are, l) };
+          reach = record { offsets-reach = omega (arith, x .rules-are, h); masks-reach = omega (arith, x .rules-are, l) };
         }
 
   -- the run ends in the bounds, for there is a model

@@ -18,7 +18,6 @@ use program::Counts;
 use program::Reading;
 use solving::reckon;
 use tables::Tables;
-use tables::fill_tables;
 
 // What the call asks of its ranges and of its buffer.
 pub struct Asks {}
@@ -58,8 +57,7 @@ fn bound_in(
     let mut others = [0i64; Format::MAX_VARIABLES];
     let mut stops = [0i64; Format::MAX_VARIABLES];
     let mut model = [0i64; Format::MAX_VARIABLES];
-    fill_tables(file, counts, offsets, masks);
-    set_masks(file, counts, offsets, lows, highs, masks);
+    set_masks(file, counts, lows, highs, offsets, masks);
     ranges::set_ends(file, n, lows, highs, &mut others, &mut stops);
     let cut = true;
     let full = true;

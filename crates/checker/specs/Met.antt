@@ -1,7 +1,6 @@
 -- What the code finds of the rules and constraints of a file.
 use Prim.Native.Nat.{ℕ, _<_}
 use mathlib.Core.Path.{_≡_}
-use mathlib.Core.Bool.{Bool, true, false}
 use mathlib.Core.List.{List}
 use lib.ListN.{length}
 use Rattle.program.specs.Program.{Program}
@@ -18,11 +17,6 @@ use Rattle.checker.specs.declared.rules.Rules.the-variants as rules
 abbrev pub UnmetIs : (ℕ → Type 0) → ℕ → Found → Type 0
 UnmetIs Met n (At i) = FirstUnmet Met n i
 UnmetIs Met n Nothing = (i : ℕ) → i < n → Met i
-
--- whether rule i is met
-abbrev pub MetIf : Program → Valuation → ℕ → Bool → Type 0
-MetIf P θ i true = RuleMet P θ i
-MetIf P θ i false = RuleMet P θ i → ⊥
 
 -- the first rule of the program of a file that is not met; or that all are, and where the constraints begin
 abbrev pub RulesAre : List ℕ → Program → Valuation → Rules → Type 0

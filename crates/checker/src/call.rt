@@ -2,7 +2,6 @@
 ghost use mathlib.Core.Path.{_≡_};
 ghost use Prim.Native.Nat.{ℕ, _*_, _<_, _≤_};
 ghost use lib.ListN.{length};
-ghost use Rattle.format.specs.Limits.{maxVariables};
 ghost use Rattle.program.specs.Program.{Program};
 ghost use Rattle.program.specs.Reading.{AcceptedAs, Accepts};
 ghost use Rattle.meaning.specs.Founded.{Within};
@@ -50,7 +49,7 @@ fn check_constraints(
     requires { ⌜ ((P : Program) → Accepts (now file) P → start ≡ constraintPlace (now file) P 0) ⌝ }
     requires { ⌜ ((P : Program) → Accepts (now file) P → Within (system P) (valued (now values))) ⌝ }
     requires { ⌜ ((P : Program) → Accepts (now file) P → (i : ℕ) → i < length (P .rules) → RuleMet P (valued (now values)) i) ⌝ }
-    requires { ⌜ (length (now values) ≡ maxVariables) × (checkBytes * counts .variables ≤ length (now report)) ⌝ }
+    requires { ⌜ checkBytes * counts .variables ≤ length (now report) ⌝ }
     ensures { λ r. ⌜ ((P : Program) → Accepts (now (file .entry)) P → Judged P (valued (now (values .entry))) (now (report .entry)) (answerOf r) (now (report .exit))) ⌝ }
 {
     let unmet = first_unmet_constraint(file, start, counts, values);
@@ -69,7 +68,7 @@ fn check_rules(
 ) -> Verdict
     requires { ⌜ AcceptedAs (now file) counts ⌝ }
     requires { ⌜ ((P : Program) → Accepts (now file) P → Within (system P) (valued (now values))) ⌝ }
-    requires { ⌜ (length (now values) ≡ maxVariables) × (checkBytes * counts .variables ≤ length (now report)) ⌝ }
+    requires { ⌜ checkBytes * counts .variables ≤ length (now report) ⌝ }
     ensures { λ r. ⌜ ((P : Program) → Accepts (now (file .entry)) P → Judged P (valued (now (values .entry))) (now (report .entry)) (answerOf r) (now (report .exit))) ⌝ }
 {
     let rules = first_unmet_rule(file, counts, values);

@@ -1,16 +1,16 @@
 // The rules under an assignment.
-ghost use Prim.Native.Nat.{ℕ};
 ghost use Rattle.program.specs.Program.{Program};
 ghost use Rattle.program.specs.Reading.{AcceptedAs, Accepts};
 ghost use Rattle.program.specs.Readings.{valued};
-ghost use Rattle.program.specs.Evaluable.{Small};
-ghost use Rattle.run.specs.Running.{RuleStands, SomeRule};
-ghost use Rattle.checker.specs.Met.{MetIf, RulesAre};
+ghost use Rattle.meaning.specs.Founded.{Within};
+ghost use Rattle.meaning.specs.Reduct.{system};
+ghost use Rattle.checker.specs.Met.{RulesAre};
+use ascent::level::level_sides;
+use ascent::sweeping::Next;
+use ascent::sweeping::next_more;
 use format::Format;
-use parts::places::next_at;
 use program::Counts;
-use run::Demand;
-use run::demands::look_at;
+use sided::Sides;
 
 // The first rule that is not met, or that all are, and where the field after the last of them stands.
 pub enum Rules {
@@ -18,38 +18,22 @@ pub enum Rules {
     Met(usize),
 }
 
-// Whether the rule whose field stands at `at` is met. Every position is read in the assignment, whatever the mask.
-fn is_met(file: &[u8], at: usize, assigned: &[i64; Format::MAX_VARIABLES]) -> bool
-    requires { ⌜ SomeRule (now file) at ⌝ }
-    requires { ⌜ Small (now assigned) ⌝ }
-    ensures { λ r. ⌜ ((P : Program) (i : ℕ) → RuleStands (now (file .entry)) P i at → MetIf P (valued (now (assigned .entry))) i r) ⌝ }
-{
-    let asked = look_at(file, at, 0, assigned, assigned, assigned, false);
-    match asked {
-        Demand::Enough => true,
-        Demand::More(_) => false,
-    }
-}
-
-// The first rule that is not met, or that there is none.
+// The first rule that is not met, or that there is none. Every position is read in the assignment.
 pub fn first_unmet_rule(
     file: &[u8],
     counts: Counts,
     assigned: &[i64; Format::MAX_VARIABLES],
 ) -> Rules
     requires { ⌜ AcceptedAs (now file) counts ⌝ }
-    requires { ⌜ Small (now assigned) ⌝ }
+    requires { ⌜ ((P : Program) → Accepts (now file) P → Within (system P) (valued (now assigned))) ⌝ }
     ensures { λ r. ⌜ ((P : Program) → Accepts (now (file .entry)) P → RulesAre (now (file .entry)) P (valued (now (assigned .entry))) r) ⌝ }
 {
-    let rules = counts.rules;
-    let mut at = 8 * counts.variables;
-    let mut i = 0;
-    while i < rules {
-        if !is_met(file, at, assigned) {
-            return Rules::Unmet(i);
-        }
-        at = next_at(file, at);
-        i += 1;
+    let n = counts.variables;
+    let mut sides = [0i64; Sides::LENGTH];
+    level_sides(n, assigned, &mut sides);
+    let next = next_more(file, counts, 0, 8 * n, &sides, false);
+    match next {
+        Next::More(i, _, _) => Rules::Unmet(i),
+        Next::Nothing(at) => Rules::Met(at),
     }
-    Rules::Met(at)
 }

@@ -1,6 +1,6 @@
 -- The least model compared with the assignment: what the code's sets and counts say.
 use Prim.Native.Nat.{ℕ, zero, suc, _+_, _*_, _<_, _≤_}
-use mathlib.Core.Path.{_≡_, refl, sym, ap, ap₂, fun-ext, subst, _∙_}
+use mathlib.Core.Path.{_≡_, refl, sym, ap, ap₂, subst, _∙_}
 use mathlib.Core.Bool.{Bool, true, false, not, _&&_}
 use mathlib.Core.List.{List, [], _++_}
 use native.Mathlib.Omega.{arith}
@@ -19,8 +19,7 @@ use Rattle.program.specs.declared.Direction.{Direction}
 use Rattle.program.proofs.Conditions.{never, both, some-below}
 use Rattle.program.proofs.Promises.{Promises, accepts-promises}
 use Rattle.reader.proofs.Published.{reads-accepts, counts-of, variables-are, program-limited}
-use Rattle.meaning.specs.Founded.{Model, Floor, Least}
-use Rattle.ascent.specs.Ascending.{Ascending}
+use Rattle.meaning.specs.Founded.{Model, Least}
 use Rattle.meaning.specs.Reduct.{reduct, system}
 use Rattle.meaning.specs.Stable.{Meets}
 use Rattle.run.specs.Running.{EndsWith}
@@ -198,18 +197,6 @@ module _ (s : List ℕ) (k : Counts) (r : AcceptedAs s k) (θ : List ℤ)
 
   pub assigned-small : Small θ
   assigned-small = let a = reads-accepts r in within-small (accepts-promises (a .accepts)) θ (meets (a .meant) (a .accepts) .ranges)
-
-  -- every value is the assigned one
-  pub reached-stable : (m : List ℤ) → Ascending s θ m → ((v : ℕ) → valued m v ≡ valued θ v) → (b : List ℕ) (P : Program) → Accepts s P → Judged P (valued θ) b stable b
-  reached-stable m u e b P x =
-      let t = meets P x in
-      is-stable (record {
-        meets = t;
-        least = record {
-          model = self-model (t .ranges) (t .rules);
-          floor = subst (λ (f : Valuation). Floor (system P) (valued θ) f) (fun-ext e) (u .progress P x .floor);
-        };
-      })
 
   -- the run has ended in m
   module _ (m : List ℤ) (e : Ending) (ends : (P : Program) → Accepts s P → EndsWith P (reduct P) (valued θ) (valued m) e) (b : List ℕ) where

@@ -1,19 +1,16 @@
 // An assignment that lies in its ranges and meets every rule and constraint: stable or unfounded.
 ghost use mathlib.Core.Path.{_≡_};
 ghost use Prim.Native.Nat.{_*_, _≤_};
-ghost use Rattle.format.specs.Limits.{maxVariables};
 ghost use lib.ListN.{length};
 ghost use Rattle.words.specs.Bit.{has};
 ghost use Rattle.program.specs.Program.{Program};
 ghost use Rattle.program.specs.Reading.{AcceptedAs, Accepts};
 ghost use Rattle.meaning.specs.Stable.{Meets};
-ghost use Rattle.ascent.specs.Ascending.{Ascending};
 ghost use Rattle.verdict.specs.Checks.{answerOf, Judged, checkBytes};
 ghost use Rattle.comparison.specs.Shows.{entryCount, ShowsSets};
 ghost use Rattle.program.specs.Readings.{valued};
 ghost use Rattle.program.specs.Evaluable.{Small};
 use crate::reporting::write_report;
-use ascent::reach;
 use conditions::asked::asked;
 use conditions::asking::Asked;
 use conditions::short::Parts;
@@ -21,9 +18,7 @@ use conditions::short::in_parts;
 use conditions::short::short_set;
 use format::Format;
 use program::Counts;
-use reduct::loading;
-use solving::run_on;
-use tables::fill_tables;
+use solving::run;
 use verdict::Verdict;
 
 // The set is shown, with its conditions.
@@ -47,36 +42,7 @@ fn show(
     Verdict::Unfounded(below + above, most + least)
 }
 
-// From values on the way to the least model, which is compared with the assignment.
-fn compare_least(
-    file: &[u8],
-    counts: Counts,
-    assigned: &[i64; Format::MAX_VARIABLES],
-    model: &mut [i64; Format::MAX_VARIABLES],
-    report: &mut [u8],
-) -> Verdict
-    requires { ⌜ AcceptedAs (now file) counts ⌝ }
-    requires { ⌜ ((P : Program) → Accepts (now file) P → Meets P (valued (now assigned))) ⌝ }
-    requires { ⌜ Ascending (now file) (now assigned) (now model) ⌝ }
-    requires { ⌜ length (now model) ≡ maxVariables ⌝ }
-    requires { ⌜ checkBytes * counts .variables ≤ length (now report) ⌝ }
-    ensures { λ r. ⌜ ((P : Program) → Accepts (now (file .entry)) P → Judged P (valued (now (assigned .entry))) (now (report .entry)) (answerOf r) (now (report .exit))) ⌝ }
-{
-    let n = counts.variables;
-    let mut offsets = [0u16; Format::MAX_RULES];
-    let mut masks = [0u32; Format::MAX_RULES];
-    fill_tables(file, counts, &mut offsets, &mut masks);
-    run_on(file, counts, &offsets, &masks, assigned, model);
-    let set = short_set(file, n, assigned, model);
-    if set.count() == 0 {
-        return Verdict::Stable;
-    }
-    let conditions = asked(file, counts, &offsets, set);
-    let parts = in_parts(file, n, set);
-    show(report, parts, conditions, model, assigned)
-}
-
-// The least model is compared with the assignment. Most assignments that are stable are reached without tables.
+// The least model is compared with the assignment.
 pub fn compare(
     file: &[u8],
     counts: Counts,
@@ -85,15 +51,17 @@ pub fn compare(
 ) -> Verdict
     requires { ⌜ AcceptedAs (now file) counts ⌝ }
     requires { ⌜ ((P : Program) → Accepts (now file) P → Meets P (valued (now assigned))) ⌝ }
-    requires { ⌜ length (now assigned) ≡ maxVariables ⌝ }
     requires { ⌜ checkBytes * counts .variables ≤ length (now report) ⌝ }
     ensures { λ r. ⌜ ((P : Program) → Accepts (now (file .entry)) P → Judged P (valued (now (assigned .entry))) (now (report .entry)) (answerOf r) (now (report .exit))) ⌝ }
 {
     let n = counts.variables;
     let mut model = [0i64; Format::MAX_VARIABLES];
-    loading::start_values(file, n, assigned, &mut model);
-    if reach(file, counts, assigned, &mut model) {
+    run(file, counts, assigned, true, &mut model);
+    let set = short_set(file, n, assigned, &model);
+    if set.count() == 0 {
         return Verdict::Stable;
     }
-    compare_least(file, counts, assigned, &mut model, report)
+    let conditions = asked(file, counts, set);
+    let parts = in_parts(file, n, set);
+    show(report, parts, conditions, &model, assigned)
 }

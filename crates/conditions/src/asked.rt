@@ -1,22 +1,20 @@
 // What the rules with a head in a set ask of the assignment.
 ghost use mathlib.Core.Path.{_≡_};
-ghost use Prim.Native.Nat.{ℕ, _≤_};
-ghost use lib.ListN.{length};
+ghost use Prim.Native.Nat.{ℕ};
 ghost use Rattle.words.specs.Bit.{has};
 ghost use Rattle.program.specs.Fields.{valueAt};
 ghost use Rattle.program.specs.Program.{Program, ruleOf, variablesAt};
 ghost use Rattle.program.specs.Reading.{AcceptedAs, Accepts};
 ghost use Rattle.tables.specs.Entries.{RuleHere};
-ghost use Rattle.tables.specs.Laid.{OffsetsOf};
 ghost use Rattle.report.specs.Report.{asked, asksMost, asksLeast};
 ghost use Rattle.conditions.specs.Asking.{AsksMore, askedInto};
 use crate::asking::Asked;
 use crate::asking::ask_rule;
+use parts::places::next_at;
 use parts::places::value_at;
 use parts::rules;
 use program::Counts;
 use sets::Set;
-use tables::place_in;
 
 // What the rule whose field stands at `at` asks, where its head is in the set.
 fn ask_field(before: Asked, file: &[u8], variables: usize, at: usize, set: Set) -> Asked
@@ -32,10 +30,8 @@ fn ask_field(before: Asked, file: &[u8], variables: usize, at: usize, set: Set) 
 }
 
 // The variables with a condition 'at most' and those with one 'at least', from the rules with a head in the set.
-pub fn asked(file: &[u8], counts: Counts, offsets: &[u16], set: Set) -> Asked
+pub fn asked(file: &[u8], counts: Counts, set: Set) -> Asked
     requires { ⌜ AcceptedAs (now file) counts ⌝ }
-    requires { ⌜ OffsetsOf (now file) (now offsets) ⌝ }
-    requires { ⌜ counts .rules ≤ length (now offsets) ⌝ }
     ensures { λ r. ⌜ ((P : Program) → Accepts (now (file .entry)) P → (v : ℕ) → has (r .most .words) v ≡ asked P (has (set .words)) asksMost v) ⌝ }
     ensures { λ r. ⌜ ((P : Program) → Accepts (now (file .entry)) P → (v : ℕ) → has (r .least .words) v ≡ asked P (has (set .words)) asksLeast v) ⌝ }
 {
@@ -46,11 +42,12 @@ pub fn asked(file: &[u8], counts: Counts, offsets: &[u16], set: Set) -> Asked
         most: none,
         least: none,
     };
+    let mut at = 8 * n;
     let mut i = 0;
     while i < rules {
-        let at = place_in(offsets, i);
         let next = ask_field(all, file, n, at, set);
         all = next;
+        at = next_at(file, at);
         i += 1;
     }
     all

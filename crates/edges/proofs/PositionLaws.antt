@@ -1,22 +1,33 @@
 -- The positions of one rule, and rows that take in edges, case by case.
 use Prim.Native.Nat.{ℕ, _+_}
-use mathlib.Core.Path.{_≡_, sym, ap, ap₂, _∙_, subst}
+use mathlib.Core.Path.{_≡_, refl, sym, ap, ap₂, _∙_, subst}
 use mathlib.Core.List.{List}
 use mathlib.Core.Bool.{Bool, true, false, _||_, _&&_, or-false, or-comm, or-assoc}
 use lib.ListN.{length}
 use lib.Dec.{eqb}
 use Rattle.reach.specs.Rows.{Marked, MarkedWhere}
 use Rattle.program.specs.Tables.{anyBelow}
-use Rattle.program.specs.Program.{Rule}
+use Rattle.program.specs.Program.{Rule, variableIn, termIn}
+use Rattle.program.specs.Variables.{isFounded}
 use Rattle.program.specs.Directions.{direction, isMixed}
 use Rattle.program.specs.Readings.{bodyVariable}
 use Rattle.program.proofs.Conditions.{any-next}
 use Rattle.program.proofs.Tests.{eqb-swap}
+use Rattle.program.specs.declared.Term.{Term}
 use Rattle.positions.specs.Positions.{PositionIs}
+use Rattle.positions.specs.Kinds.{directionOf, kindIn, KindsOf}
 use Rattle.positions.specs.declared.Position.{Position}
+use Rattle.positions.specs.declared.kinds.Kinds.{Kinds}
+use Rattle.positions.proofs.KindLaws.{kept-by, position-kept, position-directed}
 use Rattle.sharing.specs.Sharing.{shareIn}
-use Rattle.edges.specs.Edges.{Grown, anyMixed, drawsEdge, drawsAt, drawsIn, offendsAt, offendsIn}
+use Rattle.edges.specs.Edges.{Grown, anyMixed, drawsEdge, drawsBy, drawsAt, drawsIn, offendsAt, offendsIn}
 use Rattle.program.specs.declared.Variable.{Variable}
+
+-- the code's tests of a term
+pub draws-tests : (up down : ℕ) (x : Variable) (t : Term) {n : ℕ} {a b : Bool} → n ≡ kindIn up down t → a ≡ (eqb (x .kind) n && isFounded x)
+    → b ≡ isMixed (directionOf n) → (a || b) ≡ drawsBy up down x t
+unfolding drawsBy
+draws-tests up down x t p q e = ap₂ _||_ (kept-by up down x t p q) (e ∙ rw p)
 
 -- ---- rows that take in edges
 
@@ -37,6 +48,10 @@ module _ (p : ℕ → ℕ → ℕ → Bool) where
 
   pub grown-done : {i n : ℕ} {r r′ : ℕ → ℕ → Bool} → i ≡ n → Grown r r′ (λ a b. anyBelow i (λ j. p j a b)) → Grown r r′ (λ a b. anyBelow n (λ j. p j a b))
   grown-done e g = rw e at g
+
+-- one edge where a test says so, by another test that says the same
+pub marked-as : {t t′ : Bool} {h v v′ : ℕ} {r r′ : ℕ → ℕ → Bool} → t ≡ t′ → v ≡ v′ → MarkedWhere t r r′ h v → MarkedWhere t′ r r′ h v′
+marked-as p q m = rw (p, q) at m
 
 -- ---- one rule
 
@@ -89,6 +104,14 @@ module _ (vs : List Variable) (r : Rule) where
         → h ≡ r .head → x ≡ bodyVariable r i → MarkedWhere test t t′ h x → Grown t t′ (drawsAt vs r i)
     draws-where true h x e p q m = draws-one h x e p q (record { is = m .is })
     draws-where {t} false h x e p q m = record { is = λ a b ha hb. m .is a b ha hb ∙ draws-none t e .is a b ha hb }
+
+    -- a term, by the kinds of its rule
+    pub draws-term : {k : Kinds} {t : Term} {a a′ : ℕ → ℕ → Bool} (h : ℕ) → KindsOf vs r k → t ≡ termIn (r .terms) i → h ≡ r .head
+        → MarkedWhere (drawsBy (k .up) (k .down) (variableIn vs (t .variable)) t) a a′ h (t .variable) → Grown a a′ (drawsAt vs r i)
+    unfolding drawsBy
+    draws-term {k} {t} h o p e m =
+        draws-where (drawsBy (k .up) (k .down) (variableIn vs (t .variable)) t) h (t .variable)
+        (sym (ap₂ _||_ (position-kept vs r i o p refl refl) (ap isMixed (position-directed vs r i o p refl refl)))) e (ap (λ (u : Term). u .variable) p) m
 
     pub offends-none : (t : ℕ → ℕ → Bool) → isMixed (direction vs r i) ≡ false → false ≡ offendsAt t vs r i
     unfolding offendsAt

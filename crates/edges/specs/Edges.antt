@@ -10,7 +10,9 @@ use Rattle.program.specs.Tables.{anyBelow}
 use Rattle.program.specs.Program.{Rule, termIn}
 use Rattle.program.specs.Directions.{direction, isMixed}
 use Rattle.program.specs.Readings.{bodyVariable, kept}
+use Rattle.program.specs.declared.Term.{Term}
 use Rattle.program.specs.declared.Variable.{Variable}
+use Rattle.positions.specs.Kinds.{directionOf, kindIn, keptBy}
 use Rattle.sharing.specs.Sharing.{shareIn}
 
 -- r′ is r with the edges of e
@@ -25,6 +27,10 @@ anyMixed vs r = anyBelow (length (r .terms)) (λ i. isMixed (direction vs r i))
 -- position i draws an edge: it is kept or mixed
 abbrev pub drawsEdge : List Variable → Rule → ℕ → Bool
 drawsEdge vs r i = kept vs r i || isMixed (direction vs r i)
+
+-- a term is kept or mixed, by the kinds of its rule, of another form than 5; x is its variable
+unfoldable pub drawsBy : ℕ → ℕ → Variable → Term → Bool
+drawsBy up down x t = keptBy up down x t || isMixed (directionOf (kindIn up down t))
 
 -- from x to y
 unfoldable pub drawsAt : List Variable → Rule → ℕ → ℕ → ℕ → Bool

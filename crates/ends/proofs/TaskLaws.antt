@@ -12,6 +12,7 @@ use lib.ListN.{length, getD}
 use lib.Signed.{leZ}
 use Rattle.format.proofs.Int.{int}
 use Rattle.program.specs.Program.{Program, Rule, variableIn, ruleIn}
+use Rattle.program.specs.Reading.{Accepts}
 use Rattle.program.specs.Variables.{isFounded, fromAbove, swaps, far, notPast, cutOff, inRange}
 use Rattle.program.specs.Directions.{away, direction, opposite, isRising, isMixed}
 use Rattle.program.specs.Evaluate.{evaluate}
@@ -33,9 +34,8 @@ use Rattle.lent.specs.Lent.{lentReading, lentVariable, undecided, lentGives, le
 use Rattle.lent.proofs.Fits.{Fitting, lent-narrows, low-within}
 use Rattle.lent.proofs.LentLaws.{lent-laws, lent-gives, decided-single}
 use Rattle.lent.proofs.LentGiven.{demanding-single, lent-given-end}
-use Rattle.tables.specs.Laid.{Placed}
+use Rattle.tables.specs.Laid.{OffsetsOf}
 use Rattle.run.specs.Running.{stopped, Basis}
-use Rattle.run.proofs.RunLaws.{at-stands}
 use Rattle.ends.specs.Ends.{otherEnd, otherEnds, stopEnd, stopEnds, inModel, LentMask, LentMasks}
 
 -- ---- one position
@@ -126,23 +126,23 @@ stop-far x low high a = cases (fromAbove x)
     (λ t. T (cond t (leZ (cond t low high) a) (leZ a (cond t low high))) → T (cond t (leZ (cond t (cond t low (x .low)) (cond t (x .high) high)) a) (leZ a (cond t (cond t low (x .low)) (cond t (x .high) high)))))
     (λ t h. h) (λ t h. h)
 
-pub lent-basis : {s offsets kepts : List ℕ} {P : Program} → Placed s P offsets kepts
+pub lent-basis : {s offsets : List ℕ} {P : Program} → Accepts s P → OffsetsOf s offsets
     → (low high : Valuation) → Fitting P low high → (masks : List ℕ) → LentMasks P low high (length (P .rules)) masks → (others stops : List ℤ)
     → ((v : ℕ) → valued others v ≡ otherEnds (P .variables) low high v) → ((v : ℕ) → valued stops v ≡ stopEnds (P .variables) low high v)
     → Basis s P (lent P low high) low offsets masks others stops true
-lent-basis {P = P} t low high f masks k others stops o z = record {
+lent-basis {P = P} x t low high f masks k others stops o z = record {
   reckons = record {
-    accepts = t .accepts;
-    stands = λ i h. at-stands (t .stands i h);
+    accepts = x;
+    stands = λ i h. record { accepts = x; among = h; placed = t P x i h };
     narrows = lent-narrows f;
-    finds = λ i h m s. lent-found (P .variables) low high (λ v. f .range v .ordered .le) (ruleIn (P .rules) i) (promised-evaluable (accepts-promises (t .accepts) .rules i h)) (getD masks i 0) (k i h)
+    finds = λ i h m s. lent-found (P .variables) low high (λ v. f .range v .ordered .le) (ruleIn (P .rules) i) (promised-evaluable (accepts-promises x .rules i h)) (getD masks i 0) (k i h)
         m others stops o z s;
     keeps = λ i h j l b. kept-or-standard (P .variables) (ruleIn (P .rules) i) j (sym (k i h .read j l) ∙ b);
     ranged = record { inside = λ v. rw (o v) (others-within f .inside v) };
     ends = λ v b n. record { le = stop-far (variableIn (P .variables) v) (low v) (high v) b (rw (z v) at (n .to-stop refl)) };
   };
-  laws = lent-laws (accepts-promises (t .accepts)) f;
+  laws = lent-laws (accepts-promises x) f;
   assigned = low-within f;
-  small = λ v. rw (o v) (value-small (accepts-promises (t .accepts)) (others-within f) v);
+  small = λ v. rw (o v) (value-small (accepts-promises x) (others-within f) v);
   inside = λ i h m b e q. record { le = lent-given-end (P .variables) low high (ruleIn (P .rules) i) m b e };
 }

@@ -6,14 +6,17 @@ use mathlib.Core.Bool.{Bool, true, false, not, cond, _&&_, _||_}
 use mathlib.Core.List.{List}
 use lib.Dec.{eqb}
 use lib.IntN.{ℤ}
-use lib.ListN.{length, getD}
+use lib.ListN.{length, getD, set}
 use lib.Signed.{ltZ}
 use Rattle.words.specs.Bit.{bit}
-use Rattle.program.specs.Program.{Program, Rule, variableIn, ruleIn}
+use Rattle.program.specs.Fields.{valueAt, nextAt}
+use Rattle.program.specs.Program.{Program, Rule, ruleOf, variableIn, variablesAt, ruleIn}
 use Rattle.program.specs.Variables.{isFounded, swaps}
 use Rattle.program.specs.Directions.{direction, opposite, isRising, isMixed}
 use Rattle.program.specs.Readings.{Valuation, bodyVariable, kept}
+use Rattle.program.specs.declared.Term.{Term}
 use Rattle.program.specs.declared.Variable.{Variable}
+use Rattle.positions.specs.Kinds.{directionOf, kindIn, keptBy}
 use Rattle.lent.specs.Ranges.{fits}
 use Rattle.lent.specs.Lent.{undecided}
 use Rattle.run.specs.Running.{freeBit}
@@ -52,6 +55,11 @@ pub record WayIs (vs : List Variable) (low high : Valuation) (r : Rule) (i : ℕ
   pub first-is : w .first ≡ inModel vs r i
   pub loose-is : w .loose ≡ looseAt vs low high r i
 
+-- what is found of a term of a rule of another form than 5, plain terms being kept for these kinds
+pub record TermWay (vs : List Variable) (low high : Valuation) (up down : ℕ) (t : Term) (w : Way) : Type 0 where
+  pub first-is : w .first ≡ (keptBy up down (variableIn vs (t .variable)) t || (not (isFounded (variableIn vs (t .variable))) && isRising (opposite (directionOf (kindIn up down t)))))
+  pub loose-is : w .loose ≡ (isMixed (directionOf (kindIn up down t)) && ltZ (low (t .variable)) (high (t .variable)))
+
 -- the mask of a rule
 pub record LentMask (vs : List Variable) (low high : Valuation) (r : Rule) (w : ℕ) : Type 0 where
   pub read : (i : ℕ) → i < length (r .terms) → bit w i ≡ inModel vs r i
@@ -60,3 +68,11 @@ pub record LentMask (vs : List Variable) (low high : Valuation) (r : Rule) (w : 
 -- of each of the first n rules
 abbrev pub LentMasks : Program → Valuation → Valuation → ℕ → List ℕ → Type 0
 LentMasks P low high n masks = (i : ℕ) → i < n → LentMask (P .variables) low high (ruleIn (P .rules) i) (getD masks i 0)
+
+-- the rule at this place is entered as rule i, and the next field stands at next
+pub record LentEntry (s : List ℕ) (n : ℕ) (low high : Valuation) (at i next : ℕ) (os os′ ms ms′ : List ℕ) : Type 0 where
+  pub next-is : next ≡ nextAt s at
+  pub placed : os′ ≡ set os i at
+  pub mask : ℕ
+  pub masked : ms′ ≡ set ms i mask
+  pub mask-is : LentMask (variablesAt s n) low high (ruleOf (valueAt s at)) mask

@@ -1,6 +1,6 @@
 -- The value that makes a rule give most, position by position, and what the rule gives there.
 use Prim.Native.Nat.{ℕ, _+_, _*_, _<_, _≤_}
-use mathlib.Core.Path.{_≡_, refl, sym, ap, _∙_}
+use mathlib.Core.Path.{_≡_, refl, sym, ap, ap₂, _∙_}
 use mathlib.Core.List.{List}
 use mathlib.Core.Bool.{Bool, true, false, not, cond}
 use native.Mathlib.Omega.{arith}
@@ -10,10 +10,10 @@ use lib.Signed.{ltZ}
 use lib.ListN.{length, set, length-set}
 use lib.Seq.{getD-set-same, getD-set-other}
 use borrow.Author.Count.{below-more}
-use borrow.Author.Tests.{eqb-true, eqb-false}
+use borrow.Author.Tests.{eqb-true, eqb-false, ne-eqb}
 use Rattle.format.specs.Limits.{maxVariables, maxNumber}
 use Rattle.words.specs.Bit.{bit}
-use Rattle.program.specs.Program.{Rule, ruleOf, termForm, divisorOf, variableIn, variablesAt}
+use Rattle.program.specs.Program.{Rule, ruleOf, termForm, divisorOf, variableIn, termIn, variablesAt}
 use Rattle.program.specs.Directions.{direction, isMixed, isRising}
 use Rattle.program.specs.Variables.{swaps, start, notPast, noMore}
 use Rattle.program.specs.Evaluate.{evaluate}
@@ -24,10 +24,14 @@ use Rattle.program.specs.declared.Direction.{Direction}
 use Rattle.program.specs.declared.Direction.the-variants.{Rising, Falling, Mixed}
 use Rattle.program.specs.declared.Given.{Given}
 use Rattle.program.specs.declared.Given.the-variants.{Nothing, Value}
+use Rattle.program.specs.declared.Term.{Term}
 use Rattle.program.specs.declared.Variable.{Variable}
 use Rattle.program.proofs.Conditions.{never}
 use Rattle.program.proofs.Gives.{enough-of, amount-size, given-is, plain-hold, evaluate-same}
 use Rattle.program.proofs.IdleRules.{demanding-one}
+use Rattle.positions.specs.Kinds.{directionOf, kindIn, KindsOf}
+use Rattle.positions.specs.declared.kinds.Kinds.{Kinds}
+use Rattle.positions.proofs.KindLaws.{position-directed}
 use Rattle.bodies.specs.Readings.{readingOf}
 use Rattle.idleness.specs.Most.{mostDeclared, Ready}
 
@@ -72,6 +76,18 @@ is-falling Rising m e = absurd (never refl e)
 is-falling Falling m e = refl
 is-falling Mixed m e = absurd (never refl m)
 
+-- and by the kind that is kept there
+pub rising-by : {k : ℕ} → k ≡ 1 → directionOf k ≡ Rising
+rising-by e = rw e
+
+pub falling-by : (k : ℕ) → (k ≡ 1 → ⊥) → isMixed (directionOf k) ≡ false → directionOf k ≡ Falling
+falling-by k h = go (eqb k 1) (eqb k 2) (ne-eqb k 1 h)
+  where
+    go : (a b : Bool) → a ≡ false → isMixed (cond a Rising (cond b Falling Mixed)) ≡ false → cond a Rising (cond b Falling Mixed) ≡ Falling
+    go true b e m = absurd (never refl e)
+    go false true e m = refl
+    go false false e m = absurd (never refl m)
+
 module _ (h : Variable) (d : Direction) (low high : ℤ) where
   pub demanding-rising : d ≡ Rising → high ≡ demanding h d low high
   unfolding demanding
@@ -90,6 +106,13 @@ module _ (vs : List Variable) (r : Rule) (i : ℕ) where
       → z ≡ demanding h d (x .low) (x .high) → z ≡ mostDeclared vs r i
   unfolding mostAt
   most-read o p q e = e ∙ rw (o, p, q)
+
+  -- a term, by the kinds of its rule
+  pub most-by-kind : {h : Variable} {k : Kinds} {t : Term} {x : Variable} → h ≡ variableIn vs (r .head) → KindsOf vs r k → t ≡ termIn (r .terms) i → x ≡ variableIn vs (t .variable)
+      → (ms : List ℤ) → set ms (t .variable) (demanding h (directionOf (kindIn (k .up) (k .down) t)) (x .low) (x .high)) ≡ set ms (bodyVariable r i) (mostDeclared vs r i)
+  most-by-kind o k p q ms =
+      let v = ap (λ (u : Term). u .variable) p in
+      ap₂ (set ms) v (most-read o (position-directed vs r i k p q refl) (q ∙ ap (variableIn vs) v) refl)
 
 -- a position's variable has a field and small ends
 module _ {s : List ℕ} {n : ℕ} {v : List ℕ} (p : Ready s n v) (i : ℕ) (l : i < length (ruleOf v .terms)) where

@@ -1,5 +1,6 @@
 // Whether a rule is idle: it gives nothing, or no more than its head's starting end, whatever values its variables have in their ranges.
 ghost use mathlib.Core.Path.{_≡_};
+ghost use mathlib.Core.Logic.{_≢_};
 ghost use Prim.Native.Nat.{ℕ, _<_, _≤_};
 ghost use lib.IntN.{natAbs};
 ghost use lib.ListN.{length, set};
@@ -10,6 +11,7 @@ ghost use Rattle.program.specs.Readings.{valued, bodyVariable};
 ghost use Rattle.program.specs.Evaluable.{Small};
 ghost use Rattle.program.specs.Idle.{furthest, nearest, demanding, isIdle};
 ghost use Rattle.positions.specs.Positions.{OpenedIs};
+ghost use Rattle.positions.specs.Kinds.{directionOf, kindIn};
 ghost use Rattle.idleness.specs.Most.{Ready, mostDeclared};
 use bodies::numbers;
 use evaluation::rules::gives;
@@ -19,10 +21,13 @@ use parts::terms;
 use parts::variables;
 use positions::Opened;
 use positions::directions;
+use positions::kinds;
+use positions::kinds::Kinds;
 use positions::open_rule;
 use positions::position_at;
 use program::Direction;
 use program::Given;
+use program::Term;
 use program::Variable;
 
 // Of the values from low to high one that is furthest from 0.
@@ -59,6 +64,17 @@ fn demanding(h: Variable, d: Direction, low: i64, high: i64) -> i64
     if d.is_rising() { high } else { low }
 }
 
+// That value, by the kind that is kept at the position.
+fn demanding_by(h: Variable, kind: u32, low: i64, high: i64) -> i64
+    requires { ⌜ (natAbs low ≤ maxNumber) × (natAbs high ≤ maxNumber) ⌝ }
+    ensures { λ r. ⌜ r ≡ demanding h (directionOf kind) low high ⌝ }
+{
+    if kinds::is_mixed(kind) {
+        return demanding(h, Direction::Mixed, low, high);
+    }
+    if kind == 1 { high } else { low }
+}
+
 // Sets the variable at position i of the rule in a field's value to the value of its range at which the rule
 // demands most.
 fn set_position(
@@ -83,8 +99,8 @@ fn set_position(
     values[v] = most;
 }
 
-// Sets every variable of the body so.
-fn set_most(
+// Sets every variable of the body so, in a rule of any form.
+fn set_by_direction(
     values: &mut [i64; Format::MAX_VARIABLES],
     file: &[u8],
     variables: usize,
@@ -104,6 +120,74 @@ fn set_most(
     while i < n {
         set_position(values, file, variables, value, rule, i);
         i += 1;
+    }
+}
+
+// Sets x, the variable of a term of a rule with the head h, so. The rule is of another form than 5.
+fn set_term(
+    values: &mut [i64; Format::MAX_VARIABLES],
+    h: Variable,
+    kinds: Kinds,
+    x: Variable,
+    t: Term,
+)
+    requires { ⌜ (natAbs (x .low) ≤ maxNumber) × (natAbs (x .high) ≤ maxNumber) × (length (now values) ≡ maxVariables) ⌝ }
+    ensures { λ _. ⌜ now (values .exit) ≡ set (now (values .entry)) (t .variable) (demanding h (directionOf (kindIn (kinds .up) (kinds .down) t)) (x .low) (x .high)) ⌝ }
+{
+    let kind = kinds::kind_of(kinds, t);
+    let most = demanding_by(h, kind, x.low, x.high);
+    let v = format::wide(t.variable);
+    values[v] = most;
+}
+
+// Sets every variable of the body so, in a rule of another form than 5, its kinds found once.
+fn set_by_kind(
+    values: &mut [i64; Format::MAX_VARIABLES],
+    file: &[u8],
+    variables: usize,
+    value: &[u8],
+    rule: Opened,
+)
+    requires { ⌜ Ready (now file) variables (now value) ⌝ }
+    requires { ⌜ OpenedIs (variablesAt (now file) variables) (ruleOf (now value)) rule ⌝ }
+    requires { ⌜ (rule .form ≢ 5) × (length (now values) ≡ maxVariables) × Small (now values) ⌝ }
+    ensures { λ _. ⌜ (length (now (values .exit)) ≡ maxVariables) × Small (now (values .exit)) ⌝ }
+    ensures { λ _. ⌜ ((i : ℕ) → i < length (ruleOf (now (value .entry)) .terms)
+        → valued (now (values .exit)) (bodyVariable (ruleOf (now (value .entry))) i)
+        ≡ mostDeclared (variablesAt (now (file .entry)) variables) (ruleOf (now (value .entry))) i) ⌝ }
+{
+    let kinds = kinds::kinds_of(rule.form, rule.variable);
+    let body = rules::body(value);
+    let n = rules::positions(value);
+    let mut i = 0;
+    while i < n {
+        let t = terms::term(body, i);
+        let x = variables::variable(file, t.variable);
+        set_term(values, rule.variable, kinds, x, t);
+        i += 1;
+    }
+}
+
+// Sets every variable of the body so.
+fn set_most(
+    values: &mut [i64; Format::MAX_VARIABLES],
+    file: &[u8],
+    variables: usize,
+    value: &[u8],
+    rule: Opened,
+)
+    requires { ⌜ Ready (now file) variables (now value) ⌝ }
+    requires { ⌜ OpenedIs (variablesAt (now file) variables) (ruleOf (now value)) rule ⌝ }
+    requires { ⌜ (length (now values) ≡ maxVariables) × Small (now values) ⌝ }
+    ensures { λ _. ⌜ (length (now (values .exit)) ≡ maxVariables) × Small (now (values .exit)) ⌝ }
+    ensures { λ _. ⌜ ((i : ℕ) → i < length (ruleOf (now (value .entry)) .terms)
+        → valued (now (values .exit)) (bodyVariable (ruleOf (now (value .entry))) i)
+        ≡ mostDeclared (variablesAt (now (file .entry)) variables) (ruleOf (now (value .entry))) i) ⌝ }
+{
+    if rule.form == 5 {
+        set_by_direction(values, file, variables, value, rule);
+    } else {
+        set_by_kind(values, file, variables, value, rule);
     }
 }
 

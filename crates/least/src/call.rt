@@ -17,8 +17,6 @@ use reduct::loading;
 use reduct::loading::Outside;
 use run::Ending;
 use solving::run;
-use tables::Tables;
-use tables::fill_tables;
 
 // What the call asks of its buffer.
 pub struct Asks {}
@@ -33,37 +31,7 @@ impl Asks {
     {}
 }
 
-// An assignment that lies in its ranges, with memory for the tables: the least model is written, or there is none.
-fn solve_in(
-    file: &[u8],
-    assignment: &[u8],
-    buffer: &mut [u8],
-    counts: Counts,
-    offsets: &mut [u16],
-    masks: &mut [u32],
-    values: &[i64; Format::MAX_VARIABLES],
-) -> Solved
-    requires { ⌜ AcceptedAs (now file) counts ⌝ }
-    requires { ⌜ (counts .rules ≤ length (now offsets)) × (counts .rules ≤ length (now masks)) ⌝ }
-    requires { ⌜ (length (now assignment) ≡ 2 * counts .variables) × (leastBytes * counts .variables ≤ length (now buffer)) ⌝ }
-    requires { ⌜ ((v : ℕ) → valued (now values) v ≡ assigned (now assignment) v) ⌝ }
-    requires { ⌜ ((P : Program) → Accepts (now file) P → AllInside P (assigned (now assignment))) ⌝ }
-    ensures { λ r. ⌜ LeastCall (now (file .entry)) (now (assignment .entry)) (now (buffer .entry)) (answerOf r) (now (buffer .exit)) ⌝ }
-{
-    let n = counts.variables;
-    let mut model = [0i64; Format::MAX_VARIABLES];
-    fill_tables(file, counts, offsets, masks);
-    let ending = run(file, counts, offsets, masks, values, &mut model);
-    match ending {
-        Ending::Model => {
-            write_values(&model, n, buffer);
-            Solved::Found
-        }
-        Ending::NoModel => Solved::Nothing,
-    }
-}
-
-// An assignment that lies in its ranges.
+// An assignment that lies in its ranges: the least model is written, or there is none.
 fn solve(
     file: &[u8],
     assignment: &[u8],
@@ -77,30 +45,16 @@ fn solve(
     requires { ⌜ ((P : Program) → Accepts (now file) P → AllInside P (assigned (now assignment))) ⌝ }
     ensures { λ r. ⌜ LeastCall (now (file .entry)) (now (assignment .entry)) (now (buffer .entry)) (answerOf r) (now (buffer .exit)) ⌝ }
 {
-    if counts.rules <= Tables::FEW {
-        let mut offsets = [0u16; Tables::FEW];
-        let mut masks = [0u32; Tables::FEW];
-        return solve_in(
-            file,
-            assignment,
-            buffer,
-            counts,
-            &mut offsets,
-            &mut masks,
-            values,
-        );
+    let n = counts.variables;
+    let mut model = [0i64; Format::MAX_VARIABLES];
+    let ending = run(file, counts, values, false, &mut model);
+    match ending {
+        Ending::Model => {
+            write_values(&model, n, buffer);
+            Solved::Found
+        }
+        Ending::NoModel => Solved::Nothing,
     }
-    let mut offsets = [0u16; Format::MAX_RULES];
-    let mut masks = [0u32; Format::MAX_RULES];
-    solve_in(
-        file,
-        assignment,
-        buffer,
-        counts,
-        &mut offsets,
-        &mut masks,
-        values,
-    )
 }
 
 // A call that is not turned down.

@@ -1,27 +1,20 @@
--- What a rule gives with lent ranges: where nothing that it keeps is raised it gives what it gave, never past its head's far end; and a single range is
--- read at its value.
-use Prim.Native.Nat.{ℕ}
+-- What a rule gives with lent ranges: nothing past its head's far end; and a single range is read at its value.
 use mathlib.Core.Path.{_≡_, subst}
-use mathlib.Core.Bool.{false}
 use mathlib.Core.List.{List}
 use lib.Dec.{T}
 use lib.IntN.{ℤ}
 use lib.Signed.{≤ℤ-refl}
 use Rattle.format.proofs.Int.{int}
-use Rattle.program.specs.Program.{Program, Rule, variableIn}
+use Rattle.program.specs.Program.{Rule, variableIn}
 use Rattle.program.specs.Variables.{far, notPast}
-use Rattle.program.specs.Evaluable.{Evaluable}
 use Rattle.program.specs.Readings.{Valuation}
-use Rattle.program.specs.Idle.{demanding, mostAt}
+use Rattle.program.specs.Idle.{demanding}
 use Rattle.program.specs.declared.Direction.{Direction}
 use Rattle.program.specs.declared.Given.the-variants.{Value}
 use Rattle.program.specs.declared.Variable.{Variable}
-use Rattle.program.proofs.Gives.{evaluate-same}
 use Rattle.program.proofs.IdleRules.{demanding-held}
 use Rattle.program.proofs.Monotone.{Under}
-use Rattle.meaning.specs.Reads.{readsKept}
-use Rattle.meaning.proofs.Steps.{Raised, same-kept}
-use Rattle.lent.specs.Lent.{lentIn, lentReading, lentGives}
+use Rattle.lent.specs.Lent.{lentIn, lentGives}
 use Rattle.lent.proofs.Fits.{lent-past, lent-far}
 use Rattle.lent.proofs.LentLaws.{headFar, lent-end}
 
@@ -36,11 +29,3 @@ lent-given-end vs low high r m a e =
     let h = r .head in
     rw (lent-past (variableIn vs h) (low h) (high h), lent-far (variableIn vs h) (low h) (high h))
     (subst (λ g. Under (variableIn vs h) g (Value (headFar vs low high r))) e (lent-end vs low high r m))
-
--- a rule that reads the raised variable at no kept position gives what it gave
-pub lent-same-given : (P : Program) (low high : Valuation) (r : Rule) (m m⁺ : Valuation) (h : ℕ) (a : ℤ) → Raised m m⁺ h a → readsKept P r h ≡ false → Evaluable r
-    → lentGives (P .variables) low high r m⁺ ≡ lentGives (P .variables) low high r m
-unfolding lentGives
-lent-same-given P low high r m m⁺ h a is e v =
-    let vs = P .variables in
-    rw (evaluate-same r (lentReading vs low high r m⁺) (lentReading vs low high r m) (λ i l. same-kept P r m m⁺ h a is e i l (mostAt vs r low high i)) v)

@@ -22,7 +22,7 @@ use Rattle.edges.specs.Edges.{Grown, anyMixed}
 use Rattle.validity.specs.Marks.{drawsBy, mixedRule, edgeIn, JudgedBy}
 use Rattle.validity.specs.declared.Outcome.{Outcome}
 use Rattle.validity.specs.declared.Outcome.the-variants.{Valid, Offending}
-use Rattle.validity.proofs.ComponentLaws.{draws-positions, test-offends, offends-test}
+use Rattle.validity.proofs.ComponentLaws.{Tells, draws-positions, last-tells, test-offends, offends-test}
 use Rattle.nested.specs.Nested.{trees, nested}
 use Rattle.nested.specs.Flatten.{addedRules, flatten}
 use Rattle.nested.specs.NestedReading.{NestedWhole}
@@ -119,9 +119,9 @@ module _ {s : List ℕ} {counts : Counts} {from variables : ℕ} {records : List
 
   -- ---- the answers
 
-  module _ {t : ℕ → ℕ → Bool} (last : AfterLast (edge P) t (length (P .variables))) where
+  module _ {t : ℕ → ℕ → Bool} (tells : Tells P t) where
     judged : (r : Outcome) → JudgedBy t part counts r → JudgesNested s (k .fields) r
-    judged Valid h = λ i o. let l = among-old o in offends-test (plain-promises k) last i (o .among) (sym (old-offence k i l t) ∙ h i l) o
+    judged Valid h = λ i o. let l = among-old o in offends-test (plain-promises k) tells i (o .among) (sym (old-offence k i l t) ∙ h i l) o
     judged (Offending at) f =
         let w = stood (f .rule) (f .among) in
         record {
@@ -130,9 +130,9 @@ module _ {s : List ℕ} {counts : Counts} {from variables : ℕ} {records : List
           before = w .before;
           is = w .is;
           first = record {
-            offends = test-offends (plain-promises k) last (f .rule) (old-among k (f .rule) (f .among)) (sym (old-offence k (f .rule) (f .among) t) ∙ f .offends);
+            offends = test-offends (plain-promises k) tells (f .rule) (old-among k (f .rule) (f .among)) (sym (old-offence k (f .rule) (f .among) t) ∙ f .offends);
             first = λ j l o. let b : j < counts .rules = let m = f .among in omega arith in
-                offends-test (plain-promises k) last j (o .among) (sym (old-offence k j b t) ∙ f .first j l) o;
+                offends-test (plain-promises k) tells j (o .among) (sym (old-offence k j b t) ∙ f .first j l) o;
           };
           placed = f .placed ∙ w .placed;
         }
@@ -146,7 +146,7 @@ module _ {s : List ℕ} {counts : Counts} {from variables : ℕ} {records : List
       → (n : ℕ) → NestedWhole s n → JudgesNested s n r
   outcome {t = t} {w′ = w′} r z g m h j n v =
       let last = subst (AfterLast (edge P) t) (k .many) (h .turn (edge P) (edges start)) in
-      subst (λ (i : ℕ). JudgesNested s i r) (whole-unique (k .whole) v) (judged last r j)
+      subst (λ (i : ℕ). JudgesNested s i r) (whole-unique (k .whole) v) (judged (last-tells (plain-promises k) last) r j)
     where
       start : (a b : ℕ) → a < variables → b < variables → rowHas w′ a b ≡ edge P a b
       start a b ha hb = let f = few k in marked z g m a b (omega arith) (omega arith)

@@ -8,5 +8,4 @@ pub mod LeastCall
 pub mod LeastDemands
 pub mod Unfounded
 pub mod Search
-pub mod Reads
 pub mod Narrowing

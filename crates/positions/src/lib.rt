@@ -11,6 +11,7 @@ use program::Direction;
 use program::Variable;
 
 pub mod directions;
+pub mod kinds;
 
 // What the positions of a rule have in common: its form, its head and the variable of its head.
 pub struct Opened {

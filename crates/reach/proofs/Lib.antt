@@ -3,3 +3,4 @@ pub mod Rounds
 pub mod StepLaws
 pub mod RowsDetermined
 pub mod StepDetermined
+pub mod ClosingLaws

@@ -1,15 +1,19 @@
 // A set for each variable, as rows of lent words, and what is reached over edges, round by round.
 use format::Format;
 use sets::Set;
+use words::Found;
 use words::Words;
+use words::drop_bit;
 ghost use mathlib.Core.Path.{_≡_};
-ghost use mathlib.Core.Bool.{true};
-ghost use Prim.Native.Nat.{_+_, _*_, _<_, _≤_};
+ghost use mathlib.Core.Bool.{true, _&&_};
+ghost use Prim.Native.Nat.{ℕ, _+_, _*_, _<_, _≤_};
+ghost use lib.Dec.{eqb};
 ghost use lib.ListN.{length};
 ghost use Rattle.format.specs.Limits.{maxVariables};
-ghost use Rattle.words.specs.Bit.{wordCount, one-if};
+ghost use Rattle.words.specs.Bit.{wordCount, has, one-if};
 ghost use Rattle.reach.specs.Rows.{rowsLength, rowHas, Marked, MarkedWhere, Joined};
 ghost use Rattle.reach.specs.Stepping.{Lent, TakenIn, Steps};
+ghost use Rattle.reach.specs.Closing.{Closed};
 ghost use Rattle.walks.specs.Walk.{Round, Rounds};
 
 pub struct Rows {}
@@ -118,5 +122,56 @@ pub fn close(sets: &mut [u64], variables: usize)
 {
     for k in 0..variables {
         step(sets, variables, k);
+    }
+}
+
+// What row x has of the variables that are left.
+fn row_left(rows: &[u64], x: usize, left: &[u64; Set::WORDS]) -> Set
+    requires { ⌜ (x < maxVariables) × (length (now left) ≡ wordCount) ⌝ }
+    requires { ⌜ wordCount * (x + 1) ≤ length (now rows) ⌝ }
+    ensures { λ r. ⌜ ((j : ℕ) → has (r .words) j ≡ (rowHas (now (rows .entry)) x j && has (now (left .entry)) j)) ⌝ }
+{
+    let p = Set::WORDS * x;
+    let a = rows[p] & left[0];
+    let b = rows[p + 1] & left[1];
+    let c = rows[p + 2] & left[2];
+    let d = rows[p + 3] & left[3];
+    Set {
+        words: [a, b, c, d],
+    }
+}
+
+// What x reaches over one edge or more: its row takes in the row of each variable that it has, until none of them is left.
+pub fn close_row(sets: &mut [u64], variables: usize, x: usize)
+    requires { ⌜ Lent (now sets) variables × (x < variables) ⌝ }
+    ensures { λ _. ⌜ length (now (sets .exit)) ≡ length (now (sets .entry)) ⌝ }
+    ensures { λ _. ⌜ Closed (rowHas (now (sets .entry))) (rowHas (now (sets .exit))) variables (λ a. eqb a x) ⌝ }
+{
+    let mut left = [u64::MAX; Set::WORDS];
+    loop {
+        let Found::At(m) = row_left(sets, x, &left).next(0) else {
+            return;
+        };
+        if variables <= m {
+            return;
+        }
+        drop_bit(&mut left, m);
+        join(sets, x, m);
+    }
+}
+
+// What each variable of the set reaches.
+pub fn close_rows(sets: &mut [u64], variables: usize, of: Set)
+    requires { ⌜ Lent (now sets) variables × ((v : ℕ) → has (of .words) v ≡ true → v < variables) ⌝ }
+    ensures { λ _. ⌜ length (now (sets .exit)) ≡ length (now (sets .entry)) ⌝ }
+    ensures { λ _. ⌜ Closed (rowHas (now (sets .entry))) (rowHas (now (sets .exit))) variables (has (of .words)) ⌝ }
+{
+    let mut from = 0;
+    loop {
+        let Found::At(x) = of.next(from) else {
+            return;
+        };
+        close_row(sets, variables, x);
+        from = x + 1;
     }
 }

@@ -2,4 +2,3 @@ pub mod Ranges
 pub mod Fills
 pub mod MaskLaws
 pub mod AssignedLaws
-pub mod KindLaws

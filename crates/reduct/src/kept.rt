@@ -8,14 +8,14 @@ ghost use Rattle.program.specs.Program.{ruleOf, variablesAt};
 ghost use Rattle.program.specs.Readings.{kept};
 ghost use Rattle.parts.specs.Values.{Standing};
 ghost use Rattle.positions.specs.Positions.{OpenedIs};
+ghost use Rattle.positions.specs.Kinds.{KindsOf};
 ghost use Rattle.reduct.specs.Masks.{Mask};
-ghost use Rattle.reduct.specs.Kinds.{KindsOf};
-use crate::kinds;
-use crate::kinds::Kinds;
 use parts::rules;
 use parts::terms;
 use parts::variables;
 use positions::Opened;
+use positions::kinds;
+use positions::kinds::Kinds;
 use positions::open_rule;
 use positions::position_at;
 

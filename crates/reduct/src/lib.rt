@@ -1,4 +1,3 @@
 // The reduct, from the bytes of a file: which positions are kept, and the values.
 pub mod kept;
-mod kinds;
 pub mod loading;

@@ -30,7 +30,7 @@ use Rattle.meaning.specs.Reduct.{Reckoning, reduct}
 use Rattle.meaning.proofs.Narrowing.{narrows-past}
 use Rattle.meaning.proofs.Steps.{Raised}
 use Rattle.tables.specs.Tabled.{MaskOf, readAt}
-use Rattle.tables.specs.Laid.{RuleAt, Stands}
+use Rattle.tables.specs.Laid.{RuleAt}
 use Rattle.run.specs.Running.{headOf, RuleStands, SomeRule, freeBit, stopped, foundBy, demandOf, LookedAt, Demanded, AsAssigned, Reckons}
 use Rattle.run.specs.declared.Demand.{Demand}
 use Rattle.run.specs.declared.Demand.the-variants.{More, Enough}
@@ -48,9 +48,6 @@ given-as P r mask m θ e k =
 -- a rule in the tables of the reduct stands at its place
 pub at-stands : {s : List ℕ} {P : Program} {i at mask : ℕ} → RuleAt s P i at mask → RuleStands s P i at
 at-stands h = record { accepts = h .accepts; among = h .among; placed = h .placed }
-
-pub some-stands : {s : List ℕ} {at mask : ℕ} → Stands s at mask → SomeRule s at
-some-stands h = record { program = h .program; rule = h .rule; here = at-stands (h .here) }
 
 -- at a place that is the same
 pub stands-at : {s : List ℕ} {P : Program} {i at at′ : ℕ} → at ≡ at′ → RuleStands s P i at′ → RuleStands s P i at
@@ -169,9 +166,6 @@ module _ {s : List ℕ} {P : Program} {i at mask : ℕ} (h : RuleAt s P i at mas
   found-reduct =
       sym (unstopped (variableIn (P .variables) (headOf P i)) (valued stops (headOf P i)) mask (evaluate (ruleIn (P .rules) i) (readingOf mask m θ (ruleIn (P .rules) i .terms)))
       ∙ given-as P (ruleIn (P .rules) i) mask m θ (rw (lies (at-stands h) .is) (lies (at-stands h) .evaluable)) (h .masked))
-
-  pub looked-reduct : {d : Demand} → LookedAt P mask false stops θ m i d → Demanded P (reduct P) (valued θ) (valued m) i d
-  looked-reduct = looked-demanded P (reduct P) (valued θ) mask false stops θ m i (λ a b. refl) found-reduct
 
 -- ---- the ways of the tests
 

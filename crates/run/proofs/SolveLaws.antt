@@ -4,16 +4,19 @@ use mathlib.Core.Path.{_≡_, refl, sym, ap, ap₂, _∙_, subst}
 use mathlib.Core.Logic.{inl}
 use mathlib.Core.Bool.{Bool, true, false, not, _||_, true≢false}
 use mathlib.Core.List.{List}
-use native.Mathlib.Nat.{add-sub-cancel-left}
-use native.Mathlib.Decide.{ℕ-discrete}
+use native.Mathlib.Nat.{add-sub-cancel-left, zero-add}
+use native.Mathlib.Decide.{ℕ-discrete, decLt}
 use native.Mathlib.Omega.{arith}
 use lib.Dec.{T, ltb}
 use lib.IntN.{ℤ}
-use lib.ListN.{length, getD, take, drop}
+use lib.ListN.{length, getD, take, drop, List·getD-eq-default}
 use lib.Seq.{getD-drop, getD-take}
+use lib.Bits.{bitOr, or-zero-r}
 use borrow.Author.Tests.{ltb-true, lt-ltb}
 use Rattle.format.specs.Limits.{maxVariables, maxRules}
 use Rattle.words.specs.Bit.{wordBits, bit, has}
+use Rattle.words.proofs.Bits.{bit-or}
+use Rattle.words.proofs.Joins.{Taken}
 use Rattle.program.specs.Program.{Program, variableIn, variablesAt, ruleIn, ruleOf}
 use Rattle.program.specs.Fields.{valueAt}
 use Rattle.program.specs.Variables.{far, notPast, started}
@@ -60,6 +63,32 @@ pub joined-row : (readers : List ℕ) (x start : ℕ) (new old : ℕ → Bool) �
     → (i : ℕ) → i < maxRules → new i ≡ (old i || has readers (maxRules * x + i))
 joined-row readers x start new old e h i l =
     h i ∙ ap (λ (b : Bool). old i || b) (rw (add-sub-cancel-left start rowWords, e) (row-bit readers x i l))
+
+-- the part of a row up to the list's end
+pub joined-rest : (vs us ws : List ℕ) (start t : ℕ) → length us ≤ start + t → Taken vs us ws 0 start t → (i : ℕ) → has ws i ≡ (has vs i || has us (wordBits * start + i))
+unfolding has
+joined-rest vs us ws start t all s i =
+    ap (λ (w : ℕ). bit w (i % wordBits)) (joined (i / wordBits) (decLt (i / wordBits) t))
+    ∙ bit-or (getD vs (i / wordBits) 0) (getD us (start + i / wordBits) 0) (i % wordBits)
+    ∙ ap₂ (λ (k j : ℕ). bit (getD vs (i / wordBits) 0) (i % wordBits) || bit (getD us k 0) j) word in-word
+  where
+    joined : (m : ℕ) → Dec (m < t) → getD ws m 0 ≡ bitOr (getD vs m 0) (getD us (start + m) 0)
+    joined m (yes l) = simp zero-add at (s .within m l)
+    joined m (no f) = s .above m (omega arith) ∙ sym (ap (bitOr (getD vs m 0)) (List·getD-eq-default us 0 (omega arith)) ∙ or-zero-r (getD vs m 0))
+
+    word : start + i / wordBits ≡ (wordBits * start + i) / wordBits
+    word = omega arith
+
+    in-word : i % wordBits ≡ (wordBits * start + i) % wordBits
+    in-word = omega arith
+
+-- it is the row of x
+pub rest-row : (readers : List ℕ) (x start : ℕ) (new old : ℕ → Bool) → start ≡ rowWords * x → ((i : ℕ) → new i ≡ (old i || has readers (wordBits * start + i)))
+    → (i : ℕ) → i < maxRules → new i ≡ (old i || has readers (maxRules * x + i))
+rest-row readers x start new old e h i l = h i ∙ ap (λ (n : ℕ). old i || has readers n) place
+  where
+    place : wordBits * start + i ≡ maxRules * x + i
+    place = omega arith
 
 -- ---- what a raise answers
 

@@ -3,7 +3,6 @@ use Prim.Native.Nat.{ℕ, _<_, _≤_}
 use mathlib.Core.Path.{_≡_, refl, sym, ap, subst, _∙_}
 use mathlib.Core.Bool.{Bool, true, false, _||_}
 use mathlib.Core.List.{List}
-use native.Mathlib.Omega.{arith}
 use lib.Dec.{ltb}
 use lib.IntN.{ℤ}
 use lib.ListN.{length, getD}
@@ -15,20 +14,16 @@ use Rattle.program.specs.Readings.{Valuation, valued}
 use Rattle.program.specs.declared.Counts.{Counts}
 use Rattle.program.specs.declared.Variable.{Variable}
 use Rattle.reader.specs.Parts.{rulePlace}
-use Rattle.reader.proofs.Published.{reads-accepts, accepts-unique, counts-of, variables-are}
+use Rattle.reader.proofs.Published.{accepts-unique, counts-of, variables-are}
 use Rattle.meaning.specs.Founded.{Within}
 use Rattle.meaning.specs.Reduct.{Reckoning, reduct, system}
-use Rattle.meaning.specs.Stable.{RuleMet}
 use Rattle.meaning.proofs.Monotone.{laws}
-use Rattle.meaning.proofs.Theory.{self-model}
-use Rattle.program.proofs.Promises.{accepts-promises}
 use Rattle.tables.specs.Tabled.{ReadersAre}
 use Rattle.tables.specs.Laid.{Laid, OffsetsOf, SameBelow}
 use Rattle.reduct.specs.Filling.{Filled, starting}
 use Rattle.reduct.proofs.Ranges.{started-whole}
-use Rattle.run.specs.Running.{Basis, FullMet, SomeBasis, Underway, Running}
+use Rattle.run.specs.Running.{Basis, Underway, Running}
 use Rattle.run.proofs.SolveLaws.{reduct-basis, way-start, run-start}
-use Rattle.run.proofs.SweepLaws.{model-full}
 
 module _ (s : List ℕ) (k : Counts) (r : AcceptedAs s k) where
   -- the first values, for a program that the file means
@@ -87,19 +82,3 @@ way-offsets {s} {os = os} u Q x =
 module _ {s : List ℕ} {k : Counts} {os ms : List ℕ} (l : Laid s k os ms) (θ stops : List ℤ) (w : (Q : Program) → Accepts s Q → Within (system Q) (valued θ)) where
   pub reduct-bases : (P : Program) → Accepts s P → Basis s P (reduct P) (valued θ) os ms θ stops false
   reduct-bases P a = reduct-basis (l .placed P a) θ stops (w P a)
-
-  pub some-basis : (full : Bool) → ((P : Program) → Accepts s P → FullMet P (reduct P) (valued θ) stops full) → SomeBasis s (valued θ) os ms θ stops false full
-  some-basis full f =
-      let x = reads-accepts (l .accepted) in
-      record {
-        program = x .meant;
-        reckoning = reduct (x .meant);
-        basis = reduct-bases (x .meant) (x .accepts);
-        full-met = f (x .meant) (x .accepts);
-        reach = record { offsets-reach = omega (arith, x .rules-are, l .offsets-reach); masks-reach = omega (arith, x .rules-are, l .masks-reach) };
-      }
-
--- where the assignment meets every rule, a head that has its assigned value is full
-pub reduct-full : {s : List ℕ} (θ : List ℤ) (full : Bool) → ((Q : Program) → Accepts s Q → Within (system Q) (valued θ))
-    → (full ≡ true → (Q : Program) → Accepts s Q → (i : ℕ) → i < length (Q .rules) → RuleMet Q (valued θ) i) → (P : Program) → Accepts s P → FullMet P (reduct P) (valued θ) θ full
-reduct-full θ full w h P a = model-full full (laws (accepts-promises a)) (λ t. self-model (w P a) (h t P a))

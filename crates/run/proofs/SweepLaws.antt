@@ -22,11 +22,10 @@ use Rattle.program.specs.declared.Variable.{Variable}
 use Rattle.program.proofs.Tests.{cases}
 use Rattle.program.proofs.Variables.{past-refl}
 use Rattle.bodies.specs.Readings.{readingOf}
-use Rattle.meaning.specs.Founded.{Model, Least}
+use Rattle.meaning.specs.Founded.{Least}
 use Rattle.meaning.specs.Reduct.{Reckoning, reckoned}
-use Rattle.meaning.proofs.Laws.{Laws}
 use Rattle.meaning.proofs.Narrowing.{narrows-past}
-use Rattle.meaning.proofs.Theory.{Progress, under-given}
+use Rattle.meaning.proofs.Theory.{Progress}
 use Rattle.run.specs.Running.{headOf, RuleMetIn, RuleStands, SomeRule, freeBit, stopped, foundBy, LookedAt, Demanded, Exceeds, Stored, Basis, Underway}
 use Rattle.run.specs.Running.{FullMet, Sweepable, SomeSweepable, EndsWith, Swept, SweepIs, SweepingIs}
 use Rattle.run.specs.declared.Demand.{Demand}
@@ -190,7 +189,3 @@ cut-full {s} {P} {R} {θ} {offsets} {masks} {others} {stops} full b = record {
       (same-no-more (R .variable h) x (foundBy P (getD masks i 0) true stops others m i) (valued stops h) (narrows-past (b .reckons .narrows) h)
       (no-more-stopped x (valued stops h) (getD masks i 0) (evaluate (ruleIn (P .rules) i) (readingOf (getD masks i 0) m others (ruleIn (P .rules) i .terms)))));
 }
-
--- the assignment is a model of the reduct, which the values never pass
-pub model-full : {P : Program} {R : Reckoning} {θ : List ℤ} (full : Bool) → Laws (reckoned P R) → (full ≡ true → Model (reckoned P R) (valued θ) (valued θ)) → FullMet P R (valued θ) θ full
-model-full {θ = θ} full laws k = record { met = λ t i l m p e. rw e (under-given laws (k t .within) p i l (valued θ) (k t)) }

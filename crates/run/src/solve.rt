@@ -1,10 +1,10 @@
 // The least model, reached by raising one head after the other.
 ghost use mathlib.Core.Path.{_≡_};
 ghost use mathlib.Core.Bool.{_||_};
-ghost use Prim.Native.Nat.{ℕ, _+_, _*_, _<_};
+ghost use Prim.Native.Nat.{ℕ, _+_, _*_, _<_, _≤_};
 ghost use lib.ListN.{length};
 ghost use Rattle.format.specs.Limits.{maxVariables, maxRules};
-ghost use Rattle.words.specs.Bit.{has};
+ghost use Rattle.words.specs.Bit.{wordBits, has};
 ghost use Rattle.program.specs.Program.{Program};
 ghost use Rattle.meaning.specs.Reduct.{Reckoning};
 ghost use Rattle.run.specs.Running.{Lifted, Running, SomeRun, EndsWith};
@@ -19,22 +19,41 @@ use parts::variables;
 use program::Variable;
 use tables::Tables;
 
-// The set takes in the readers of x.
+// The set takes in the words from `start` to the list's end, which are not more than its own.
+fn join_rest(waiting: &mut [u64; Tables::ROW], readers: &[u64], start: usize)
+    requires { ⌜ length (now waiting) ≡ rowWords ⌝ }
+    requires { ⌜ (start ≤ readersWords) × (length (now readers) ≤ start + rowWords) ⌝ }
+    ensures { λ _. ⌜ length (now (waiting .exit)) ≡ rowWords ⌝ }
+    ensures { λ _. ⌜ ((i : ℕ) → has (now (waiting .exit)) i ≡ (has (now (waiting .entry)) i || has (now (readers .entry)) (wordBits * start + i))) ⌝ }
+{
+    let n = readers.len();
+    let mut t = 0;
+    while start + t < n {
+        let w = readers[start + t];
+        waiting[t] = waiting[t] | w;
+        t += 1;
+    }
+}
+
+// The set takes in the readers of x: a row, or the part of one, past the list's end has none.
 pub fn join_readers(waiting: &mut [u64; Tables::ROW], readers: &[u64], x: usize)
     requires { ⌜ length (now waiting) ≡ rowWords ⌝ }
-    requires { ⌜ length (now readers) ≡ readersWords ⌝ }
     requires { ⌜ x < maxVariables ⌝ }
     ensures { λ _. ⌜ length (now (waiting .exit)) ≡ rowWords ⌝ }
     ensures { λ _. ⌜ ((i : ℕ) → i < maxRules → has (now (waiting .exit)) i ≡ (has (now (waiting .entry)) i || has (now (readers .entry)) (maxRules * x + i))) ⌝ }
 {
     let start = x * Tables::ROW;
+    if readers.len() < start + Tables::ROW {
+        join_rest(waiting, readers, start);
+        return;
+    }
     words::join_bits(waiting, &readers[start..start + Tables::ROW]);
 }
 
 // The head, whose variable is x, gets the value a, and its readers join the set; or a is past its far end, and nothing changes.
 pub fn raise(
     x: Variable,
-    readers: &[u64; Tables::READERS],
+    readers: &[u64],
     head: u8,
     a: i64,
     model: &mut [i64; Format::MAX_VARIABLES],
@@ -59,7 +78,7 @@ pub fn solve(
     file: &[u8],
     offsets: &[u16; Format::MAX_RULES],
     masks: &[u32; Format::MAX_RULES],
-    readers: &[u64; Tables::READERS],
+    readers: &[u64],
     model: &mut [i64; Format::MAX_VARIABLES],
     others: &[i64; Format::MAX_VARIABLES],
     stops: &[i64; Format::MAX_VARIABLES],

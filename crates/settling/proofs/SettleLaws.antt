@@ -1,6 +1,6 @@
 -- Values on the way: the rules stand in the tables.
-use Prim.Native.Nat.{ℕ, _<_}
-use mathlib.Core.Path.{sym, subst}
+use Prim.Native.Nat.{ℕ, _*_, _<_, _≤_}
+use mathlib.Core.Path.{_≡_, sym, subst}
 use mathlib.Core.Bool.{Bool}
 use mathlib.Core.List.{List}
 use native.Mathlib.Omega.{arith}
@@ -12,6 +12,7 @@ use Rattle.program.specs.Readings.{Valuation}
 use Rattle.program.specs.declared.Counts.{Counts}
 use Rattle.reader.proofs.Published.{counts-of}
 use Rattle.meaning.specs.Reduct.{Reckoning}
+use Rattle.tables.specs.Tabled.{rowWords}
 use Rattle.tables.specs.Laid.{SameBelow}
 use Rattle.run.specs.Running.{Underway, SomeWay}
 use Rattle.run.proofs.StartLaws.{way-same}
@@ -34,3 +35,7 @@ module _ {s os ms : List ℕ} {others stops : List ℤ} {cut : Bool} {m : List �
 
   pub some-way-copied : SomeWay s os ms others stops cut m → SomeWay s os′ ms′ others stops cut m
   some-way-copied w = record { program = w .program; reckoning = w .reckoning; assigned = w .assigned; way = way-copied (w .way) }
+
+-- a table of k rows has those of the first n variables
+pub rows-in : (k : ℕ) {n words : ℕ} → n ≤ k → words ≡ k * rowWords → rowWords * n ≤ words
+rows-in k h e = omega arith

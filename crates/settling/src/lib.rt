@@ -1,12 +1,15 @@
 // From values on the way to the least model: components in order, laps and leaps, and then whatever still waits.
 ghost use mathlib.Core.Path.{_≡_};
-ghost use Prim.Native.Nat.{_≤_};
+ghost use mathlib.Core.Bool.{false};
+ghost use Prim.Native.Nat.{ℕ, _*_, _≤_};
 ghost use lib.ListN.{length};
 ghost use Rattle.format.specs.Limits.{maxVariables};
+ghost use Rattle.words.specs.Bit.{has};
 ghost use Rattle.program.specs.Program.{Program};
 ghost use Rattle.program.specs.Reading.{AcceptedAs};
 ghost use Rattle.program.specs.Readings.{Valuation, valued};
 ghost use Rattle.meaning.specs.Reduct.{Reckoning};
+ghost use Rattle.tables.specs.Tabled.{rowWords};
 ghost use Rattle.run.specs.Running.{Underway, SomeWay, EndsWith};
 use format::Format;
 use guess::live::keep_live;
@@ -21,8 +24,135 @@ use tables::Tables;
 use tables::copy_tables;
 use tables::fill_readers;
 
-// From values on the way to the least model, by this order: every rule waits, components come one after the other, and what still waits then is looked at from the
-// lowest rule on.
+// From values on the way to the least model, by this order and with these readers, empty yet: every rule waits, components come one after the other, and what still
+// waits then is looked at from the lowest rule on.
+fn settle_with(
+    file: &[u8],
+    counts: Counts,
+    offsets: &[u16; Format::MAX_RULES],
+    masks: &[u32; Format::MAX_RULES],
+    model: &mut [i64; Format::MAX_VARIABLES],
+    others: &[i64; Format::MAX_VARIABLES],
+    stops: &[i64; Format::MAX_VARIABLES],
+    cut: bool,
+    order: &[u16; Format::MAX_RULES],
+    ends: &[u16; Format::MAX_VARIABLES],
+    list: &[u8; Format::MAX_VARIABLES],
+    lasts: &[u16; Format::MAX_VARIABLES],
+    parts: usize,
+    readers: &mut [u64],
+) -> Ending
+    requires { ⌜ AcceptedAs (now file) counts ⌝ }
+    requires { ⌜ SomeWay (now file) (now offsets) (now masks) (now others) (now stops) cut (now model) ⌝ }
+    requires { ⌜ length (now model) ≡ maxVariables ⌝ }
+    requires { ⌜ rowWords * counts .variables ≤ length (now readers) ⌝ }
+    requires { ⌜ ((n : ℕ) → has (now readers) n ≡ false) ⌝ }
+    ensures { λ _. ⌜ length (now (model .exit)) ≡ maxVariables ⌝ }
+    ensures { λ r. ⌜ ((P : Program) (R : Reckoning) (θ : Valuation)
+        → Underway (now (file .entry)) P R θ (now (offsets .entry)) (now (masks .entry)) (now (others .entry)) (now (stops .entry)) cut (now (model .entry))
+        → EndsWith P R θ (valued (now (model .exit))) r) ⌝ }
+{
+    let rules = counts.rules;
+    let mut waiting = [0u64; Tables::ROW];
+    fill_readers(file, counts, offsets, masks, readers);
+    words::fill_bits(&mut waiting, rules);
+    let lapped = hasten(
+        file,
+        counts,
+        offsets,
+        masks,
+        readers,
+        model,
+        others,
+        stops,
+        cut,
+        &mut waiting,
+        order,
+        ends,
+        list,
+        lasts,
+        parts,
+    );
+    if let Lapped::NoModel = lapped {
+        return Ending::NoModel;
+    }
+    solve(
+        file,
+        offsets,
+        masks,
+        readers,
+        model,
+        others,
+        stops,
+        cut,
+        &mut waiting,
+    )
+}
+
+// The same, the readers of a file of more than a few variables made by size.
+fn settle_wide(
+    file: &[u8],
+    counts: Counts,
+    offsets: &[u16; Format::MAX_RULES],
+    masks: &[u32; Format::MAX_RULES],
+    model: &mut [i64; Format::MAX_VARIABLES],
+    others: &[i64; Format::MAX_VARIABLES],
+    stops: &[i64; Format::MAX_VARIABLES],
+    cut: bool,
+    order: &[u16; Format::MAX_RULES],
+    ends: &[u16; Format::MAX_VARIABLES],
+    list: &[u8; Format::MAX_VARIABLES],
+    lasts: &[u16; Format::MAX_VARIABLES],
+    parts: usize,
+) -> Ending
+    requires { ⌜ AcceptedAs (now file) counts ⌝ }
+    requires { ⌜ SomeWay (now file) (now offsets) (now masks) (now others) (now stops) cut (now model) ⌝ }
+    requires { ⌜ length (now model) ≡ maxVariables ⌝ }
+    ensures { λ _. ⌜ length (now (model .exit)) ≡ maxVariables ⌝ }
+    ensures { λ r. ⌜ ((P : Program) (R : Reckoning) (θ : Valuation)
+        → Underway (now (file .entry)) P R θ (now (offsets .entry)) (now (masks .entry)) (now (others .entry)) (now (stops .entry)) cut (now (model .entry))
+        → EndsWith P R θ (valued (now (model .exit))) r) ⌝ }
+{
+    let n = counts.variables;
+    if n <= Tables::MIDDLE {
+        let mut readers = [0u64; Tables::MIDDLE * Tables::ROW];
+        return settle_with(
+            file,
+            counts,
+            offsets,
+            masks,
+            model,
+            others,
+            stops,
+            cut,
+            order,
+            ends,
+            list,
+            lasts,
+            parts,
+            &mut readers,
+        );
+    }
+    let mut readers = [0u64; Tables::READERS];
+    settle_with(
+        file,
+        counts,
+        offsets,
+        masks,
+        model,
+        others,
+        stops,
+        cut,
+        order,
+        ends,
+        list,
+        lasts,
+        parts,
+        &mut readers,
+    )
+}
+
+// The same, the readers made by size.
 fn settle_by(
     file: &[u8],
     counts: Counts,
@@ -46,46 +176,45 @@ fn settle_by(
         → Underway (now (file .entry)) P R θ (now (offsets .entry)) (now (masks .entry)) (now (others .entry)) (now (stops .entry)) cut (now (model .entry))
         → EndsWith P R θ (valued (now (model .exit))) r) ⌝ }
 {
-    let rules = counts.rules;
-    let mut readers = [0u64; Tables::READERS];
-    let mut waiting = [0u64; Tables::ROW];
-    fill_readers(file, counts, offsets, masks, &mut readers);
-    words::fill_bits(&mut waiting, rules);
-    let lapped = hasten(
+    let n = counts.variables;
+    if n <= Tables::NARROW {
+        let mut readers = [0u64; Tables::NARROW * Tables::ROW];
+        return settle_with(
+            file,
+            counts,
+            offsets,
+            masks,
+            model,
+            others,
+            stops,
+            cut,
+            order,
+            ends,
+            list,
+            lasts,
+            parts,
+            &mut readers,
+        );
+    }
+    settle_wide(
         file,
         counts,
         offsets,
         masks,
-        &readers,
         model,
         others,
         stops,
         cut,
-        &mut waiting,
         order,
         ends,
         list,
         lasts,
         parts,
-    );
-    if let Lapped::NoModel = lapped {
-        return Ending::NoModel;
-    }
-    solve(
-        file,
-        offsets,
-        masks,
-        &readers,
-        model,
-        others,
-        stops,
-        cut,
-        &mut waiting,
     )
 }
 
 // From values on the way to the least model.
-fn settle(
+pub fn settle(
     file: &[u8],
     counts: Counts,
     offsets: &[u16; Format::MAX_RULES],

@@ -10,12 +10,9 @@ use Rattle.format.specs.Limits.{maxRules}
 use Rattle.program.specs.Reading.{AcceptedAs}
 use Rattle.program.specs.declared.Counts.{Counts}
 use Rattle.tables.specs.Entries.{RuleHere}
-use Rattle.tables.specs.Laid.{Laid, OffsetsOf, SameBelow}
+use Rattle.tables.specs.Laid.{OffsetsOf, SameBelow}
 use Rattle.tables.proofs.TableLaws.{here}
 use Rattle.reader.proofs.Published.{reads-accepts, limited}
-
-pub offsets-of : {s : List ℕ} {k : Counts} {os ms : List ℕ} → Laid s k os ms → OffsetsOf s os
-offsets-of l P x i h = l .placed P x .stands i h .placed
 
 -- each rule stands where the table says
 module _ (s offsets : List ℕ) (k : Counts) (r : AcceptedAs s k) (l : OffsetsOf s offsets) where

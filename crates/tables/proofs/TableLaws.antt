@@ -14,8 +14,8 @@ use Rattle.words.specs.Bit.{has}
 use Rattle.program.specs.Fields.{valueAt, nextAt}
 use Rattle.program.specs.Program.{Program, Rule, ruleOf, ruleIn, variablesAt}
 use Rattle.program.specs.Reading.{Reads, accepted, whole, Accepts}
-use Rattle.reader.specs.Parts.{rulePlace, constraintPlace}
-use Rattle.reader.proofs.Published.{counts-of, variables-are, rule-lies, next-rule, first-constraint}
+use Rattle.reader.specs.Parts.{rulePlace}
+use Rattle.reader.proofs.Published.{counts-of, variables-are, rule-lies, next-rule}
 use Rattle.reduct.specs.Masks.{Mask}
 use Rattle.tables.specs.Tabled.{readAt, Entered, MaskOf, ReadersAre}
 use Rattle.tables.specs.Entries.{RuleHere, EntryMade}
@@ -70,9 +70,6 @@ module _ {s : List ℕ} {v m c : ℕ} (r : Reads s (accepted v m c)) {P : Progra
 
     pub placed-all : {os ms : List ℕ} → FirstPlaced s P i os ms → Placed s P os ms
     placed-all t = record { accepts = a; stands = rw every at t }
-
-    pub place-after : {at : ℕ} → at ≡ rulePlace s P i → at ≡ constraintPlace s P 0
-    place-after e = e ∙ ap (rulePlace s P) every ∙ sym (first-constraint s P)
 
 -- ---- one rule, from the value of its field
 

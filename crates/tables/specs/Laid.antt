@@ -16,12 +16,6 @@ pub record RuleAt (s : List ℕ) (P : Program) (i at mask : ℕ) : Type 0 where
   pub placed : at ≡ rulePlace s P i
   pub masked : MaskOf P (ruleIn (P .rules) i) mask
 
--- some rule of the file stands there
-pub record Stands (s : List ℕ) (at mask : ℕ) : Type 0 where
-  pub program : Program
-  pub rule : ℕ
-  pub here : RuleAt s program rule at mask
-
 -- the tables have the place and the mask of each of the first n rules
 abbrev pub FirstPlaced : List ℕ → Program → ℕ → List ℕ → List ℕ → Type 0
 FirstPlaced s P n offsets masks = (i : ℕ) → i < n → RuleAt s P i (getD offsets i 0) (getD masks i 0)

@@ -1,5 +1,5 @@
 -- What the tables of a run say: which positions of a rule are kept, and which rules read a variable.
-use Prim.Native.Nat.{ℕ, _+_, _*_, _/_, _<_}
+use Prim.Native.Nat.{ℕ, _+_, _*_, _/_, _<_, _≤_}
 use mathlib.Core.Path.{_≡_}
 use mathlib.Core.Bool.{Bool, _&&_, _||_}
 use mathlib.Core.List.{List}
@@ -17,6 +17,20 @@ rowWords = maxRules / wordBits
 
 abbrev pub readersWords : ℕ
 readersWords = maxVariables * rowWords
+
+-- the most variables of a short, and of a middling, table of readers
+abbrev pub narrowVariables : ℕ
+narrowVariables = 16
+
+abbrev pub middleVariables : ℕ
+middleVariables = 64
+
+-- the row of x lies in so many words; the rows of the variables that the rule reads do
+abbrev pub RowIn : ℕ → ℕ → Type 0
+RowIn words x = rowWords * x + rowWords ≤ words
+
+abbrev pub RowsIn : ℕ → Rule → Type 0
+RowsIn words r = (j : ℕ) → j < length (r .terms) → RowIn words (bodyVariable r j)
 
 -- some position of the rule whose bit is set has the variable x
 unfoldable pub readAt : Rule → ℕ → ℕ → Bool

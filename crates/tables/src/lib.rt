@@ -1,7 +1,7 @@
 // The tables of a run: where each rule stands and which of its positions are kept; and which rules read a variable.
 ghost use mathlib.Core.Path.{_≡_};
 ghost use mathlib.Core.Bool.{_&&_, false};
-ghost use Prim.Native.Nat.{ℕ, _<_, _≤_};
+ghost use Prim.Native.Nat.{ℕ, _*_, _<_, _≤_};
 ghost use lib.Dec.{eqb};
 ghost use lib.ListN.{length, getD, set};
 ghost use Rattle.format.specs.Limits.{maxFile, maxRules, maxTerms};
@@ -10,8 +10,7 @@ ghost use Rattle.program.specs.Program.{Program, ruleOf};
 ghost use Rattle.program.specs.Readings.{bodyVariable};
 ghost use Rattle.parts.specs.Values.{ruleHeader};
 ghost use Rattle.program.specs.Reading.{AcceptedAs, Accepts};
-ghost use Rattle.reader.specs.Parts.{constraintPlace};
-ghost use Rattle.tables.specs.Tabled.{rowWords, readersWords, readAt, Entered, ReadersAre};
+ghost use Rattle.tables.specs.Tabled.{rowWords, readersWords, narrowVariables, middleVariables, readAt, RowIn, RowsIn, Entered, ReadersAre};
 ghost use Rattle.tables.specs.Entries.{RuleHere, EntryMade};
 ghost use Rattle.tables.specs.Laid.{OffsetsOf, SameBelow, Laid};
 use format::Format;
@@ -34,15 +33,23 @@ impl Tables {
     // The words of a set of rules for each variable.
     pub const READERS: usize = Format::MAX_VARIABLES * Tables::ROW;
 
+    // Files of no more variables have a short table of readers.
+    pub const NARROW: usize = 16;
+
+    // Files of no more variables have a middling one.
+    pub const MIDDLE: usize = 64;
+
     // The constants of the code are those of the specification.
     pub fn quoted()
         ensures { λ _. do ⌜ (← ⟦Tables::ROW⟧ .entry) ≡ rowWords ⌝ }
         ensures { λ _. do ⌜ (← ⟦Tables::READERS⟧ .entry) ≡ readersWords ⌝ }
+        ensures { λ _. do ⌜ (← ⟦Tables::NARROW⟧ .entry) ≡ narrowVariables ⌝ }
+        ensures { λ _. do ⌜ (← ⟦Tables::MIDDLE⟧ .entry) ≡ middleVariables ⌝ }
     {}
 }
 
 // A place in a file fits in two bytes.
-fn narrow(at: usize) -> u16
+pub fn narrow(at: usize) -> u16
     requires { ⌜ at ≤ maxFile ⌝ }
     ensures { λ r. ⌜ r ≡ at ⌝ }
 {
@@ -80,10 +87,10 @@ pub fn place_of(offsets: &[u16; Format::MAX_RULES], i: usize) -> usize
 }
 
 // Rule k reads the variable at position j of its body, where the mask has that position.
-fn enter_position(readers: &mut [u64; Tables::READERS], value: &[u8], mask: u32, k: usize, j: usize)
+fn enter_position(readers: &mut [u64], value: &[u8], mask: u32, k: usize, j: usize)
     requires { ⌜ (k < maxRules) × (ruleHeader ≤ length (now value)) × (j < length (ruleOf (now value) .terms)) × (j < maxTerms) ⌝ }
-    requires { ⌜ length (now readers) ≡ readersWords ⌝ }
-    ensures { λ _. ⌜ length (now (readers .exit)) ≡ readersWords ⌝ }
+    requires { ⌜ RowIn (length (now readers)) (bodyVariable (ruleOf (now value)) j) ⌝ }
+    ensures { λ _. ⌜ length (now (readers .exit)) ≡ length (now (readers .entry)) ⌝ }
     ensures { λ _. ⌜ Entered (now (readers .entry)) (now (readers .exit)) k (λ x. bit mask j && eqb (bodyVariable (ruleOf (now (value .entry))) j) x) ⌝ }
 {
     if (mask >> j) % 2 == 1 {
@@ -93,10 +100,10 @@ fn enter_position(readers: &mut [u64; Tables::READERS], value: &[u8], mask: u32,
 }
 
 // Rule k reads the variables at the positions of its mask.
-fn enter_rule(readers: &mut [u64; Tables::READERS], value: &[u8], mask: u32, k: usize)
+fn enter_rule(readers: &mut [u64], value: &[u8], mask: u32, k: usize)
     requires { ⌜ (k < maxRules) × (ruleHeader ≤ length (now value)) × (length (ruleOf (now value) .terms) ≤ maxTerms) ⌝ }
-    requires { ⌜ length (now readers) ≡ readersWords ⌝ }
-    ensures { λ _. ⌜ length (now (readers .exit)) ≡ readersWords ⌝ }
+    requires { ⌜ RowsIn (length (now readers)) (ruleOf (now value)) ⌝ }
+    ensures { λ _. ⌜ length (now (readers .exit)) ≡ length (now (readers .entry)) ⌝ }
     ensures { λ _. ⌜ Entered (now (readers .entry)) (now (readers .exit)) k (readAt (ruleOf (now (value .entry))) mask) ⌝ }
 {
     let n = rules::positions(value);
@@ -126,12 +133,11 @@ fn enter(
     next_at(file, at)
 }
 
-// Enters the place and the mask of every rule of a file that is accepted with these counts, and answers where the field after the last rule stands.
-pub fn fill_tables(file: &[u8], counts: Counts, offsets: &mut [u16], masks: &mut [u32]) -> usize
+// Enters the place and the mask of every rule of a file that is accepted with these counts.
+pub fn fill_tables(file: &[u8], counts: Counts, offsets: &mut [u16], masks: &mut [u32])
     requires { ⌜ AcceptedAs (now file) counts ⌝ }
     requires { ⌜ (counts .rules ≤ length (now offsets)) × (counts .rules ≤ length (now masks)) ⌝ }
     ensures { λ _. ⌜ Laid (now (file .entry)) counts (now (offsets .exit)) (now (masks .exit)) ⌝ }
-    ensures { λ r. ⌜ ((P : Program) → Accepts (now (file .entry)) P → r ≡ constraintPlace (now (file .entry)) P 0) ⌝ }
 {
     let n = counts.variables;
     let rules = counts.rules;
@@ -142,7 +148,6 @@ pub fn fill_tables(file: &[u8], counts: Counts, offsets: &mut [u16], masks: &mut
         at = next;
         i += 1;
     }
-    at
 }
 
 // Copies entry i of both tables.
@@ -187,13 +192,13 @@ pub fn fill_readers(
     counts: Counts,
     offsets: &[u16; Format::MAX_RULES],
     masks: &[u32; Format::MAX_RULES],
-    readers: &mut [u64; Tables::READERS],
+    readers: &mut [u64],
 )
     requires { ⌜ AcceptedAs (now file) counts ⌝ }
     requires { ⌜ OffsetsOf (now file) (now offsets) ⌝ }
-    requires { ⌜ length (now readers) ≡ readersWords ⌝ }
+    requires { ⌜ rowWords * counts .variables ≤ length (now readers) ⌝ }
     requires { ⌜ ((n : ℕ) → has (now readers) n ≡ false) ⌝ }
-    ensures { λ _. ⌜ length (now (readers .exit)) ≡ readersWords ⌝ }
+    ensures { λ _. ⌜ length (now (readers .exit)) ≡ length (now (readers .entry)) ⌝ }
     ensures { λ _. ⌜ ((P : Program) → Accepts (now (file .entry)) P → ReadersAre P (length (P .rules)) (now (masks .entry)) (now (readers .exit))) ⌝ }
 {
     let rules = counts.rules;

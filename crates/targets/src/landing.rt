@@ -18,7 +18,7 @@ use tables::Tables;
 
 // Variable v gets this value, and where it is another one the rules that read v at a kept position join the set.
 fn place(
-    readers: &[u64; Tables::READERS],
+    readers: &[u64],
     v: usize,
     value: i64,
     model: &mut [i64; Format::MAX_VARIABLES],
@@ -41,7 +41,7 @@ fn place(
 
 // Every value becomes its target.
 pub fn land(
-    readers: &[u64; Tables::READERS],
+    readers: &[u64],
     target: &[i64; Format::MAX_VARIABLES],
     model: &mut [i64; Format::MAX_VARIABLES],
     waiting: &mut [u64; Tables::ROW],

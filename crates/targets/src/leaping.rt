@@ -35,7 +35,7 @@ pub fn leap(
     counts: Counts,
     offsets: &[u16; Format::MAX_RULES],
     masks: &[u32; Format::MAX_RULES],
-    readers: &[u64; Tables::READERS],
+    readers: &[u64],
     model: &mut [i64; Format::MAX_VARIABLES],
     others: &[i64; Format::MAX_VARIABLES],
     stops: &[i64; Format::MAX_VARIABLES],

@@ -2,7 +2,7 @@
 use Prim.Native.Nat.{ℕ, _+_, _*_, _<_, _≤_}
 use mathlib.Core.Path.{_≡_, refl, sym, ap, _∙_}
 use mathlib.Core.List.{List}
-use mathlib.Core.Bool.{Bool, true, false, not, _&&_, or-false}
+use mathlib.Core.Bool.{Bool, true, false, not, _||_, _&&_, or-false, or-comm}
 use native.Mathlib.Omega.{arith}
 use lib.Dec.{eqb}
 use lib.ListN.{length}
@@ -12,10 +12,11 @@ use Rattle.program.specs.Tables.{anyBelow}
 use Rattle.program.specs.Fields.{valueAt, nextAt, place}
 use Rattle.program.specs.Program.{Rule, ruleOf, termForm, termIn, variableIn, ruleIn, program, variablesAt}
 use Rattle.program.specs.Idle.{isIdle}
+use Rattle.program.specs.Readings.{bodyVariable}
 use Rattle.program.specs.Reading.{Passed}
 use Rattle.program.specs.declared.Counts.{Counts}
 use Rattle.program.specs.declared.Variable.{Variable}
-use Rattle.program.proofs.Conditions.{last-or, none-below, below-none, below-some}
+use Rattle.program.proofs.Conditions.{last-or, both, none-below, below-none, some-below, below-some}
 use Rattle.program.proofs.Forms.{read-as-sum, read-as-itself}
 use Rattle.program.proofs.IdleRules.{only-sizes-mixed}
 use Rattle.program.proofs.Places.{RuleStands, Fine, variablesTo, variables-length, variables-stand, rule-at, rule-header, passed-fine, place-next, counts}
@@ -24,7 +25,7 @@ use Rattle.program.proofs.Gives.{promised-evaluable}
 use Rattle.fields.specs.Scanning.{Counted}
 use Rattle.edges.specs.Edges.{Grown, anyMixed, drawsIn, offendsAt, offendsIn}
 use Rattle.idleness.specs.Most.{Ready}
-use Rattle.validity.specs.Marks.{drawsBy, offendsBy, actsMixed, OnlySizes, ruleAt, mixedRule, actingRule, edgeIn}
+use Rattle.validity.specs.Marks.{drawsBy, offendsBy, actsMixed, actsOn, OnlySizes, ruleAt, mixedRule, actingVariable, edgeIn}
 use Rattle.edges.proofs.PositionLaws.{grown-done}
 use Rattle.parts.specs.Values.{Standing}
 use Rattle.sharing.specs.Sharing.{shareIn}
@@ -48,9 +49,6 @@ module _ (s : List ℕ) (k : Counts) where
   abbrev mixed : ℕ → Bool
   mixed j = anyMixed (variablesAt s (k .variables)) (ruleAt s (k .variables) j)
 
-  abbrev acting : ℕ → Bool
-  acting j = actsMixed (variablesAt s (k .variables)) (ruleAt s (k .variables) j)
-
   pub some-mixed : (i : ℕ) → i < k .rules → mixed i ≡ true → true ≡ mixedRule s k
   unfolding mixedRule
   some-mixed i l h = sym (below-some (k .rules) mixed i l h)
@@ -59,13 +57,10 @@ module _ (s : List ℕ) (k : Counts) where
   unfolding mixedRule
   none-mixed-in i e h = sym (below-none (k .rules) mixed (λ j l. h j (omega arith)))
 
-  pub some-acting : (i : ℕ) → i < k .rules → acting i ≡ true → true ≡ actingRule s k
-  unfolding actingRule
-  some-acting i l h = sym (below-some (k .rules) acting i l h)
-
-  pub none-acting-in : (i : ℕ) → i ≡ k .rules → ((j : ℕ) → j < i → acting j ≡ false) → false ≡ actingRule s k
-  unfolding actingRule
-  none-acting-in i e h = sym (below-none (k .rules) acting (λ j l. h j (omega arith)))
+  pub acting-all : {i : ℕ} {p : ℕ → Bool} → i ≡ k .rules
+      → ((v : ℕ) → p v ≡ anyBelow i (λ j. actsOn (variablesAt s (k .variables)) (ruleAt s (k .variables) j) v)) → (v : ℕ) → p v ≡ actingVariable s k v
+  unfolding actingVariable
+  acting-all e h v = h v ∙ ap (λ (n : ℕ). anyBelow n (λ j. actsOn (variablesAt s (k .variables)) (ruleAt s (k .variables) j) v)) e
 
   pub edges-all : {i : ℕ} {t t′ : ℕ → ℕ → Bool} → i ≡ k .rules
       → Grown t t′ (λ a b. anyBelow i (λ j. drawsBy (variablesAt s (k .variables)) (ruleAt s (k .variables) j) a b)) → Grown t t′ (edgeIn s k)
@@ -176,6 +171,19 @@ module _ (vs : List Variable) (r : Rule) where
 
   pub mixed-acts : {f i : Bool} → f ≡ anyMixed vs r → f ≡ true → i ≡ isIdle vs r → not i ≡ actsMixed vs r
   mixed-acts e h q = rw (sym e ∙ h, q)
+
+  -- the set of the variables of mixed positions: as it was where the rule does not act, and with one more where it does
+  pub none-acts : (b : Bool) {f : Bool} → f ≡ actsMixed vs r → f ≡ false → (v : ℕ) → b ≡ (b || actsOn vs r v)
+  none-acts b e h v = rw (sym e ∙ h) (sym (or-false b))
+
+  pub one-acts : (b : Bool) {f b′ : Bool} {x : ℕ} → f ≡ actsMixed vs r → f ≡ true → x ≡ bodyVariable r 0 → (v : ℕ) → b′ ≡ (eqb v x || b)
+      → b′ ≡ (b || actsOn vs r v)
+  one-acts b {x = x} e h q v p = p ∙ or-comm (eqb v x) b ∙ rw (sym e ∙ h, q)
+
+  -- a rule that acts has a position
+  pub acts-inside : {f : Bool} → f ≡ actsMixed vs r → f ≡ true → 0 < length (r .terms)
+  unfolding anyMixed
+  acts-inside e h = let i = some-below (length (r .terms)) _ (both _ _ (sym e ∙ h) .0) in omega (arith, i .1)
 
   module _ (t : ℕ → ℕ → Bool) {f : Bool} (e : f ≡ offendsIn t vs r) where
     pub none-offends : f ≡ false → false ≡ offendsBy t vs r

@@ -3,10 +3,12 @@ use Prim.Native.Nat.{ℕ, _+_, _<_}
 use mathlib.Core.Path.{_≡_}
 use mathlib.Core.List.{List}
 use mathlib.Core.Bool.{Bool, true, false, not, _&&_}
+use lib.Dec.{eqb}
 use Rattle.program.specs.Tables.{anyBelow}
 use Rattle.program.specs.Fields.{valueAt, place}
 use Rattle.program.specs.Program.{Rule, ruleOf, variablesAt}
 use Rattle.program.specs.Idle.{isIdle}
+use Rattle.program.specs.Readings.{bodyVariable}
 use Rattle.program.specs.declared.Counts.{Counts}
 use Rattle.program.specs.declared.Variable.{Variable}
 use Rattle.edges.specs.Edges.{anyMixed, drawsIn, offendsIn}
@@ -25,6 +27,10 @@ offendsBy t vs r = offendsIn t vs r && not (isIdle vs r)
 abbrev pub actsMixed : List Variable → Rule → Bool
 actsMixed vs r = anyMixed vs r && not (isIdle vs r)
 
+-- it does, and v is the variable of its first position: only a size has a mixed position, and no other one
+abbrev pub actsOn : List Variable → Rule → ℕ → Bool
+actsOn vs r v = actsMixed vs r && eqb v (bodyVariable r 0)
+
 -- no position is mixed unless the rule is a size; so in every rule of a file whose fields passed (law `rule-sizes`)
 abbrev pub OnlySizes : List Variable → Rule → Type 0
 OnlySizes vs r = (r .form ≡ 5 → ⊥) → anyMixed vs r ≡ false
@@ -38,8 +44,8 @@ ruleAt s n i = ruleOf (valueAt s (place s (n + i)))
 unfoldable pub mixedRule : List ℕ → Counts → Bool
 mixedRule s k = anyBelow (k .rules) (λ i. anyMixed (variablesAt s (k .variables)) (ruleAt s (k .variables) i))
 
-unfoldable pub actingRule : List ℕ → Counts → Bool
-actingRule s k = anyBelow (k .rules) (λ i. actsMixed (variablesAt s (k .variables)) (ruleAt s (k .variables) i))
+unfoldable pub actingVariable : List ℕ → Counts → ℕ → Bool
+actingVariable s k v = anyBelow (k .rules) (λ i. actsOn (variablesAt s (k .variables)) (ruleAt s (k .variables) i) v)
 
 unfoldable pub edgeIn : List ℕ → Counts → ℕ → ℕ → Bool
 edgeIn s k x y = anyBelow (k .rules) (λ i. drawsBy (variablesAt s (k .variables)) (ruleAt s (k .variables) i) x y)

@@ -1,24 +1,29 @@
 // The rules of a file, one after the other.
 ghost use mathlib.Core.Path.{_≡_};
+ghost use mathlib.Core.Bool.{_||_};
+ghost use Prim.Native.Nat.{ℕ};
 ghost use lib.ListN.{length};
 ghost use Rattle.format.specs.Limits.{maxVariables};
 ghost use Rattle.program.specs.Program.{ruleOf, variablesAt};
 ghost use Rattle.program.specs.Evaluable.{Small};
+ghost use Rattle.words.specs.Bit.{has};
 ghost use Rattle.reach.specs.Rows.{rowsLength, rowHas};
 ghost use Rattle.reach.specs.Stepping.{Lent};
 ghost use Rattle.fields.specs.Scanning.{Counted};
 ghost use Rattle.parts.specs.Values.{Standing};
 ghost use Rattle.edges.specs.Edges.{Grown, anyMixed};
 ghost use Rattle.idleness.specs.Most.{Ready};
-ghost use Rattle.validity.specs.Marks.{drawsBy, offendsBy, actsMixed, OnlySizes, mixedRule, actingRule, edgeIn, JudgedBy};
+ghost use Rattle.validity.specs.Marks.{drawsBy, offendsBy, actsMixed, actsOn, OnlySizes, mixedRule, actingVariable, edgeIn, JudgedBy};
 use crate::Outcome;
 use edges::mixed;
 use format::Format;
 use idleness::is_idle;
 use idleness::is_idle_size;
 use parts::places;
+use parts::rules::variable_at;
 use program::Counts;
 use reach::Rows;
+use sets::Set;
 
 // Whether the rule in a field's value has a mixed position. Only sizes have one.
 fn is_mixed(file: &[u8], variables: usize, value: &[u8]) -> bool
@@ -68,24 +73,35 @@ fn acts_mixed(file: &[u8], variables: usize, value: &[u8]) -> bool
     !idle
 }
 
-// Whether some rule has a mixed position and is not idle.
-pub fn any_acting(file: &[u8], counts: Counts) -> bool
+// The set takes in the variable of the mixed position of the rule in a field's value, if the rule has one and is not idle: the only position of a size.
+fn take_acting(found: Set, file: &[u8], variables: usize, value: &[u8]) -> Set
+    requires { ⌜ Ready (now file) variables (now value) ⌝ }
+    requires { ⌜ OnlySizes (variablesAt (now file) variables) (ruleOf (now value)) ⌝ }
+    ensures { λ r. ⌜ ((v : ℕ) → has (r .words) v ≡ (has (found .words) v || actsOn (variablesAt (now (file .entry)) variables) (ruleOf (now (value .entry))) v)) ⌝ }
+{
+    if !acts_mixed(file, variables, value) {
+        return found;
+    }
+    found.insert(variable_at(value, 0))
+}
+
+// The variables of the mixed positions of rules that are not idle.
+pub fn acting_variables(file: &[u8], counts: Counts) -> Set
     requires { ⌜ Counted (now file) counts ⌝ }
-    ensures { λ r. ⌜ r ≡ actingRule (now (file .entry)) counts ⌝ }
+    ensures { λ r. ⌜ ((v : ℕ) → has (r .words) v ≡ actingVariable (now (file .entry)) counts v) ⌝ }
 {
     let n = counts.variables;
     let rules = counts.rules;
     let mut at = 8 * n;
+    let mut found = Set::empty();
     let mut i = 0;
     while i < rules {
         let value = places::value_at(file, at);
-        if acts_mixed(file, n, value) {
-            return true;
-        }
+        found = take_acting(found, file, n, value);
         at = places::next_at(file, at);
         i += 1;
     }
-    false
+    found
 }
 
 // The edges that the rule in a field's value draws; the values are lent to find whether it is idle.

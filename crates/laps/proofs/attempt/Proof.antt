@@ -18,14 +18,14 @@ has-bit-requires : tie.Need-has-bit-requires
 has-bit-requires c κs = search needs
 
 returns : tie.Need-returns
-returns c = let p = c .before .before .before .before .before .pre in ((p .1 .1, p .1 .2), (omega arith, λ P R θ k. k))
+returns c = let p = c .before .before .before .before .before .before .pre in ((p .1 .1, p .1 .2), (omega arith, λ P R θ k. k))
 
 drop-bit-requires : tie.Need-drop-bit-requires
 drop-bit-requires c κs = search needs
 
 look-requires : tie.Need-look-requires
 look-requires c κs =
-    let p = c .before .before .before .before .before .before .before .before .pre in
+    let p = c .before .before .before .before .before .before .before .before .before .pre in
     let k = p .0 .run in
     (p .1 .0, (try-some k _ (p .1 .0) (sym (c .before .before .before .before .has-bit .ensures) ∙ not-false _ (c .before .before .before .if1 .left)), run-small k))
 
@@ -37,7 +37,7 @@ enum-told c = search needs
 
 returns-2 : tie.Need-returns-2
 returns-2 c =
-    let p = c .before .before .before .before .before .before .before .before .before .before .before .pre in
+    let p = c .before .before .before .before .before .before .before .before .before .before .before .before .pre in
     let d = c .before .before .before .before .drop-bit .ensures in (
       (p .1 .1, d .0 ∙ p .1 .2),
       (
@@ -48,12 +48,12 @@ returns-2 c =
 
 head-of-requires : tie.Need-head-of-requires
 head-of-requires c κs =
-    let p = c .before .before .before .before .before .before .before .before .before .before .before .before .pre in
+    let p = c .before .before .before .before .before .before .before .before .before .before .before .before .before .pre in
     (p .1 .0, try-some (p .0 .run) _ (p .1 .0) (sym (c .before .before .before .before .before .before .before .before .has-bit .ensures) ∙ not-false _ (c .before .before .before .before .before .before .before .if1 .left)))
 
 variable-requires : tie.Need-variable-requires
 variable-requires c κs =
-    let p = c .before .before .before .before .before .before .before .before .before .before .before .before .before .pre in
+    let p = c .before .before .before .before .before .before .before .before .before .before .before .before .before .before .pre in
     let k = p .0 .run in
     run-field k _ (try-more k _ (p .1 .0) (sym (c .before .before .before .before .before .before .before .before .before .has-bit .ensures) ∙ not-false _ (c .before .before .before .before .before .before .before .before .if1 .left)) _ (record { is = c .before .before .before .before .before .before .drop-bit .ensures .1 })
     (c .before .before .before .before .look .ensures) (c .before .before .found .given .1)) (c .head-of .ensures)
@@ -63,7 +63,7 @@ raise-requires c κs = search needs
 
 returns-3 : tie.Need-returns-3
 returns-3 c =
-    let p = c .before .before .before .before .before .before .before .before .before .before .before .before .before .before .before .before .before .before .pre in
+    let p = c .before .before .before .before .before .before .before .before .before .before .before .before .before .before .before .before .before .before .before .pre in
     let d = c .before .before .before .before .before .before .before .before .before .before .before .drop-bit .ensures in
     let n = c .before .before .before .before .before .before .before .found .given in
     let r = c .before .raise in
@@ -80,7 +80,7 @@ returns-3 c =
 
 returns-4 : tie.Need-returns-4
 returns-4 c =
-    let p = c .before .before .before .before .before .before .before .before .before .before .before .before .before .before .before .before .before .before .pre in
+    let p = c .before .before .before .before .before .before .before .before .before .before .before .before .before .before .before .before .before .before .before .pre in
     let d = c .before .before .before .before .before .before .before .before .before .before .before .drop-bit .ensures in
     let n = c .before .before .before .before .before .before .before .found .given in
     let r = c .before .raise in

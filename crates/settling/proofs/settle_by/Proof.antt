@@ -1,87 +1,36 @@
--- Every rule waits, and the readers are those of the masks; components come first, then whatever still waits.
-use mathlib.Core.Path.{refl, subst}
+-- The rows of 16 variables reach where the file has no more.
+use Prim.Native.Nat.{_*_}
+use mathlib.Core.Path.{refl}
 use borrow.Author.Needs.{needs}
 use Rattle.words.proofs.Bits.{none-in}
-use Rattle.reader.proofs.Published.{limited}
-use Rattle.tables.specs.Tabled.{rowWords, readersWords}
-use Rattle.run.proofs.StartLaws.{all-wait, way-offsets}
-use Rattle.hastening.proofs.KeptLaws.{kept-some, lapped-on}
+use Rattle.tables.specs.Tabled.{rowWords, narrowVariables}
+use Rattle.settling.proofs.SettleLaws.{rows-in}
 use Rattle.settling.proofs.settle_by.Statement.{statement}
 use Rattle.settling.proofs.settle_by.Tie as tie
 
-fill-readers-requires : tie.Need-fill-readers-requires
-fill-readers-requires c κs = let b = c .before .before in (b .pre .0, (way-offsets (b .pre .1 .0 .way), (refl, none-in readersWords)))
+slice-aggregate-settle-with : tie.Need-slice-aggregate-settle-with
+slice-aggregate-settle-with c = search needs
 
-slice-aggregate-fill-bits : tie.Need-slice-aggregate-fill-bits
-slice-aggregate-fill-bits c = search needs
-
-fill-bits-requires : tie.Need-fill-bits-requires
-fill-bits-requires c κs = limited (c .before .before .before .before .pre .0) .few-rules
-
-hasten-requires : tie.Need-hasten-requires
-hasten-requires c κs =
-    let b = c .before .before .before .before .before .before .before .before .before in
-    let w = b .pre .1 .0 in
-    let f = c .before .before .before .before .fill-bits in (
-      b .pre .0,
-      (
-        record {
-          program = w .program;
-          reckoning = w .reckoning;
-          assigned = w .assigned;
-          run = all-wait _ _ (b .pre .0) (w .way) _ (c .before .before .before .before .before .before .fill-readers .ensures .1) _ _ (none-in rowWords) (f .ensures .1);
-        },
-        (b .pre .1 .1, f .ensures .0),
-      ),
-    )
-
-enum-told : tie.Need-enum-told
-enum-told c = search needs
+settle-with-requires : tie.Need-settle-with-requires
+settle-with-requires c κs =
+    let p = c .before .before .before .before .pre in
+    (p .0, (p .1 .0, (p .1 .1, (rows-in narrowVariables (c .before .before .if1 .taken) refl, none-in (narrowVariables * rowWords)))))
 
 returns : tie.Need-returns
-returns c =
-    let b = c .before .before .before .before .before .before .before .before .before .before .before .before in
-    let h = c .before .before .hasten .ensures in (
-      h .0 .0,
-      λ P R θ k. rw (c .enum-told .given .1) at (h .1 .after P R θ (all-wait _ _ (b .pre .0) k _ (c .before .before .before .before .before .before .before .before .before .fill-readers .ensures .1) _ _ (none-in rowWords) (c .before .before .before .before .before .before .before .fill-bits .ensures .1))),
-    )
+returns c = search needs
 
-enum-told-2 : tie.Need-enum-told-2
-enum-told-2 c = search needs
-
-solve-requires : tie.Need-solve-requires
-solve-requires c κs =
-    let b = c .before .before .before .before .before .before .before .before .before .before .before .before .before .before .before in
-    let w = b .pre .1 .0 in
-    let h = c .before .before .before .before .before .hasten .ensures in (
-      kept-some (lapped-on (h .1) (c .before .before .before .enum-told2 .given .1)) (record {
-        program = w .program;
-        reckoning = w .reckoning;
-        assigned = w .assigned;
-        run = all-wait _ _ (b .pre .0) (w .way) _ (c .before .before .before .before .before .before .before .before .before .before .before .before .fill-readers .ensures .1) _ _ (none-in rowWords) (c .before .before .before .before .before .before .before .before .before .before .fill-bits .ensures .1);
-      }),
-      (h .0 .0, h .0 .1),
-    )
+settle-wide-requires : tie.Need-settle-wide-requires
+settle-wide-requires c κs = search needs
 
 returns-2 : tie.Need-returns-2
-returns-2 c =
-    let b = c .before .before .before .before .before .before .before .before .before .before .before .before .before .before .before .before in
-    let h = c .before .before .before .before .before .before .hasten .ensures in (
-      c .solve .ensures .0,
-      λ P R θ k. c .solve .ensures .1 .1 P R θ (lapped-on (h .1) (c .before .before .before .before .enum-told2 .given .1) .on P R θ
-          (all-wait _ _ (b .pre .0) k _ (c .before .before .before .before .before .before .before .before .before .before .before .before .before .fill-readers .ensures .1) _ _ (none-in rowWords) (c .before .before .before .before .before .before .before .before .before .before .before .fill-bits .ensures .1))),
-    )
+returns-2 c = search needs
 
 pub settle-by-spec : {M : Type 1} → statement M
 settle-by-spec =
     tie.close
     (tie.spec
-    fill-readers-requires
-    slice-aggregate-fill-bits
-    fill-bits-requires
-    hasten-requires
-    enum-told
+    slice-aggregate-settle-with
+    settle-with-requires
     returns
-    enum-told-2
-    solve-requires
+    settle-wide-requires
     returns-2)

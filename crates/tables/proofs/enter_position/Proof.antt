@@ -29,17 +29,20 @@ add-add-bit c = search needs
 add-bit-requires : tie.Need-add-bit-requires
 add-bit-requires c κs = search needs
 
+same-length : tie.Need-same-length
+same-length c = search needs
+
 returns : tie.Need-returns
 unfolding bit
 returns c =
-    let e : c .before .before .wide .result ≡ _ = c .before .before .wide .ensures .0 ∙ c .before .before .before .variable-at .ensures in (
-      c .add-bit .ensures .0 ∙ c .before .before .before .before .before .before .pre .1,
-      entered-one _ _ _ _ _ (eq-eqb _ _ (c .before .before .before .before .if1 .taken)) (omega arith) (rw e at (c .add-bit .ensures .1)),
+    let e : c .before .before .before .before .wide .result ≡ _ = c .before .before .before .before .wide .ensures .0 ∙ c .before .before .before .before .before .variable-at .ensures in (
+      c .before .before .add-bit .ensures .0,
+      entered-one _ _ _ _ _ (eq-eqb _ _ (c .before .before .before .before .before .before .if1 .taken)) (omega arith) (rw e at (c .before .before .add-bit .ensures .1)),
     )
 
 returns-2 : tie.Need-returns-2
 unfolding bit
-returns-2 c = (c .before .before .pre .1, entered-none _ _ _ _ _ (ne-eqb _ _ (c .if1 .left)) refl)
+returns-2 c = (refl, entered-none _ _ _ _ _ (ne-eqb _ _ (c .if1 .left)) refl)
 
 pub enter-position-spec : {M : Type 1} → statement M
 enter-position-spec =
@@ -52,5 +55,6 @@ enter-position-spec =
     mul-add-bit
     add-add-bit
     add-bit-requires
+    same-length
     returns
     returns-2)

@@ -10,7 +10,7 @@ use Rattle.reader.specs.Parts.{rulePlace}
 use Rattle.reader.proofs.Published.{reads-accepts, counts-of, limited, first-rule}
 use Rattle.tables.specs.Laid.{FirstPlaced}
 use Rattle.tables.proofs.LaidLaws.{length-stays}
-use Rattle.tables.proofs.TableLaws.{here, short-place, placed-more, placed-all, next-place, place-after}
+use Rattle.tables.proofs.TableLaws.{here, short-place, placed-more, placed-all, next-place}
 use Rattle.tables.proofs.fill_tables.Statement.{statement}
 use Rattle.tables.proofs.fill_tables.Tie as tie
 
@@ -74,18 +74,16 @@ same-length-2 : tie.Need-same-length-2 Inv-loop μ-loop
 same-length-2 c = search needs
 
 returns : tie.Need-returns Inv-loop μ-loop
-returns c = let l = c .before .loop in
+returns c =
+    let l = c .before .loop in
     let b = c .before .before .before .before .before in
-    let r = b .pre .0 in
-    let e = last (l .inv .0) (c .loop-test .left) in (
-      record {
-        accepted = r;
-        offsets-reach = omega (arith, b .pre .1 .0, l .inv .1 .0);
-        masks-reach = omega (arith, b .pre .1 .1, l .inv .1 .1);
-        placed = λ P x. placed-all r x e (l .inv .2 P x .1);
-      },
-      λ P x. place-after r x e (l .inv .2 P x .0),
-    )
+    let e = last (l .inv .0) (c .loop-test .left) in
+    record {
+      accepted = b .pre .0;
+      offsets-reach = omega (arith, b .pre .1 .0, l .inv .1 .0);
+      masks-reach = omega (arith, b .pre .1 .1, l .inv .1 .1);
+      placed = λ P x. placed-all (b .pre .0) x e (l .inv .2 P x .1);
+    }
 
 pub fill-tables-spec : {M : Type 1} → statement M
 fill-tables-spec =

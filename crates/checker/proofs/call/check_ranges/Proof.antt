@@ -50,7 +50,7 @@ check-rules-requires c κs =
     let o = subst (λ (q : Outside).
     OutsideIs (variablesAt s (k .variables)) (valued (c .before .before .before .before .before .before .load .last .1 .0)) (k .variables) q)
     (c .before .before .enum-told .given .1) (c .before .before .before .before .first-outside .ensures) in
-    (r, (all-within s k r a w e h _ (one-valuation _ _ l) o, (c .before .before .before .before .before .before .load .ensures .0, h)))
+    (r, (all-within s k r a w e h _ (one-valuation _ _ l) o, h))
 
 returns : tie.Need-returns
 returns c =

@@ -2,13 +2,12 @@
 use borrow.Author.Needs.{needs}
 use Rattle.program.specs.Readings.{valued}
 use Rattle.verdict.specs.Checks.{rule-unmet}
-use Rattle.checker.proofs.CheckLaws.{small-in}
 use Rattle.checker.proofs.MetLaws.{rules-unmet, rules-all}
 use Rattle.checker.proofs.call.check_rules.Statement.{statement}
 use Rattle.checker.proofs.call.check_rules.Tie as tie
 
 first-unmet-rule-requires : tie.Need-first-unmet-rule-requires
-first-unmet-rule-requires c κs = let b = c .before .before in (b .pre .0, small-in _ _ (b .pre .0) (b .args .values .now) (b .pre .1 .0))
+first-unmet-rule-requires c κs = let b = c .before .before in (b .pre .0, b .pre .1 .0)
 
 enum-known-rules : tie.Need-enum-known-rules
 enum-known-rules c = search needs

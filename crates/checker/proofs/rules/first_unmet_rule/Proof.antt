@@ -1,85 +1,72 @@
--- One rule more is met at each turn, for every program that the file means; there is one, since it is accepted.
-use Prim.Native.Nat.{ℕ, _-_, _<_, _≤_}
-use mathlib.Core.Path.{_≡_}
+-- Every position is read in the assignment, which stands on both sides.
+use mathlib.Core.Path.{refl, sym}
+use mathlib.Core.Bool.{true≢false}
 use native.Mathlib.Omega.{arith}
-use borrow.Author.Tests.{not-true, not-false}
 use borrow.Author.Needs.{needs}
-use Rattle.program.specs.Program.{Program}
-use Rattle.program.specs.Reading.{Accepts}
 use Rattle.program.specs.Readings.{valued}
-use Rattle.reader.specs.Parts.{rulePlace}
-use Rattle.reader.proofs.Published.{counts-of, limited, first-rule}
-use Rattle.meaning.specs.Stable.{RuleMet}
-use Rattle.ascent.proofs.AscentLaws.{some-stands, place-inside, place-next}
-use Rattle.checker.proofs.MetLaws.{rule-unmet-at, rule-met-at, rules-met}
+use Rattle.program.proofs.Promises.{accepts-promises}
+use Rattle.reader.proofs.Published.{reads-accepts, counts-of, limited, first-rule}
+use Rattle.meaning.proofs.InRanges.{value-small}
+use Rattle.ascent.proofs.ClimbLaws.{next-first, next-none}
+use Rattle.ascent.proofs.LevelLaws.{zero-sides, level-sided, level-risen, level-small}
+use Rattle.checker.proofs.MetLaws.{first-unmet, none-unmet}
 use Rattle.checker.proofs.rules.first_unmet_rule.Statement.{statement}
 use Rattle.checker.proofs.rules.first_unmet_rule.Tie as tie
 
-last : {i n : ℕ} → i ≤ n → n ≤ i → i ≡ n
-last h k = omega arith
+level-sides-requires : tie.Need-level-sides-requires
+level-sides-requires c κs = let f = limited (c .before .before .pre .0) in (f .few-variables, refl)
 
-abbrev Inv-loop : tie.InvT-loop
-Inv-loop file assigned rules at₀ i₀ at i =
-    (i ≤ rules) × ((P : Program) → Accepts file P → at ≡ rulePlace file P i) × ((P : Program) → Accepts file P → (j : ℕ) → j < i → RuleMet P (valued assigned) j)
+mul-next-more : tie.Need-mul-next-more
+mul-next-more c = let v = limited (c .before .before .before .pre .0) in omega arith
 
-abbrev μ-loop : tie.MeasureT-loop
-μ-loop file assigned rules at₀ i₀ at i = rules - i
-
-mul-at : tie.Need-mul-at Inv-loop μ-loop
-mul-at c = let v = limited (c .before .before .pre .0) in omega arith
-
-loop-holds : tie.Need-loop-holds Inv-loop μ-loop
-loop-holds c =
-    let r = c .before .before .pre .0 in
-    (omega arith, λ P x. omega (arith, first-rule x, counts-of r x .variables-are), λ P x j l. absurd (omega arith))
-
-is-met-requires : tie.Need-is-met-requires Inv-loop μ-loop
-is-met-requires c κs = let p = c .before .before .before .before .pre in (some-stands (p .0) (c .loop-test .taken) (c .before .loop .inv .1), p .1)
-
-returns : tie.Need-returns Inv-loop μ-loop
-returns c =
-    let b = c .before .before .before .before .before .before in
-    let v = c .before .before .before .loop .inv in
-    λ P x.
-    rule-unmet-at (b .pre .0) x (valued (b .args .assigned .now)) (c .before .before .loop-test .taken) (v .1 P x) (c .before .is-met .result) (c .before .is-met .ensures) (v .2 P x) (not-true _ (c .if1 .taken))
-
-next-at-requires : tie.Need-next-at-requires Inv-loop μ-loop
-next-at-requires c κs = place-inside (c .before .before .before .before .before .before .pre .0) (c .before .before .loop-test .taken) (c .before .before .before .loop .inv .1)
-
-add-i : tie.Need-add-i Inv-loop μ-loop
-add-i c = search needs
-
-loop-less : tie.Need-loop-less Inv-loop μ-loop
-loop-less c = search needs
-
-loop-again : tie.Need-loop-again Inv-loop μ-loop
-loop-again c =
-    let b = c .before .before .before .before .before .before .before in
-    let v = c .before .before .before .before .loop .inv in
-    let t = c .before .before .before .loop-test .taken in (
-      omega arith,
-      place-next (b .pre .0) t (v .1) (c .next-at .ensures),
-      λ P x. rule-met-at (b .pre .0) x (valued (b .args .assigned .now)) t (v .1 P x) (c .before .before .is-met .result) (c .before .before .is-met .ensures) (v .2 P x) (not-false _ (c .before .if1 .left)),
+next-more-requires : tie.Need-next-more-requires
+next-more-requires c κs =
+    let b = c .before .before .before .before in
+    let p = b .pre in
+    let θ = valued (b .args .assigned .now) in
+    let l = c .before .level-sides .ensures in
+    let x = reads-accepts (p .0) in (
+      p .0,
+      (
+        λ P a. omega (arith, first-rule a, counts-of (p .0) a .variables-are),
+        (omega arith, level-small (l .1) (zero-sides (p .0) θ (p .1)) (value-small (accepts-promises (x .accepts)) (p .1 (x .meant) (x .accepts)))),
+      ),
     )
 
-returns-2 : tie.Need-returns-2 Inv-loop μ-loop
+enum-known-next : tie.Need-enum-known-next
+enum-known-next c = search needs
+
+enum-known-next-2 : tie.Need-enum-known-next-2
+enum-known-next-2 c = search needs
+
+returns : tie.Need-returns
+returns c =
+    let b = c .before .before .before .before .before .before .before .before in
+    let p = b .pre in
+    let θ = valued (b .args .assigned .now) in
+    let l = c .before .before .before .before .before .level-sides .ensures .1 in
+    let z = zero-sides (p .0) θ (p .1) in
+    λ P a. first-unmet (level-risen l z (P .variables))
+    (next-first _ P θ _ 0 (c .before .before .before .next-more .ensures P θ a (level-sided l z (P .variables)) (λ t. absurd (true≢false (sym t)))) (c .before .next .given .1))
+
+returns-2 : tie.Need-returns-2
 returns-2 c =
-    let b = c .before .before .before .before in
-    let v = c .before .loop .inv in
-    λ P x. rules-met (b .pre .0) x (valued (b .args .assigned .now)) (last (v .0) (c .loop-test .left)) (v .1 P x) (v .2 P x)
+    let b = c .before .before .before .before .before .before .before .before in
+    let p = b .pre in
+    let θ = valued (b .args .assigned .now) in
+    let l = c .before .before .before .before .before .level-sides .ensures .1 in
+    let z = zero-sides (p .0) θ (p .1) in
+    λ P a. none-unmet (level-risen l z (P .variables))
+    (next-none _ P θ _ 0 (c .before .before .before .next-more .ensures P θ a (level-sided l z (P .variables)) (λ t. absurd (true≢false (sym t)))) (c .before .next2 .given .1))
 
 pub first-unmet-rule-spec : {M : Type 1} → statement M
 first-unmet-rule-spec =
     tie.close
     (tie.spec
-    Inv-loop
-    μ-loop
-    mul-at
-    loop-holds
-    is-met-requires
+    level-sides-requires
+    mul-next-more
+    next-more-requires
+    enum-known-next
+    enum-known-next-2
     returns
-    next-at-requires
-    add-i
-    loop-less
-    loop-again
     returns-2)

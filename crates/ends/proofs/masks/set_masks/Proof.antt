@@ -1,50 +1,41 @@
--- One rule after the other, each where the table says.
-use Prim.Native.Nat.{_-_, _≤_}
-use mathlib.Core.Path.{_≡_, refl, ap, _∙_}
+-- One rule more is entered at each turn, for every program that the file means; there is one, since it is accepted.
 use native.Mathlib.Omega.{arith}
-use lib.ListN.{length, length-set}
 use borrow.Author.Needs.{needs}
+use mathlib.Core.Path.{_≡_, refl}
+use Prim.Native.Nat.{ℕ, _<_, _≤_, _-_}
+use lib.ListN.{length}
 use Rattle.program.specs.Program.{Program}
-use Rattle.program.specs.Fields.{valueAt}
 use Rattle.program.specs.Reading.{Accepts}
 use Rattle.program.specs.Readings.{valued}
-use Rattle.tables.proofs.LaidLaws.{rule-here}
-use Rattle.tables.proofs.TableLaws.{standing-here, few-here}
-use Rattle.ends.specs.Ends.{LentMasks}
-use Rattle.ends.proofs.MaskLaws.{mask-more, masks-whole}
+use Rattle.reader.proofs.Published.{reads-accepts, limited}
+use Rattle.tables.proofs.LaidLaws.{length-stays}
+use Rattle.tables.proofs.TableLaws.{here, short-place}
+use Rattle.ends.proofs.MaskLaws.{FirstEntered, entered-none, entered-more, places-whole, masks-whole}
 use Rattle.ends.proofs.masks.set_masks.Statement.{statement}
 use Rattle.ends.proofs.masks.set_masks.Tie as tie
 
 abbrev Inv-loop : tie.InvT-loop
-Inv-loop file offsets lows highs masks₀ n rules i₀ masks i =
-    (i ≤ rules) × (rules ≤ length offsets) × ((rules ≤ length masks) × (length masks ≡ length masks₀))
-    × ((P : Program) → Accepts file P → LentMasks P (valued lows) (valued highs) i masks)
+Inv-loop file lows highs offsets₀ masks₀ n rules at₀ i₀ offsets masks at i =
+    (i ≤ rules) × ((length offsets ≡ length offsets₀) × (length masks ≡ length masks₀))
+    × ((P : Program) → Accepts file P → FirstEntered file P (valued lows) (valued highs) i at offsets masks)
 
 abbrev μ-loop : tie.MeasureT-loop
-μ-loop file offsets lows highs masks₀ n rules i₀ masks i = rules - i
+μ-loop file lows highs offsets₀ masks₀ n rules at₀ i₀ offsets masks at i = rules - i
+
+mul-at : tie.Need-mul-at Inv-loop μ-loop
+mul-at c = let v = limited (c .before .before .before .pre .0) in omega arith
 
 loop-holds : tie.Need-loop-holds Inv-loop μ-loop
-loop-holds c = let s = c .before .before .before in (omega arith, s .pre .1 .1 .0, (s .pre .1 .1 .1, refl), λ P x j l. absurd (omega arith))
+loop-holds c = (omega arith, (refl, refl), entered-none (c .before .before .before .pre .0) _ _ _ _)
 
-place-in-requires : tie.Need-place-in-requires Inv-loop μ-loop
-place-in-requires c κs = search needs
-
-value-at-requires : tie.Need-value-at-requires Inv-loop μ-loop
-value-at-requires c κs =
-    let s = c .before .before .before .before .before .before in
-    rule-here (s .args .file .now) (s .args .offsets .now) (s .args .counts) (s .pre .0) (s .pre .1 .0) _ _ (c .before .loop-test .taken) (c .place-in .ensures) .inside
-
-mask-of-requires : tie.Need-mask-of-requires Inv-loop μ-loop
-mask-of-requires c κs =
-    let s = c .before .before .before .before .before .before .before in
-    let h = rule-here (s .args .file .now) (s .args .offsets .now) (s .args .counts) (s .pre .0) (s .pre .1 .0) _ _ (c .before .before .loop-test .taken) (c .before .place-in .ensures) in
-    (standing-here h (c .value-at .ensures), few-here h (c .value-at .ensures))
-
-mul-masks : tie.Need-mul-masks Inv-loop μ-loop
-mul-masks c = search needs
-
-slice-write-masks : tie.Need-slice-write-masks Inv-loop μ-loop
-slice-write-masks c = search needs
+enter-requires : tie.Need-enter-requires Inv-loop μ-loop
+enter-requires c κs = let b = c .before .before .before .before .before .before .before in
+    let r = b .pre .0 in
+    let l = c .before .before .before .loop in
+    let t = c .before .before .loop-test .taken in
+    let a = reads-accepts r in
+    let h = here r (a .accepts) _ _ t (l .inv .2 (a .meant) (a .accepts) .next) in
+    (h, (short-place r h, omega (arith, b .pre .1 .0, l .inv .1 .0), omega (arith, b .pre .1 .1, l .inv .1 .1)))
 
 add-i : tie.Need-add-i Inv-loop μ-loop
 add-i c = search needs
@@ -54,23 +45,28 @@ loop-less c = search needs
 
 loop-again : tie.Need-loop-again Inv-loop μ-loop
 loop-again c =
-    let s = c .before .before .before .before .before .before .before .before in
-    let l = c .before .before .before .before .loop in (
+    let x = c .before .before .before .before in
+    let b = x .before .before .before .before .before .before .before .before in
+    let l = x .before .before .before .before .loop in
+    let t = x .before .before .before .loop-test .taken in
+    let n = x .enter .ensures in (
       omega arith,
-      omega arith,
-      (rw (length-set (l .masks) (l .i) (c .mask-of .result)) (l .inv .2 .0), length-set (l .masks) (l .i) (c .mask-of .result) ∙ l .inv .2 .1),
-      mask-more (s .args .file .now) (s .args .offsets .now) (s .pre .0) (s .pre .1 .0) _ _ (l .i) (l .masks) (c .before .before .before .loop-test .taken) (omega arith)
-          (c .before .value-at .ensures ∙ ap (valueAt (s .args .file .now)) (c .before .before .place-in .ensures)) (c .mask-of .ensures) (l .inv .3),
+      (length-stays (l .offsets) (l .i) _ (n .placed) (l .inv .1 .0), length-stays (l .masks) (l .i) _ (n .masked) (l .inv .1 .1)),
+      λ P a. entered-more (b .pre .0) _ _ _ _ _ _ _ _ _ t (omega (arith, b .pre .1 .0, l .inv .1 .0)) (omega (arith, b .pre .1 .1, l .inv .1 .1)) n P a (l .inv .2 P a),
     )
 
 same-length : tie.Need-same-length Inv-loop μ-loop
 same-length c = search needs
 
+same-length-2 : tie.Need-same-length-2 Inv-loop μ-loop
+same-length-2 c = search needs
+
 returns : tie.Need-returns Inv-loop μ-loop
 returns c =
-    let s = c .before .before .before .before .before in
     let l = c .before .loop in
-    (l .inv .2 .1, masks-whole (s .args .file .now) (s .args .offsets .now) (s .pre .0) (s .pre .1 .0) _ _ (l .masks) (omega arith) (l .inv .3))
+    let b = c .before .before .before .before .before in
+    let r = b .pre .0 in
+    (l .inv .1 .0, (l .inv .1 .1, (places-whole r _ _ (c .loop-test .left) (l .inv .2), masks-whole r _ _ (c .loop-test .left) (l .inv .2))))
 
 pub set-masks-spec : {M : Type 1} → statement M
 set-masks-spec =
@@ -78,14 +74,12 @@ set-masks-spec =
     (tie.spec
     Inv-loop
     μ-loop
+    mul-at
     loop-holds
-    place-in-requires
-    value-at-requires
-    mask-of-requires
-    mul-masks
-    slice-write-masks
+    enter-requires
     add-i
     loop-less
     loop-again
     same-length
+    same-length-2
     returns)

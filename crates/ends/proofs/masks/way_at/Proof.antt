@@ -1,15 +1,12 @@
--- The position's variable, direction and kept bit are the rule's, and the ends of its range are read at that variable.
+-- The position's variable, direction and kept bit are the rule's, and its range is that of the variable.
 use Prim.Native.Nat.{ℕ}
 use mathlib.Core.Path.{_≡_, ap, _∙_}
 use native.Mathlib.Omega.{arith}
-use lib.IntN.{ℤ, pos}
-use lib.ListN.{getD}
-use mir.Syntax.{w64}
-use mir.Val.{toZ, ofZ}
+use lib.Signed.{ltZ}
 use Rattle.program.specs.Program.{ruleOf, variableIn, variablesAt}
 use Rattle.program.specs.Variables.{isFounded}
 use Rattle.program.specs.Directions.{opposite, isRising, isMixed}
-use Rattle.program.specs.Readings.{bodyVariable, valued}
+use Rattle.program.specs.Readings.{valued}
 use Rattle.program.specs.declared.Direction.{Direction}
 use Rattle.program.specs.declared.Variable.{Variable}
 use Rattle.ends.proofs.MaskLaws.{first-read, loose-read}
@@ -26,20 +23,8 @@ variable-requires c κs =
     let d = s .pre .0 .declared (s .args .i) (s .pre .1 .1) in
     omega (arith, c .position-at .ensures .variable-is, d, s .pre .0 .inside)
 
-wide-requires : tie.Need-wide-requires
-wide-requires c κs = search needs
-
-mul-low : tie.Need-mul-low
-mul-low c = search needs
-
-element-copy-out-low : tie.Need-element-copy-out-low
-element-copy-out-low c = search needs
-
-mul-high : tie.Need-mul-high
-mul-high c = search needs
-
-element-copy-out-high : tie.Need-element-copy-out-high
-element-copy-out-high c = search needs
+is-open-requires : tie.Need-is-open-requires
+is-open-requires c κs = search needs
 
 opposite-requires : tie.Need-opposite-requires
 opposite-requires c κs = search needs
@@ -55,23 +40,19 @@ is-mixed-requires c κs = search needs
 
 returns : tie.Need-returns
 returns c =
-    let s = c .before .before .before .before .before .before .before .before .before .before .before .before in
+    let x = c .before .before .before .before .before in
+    let s = x .before .before .before .before .before in
     let a = s .args in
     let vs = variablesAt (a .file .now) (a .variables) in
     let r = ruleOf (a .value .now) in
-    let p = c .before .before .before .before .before .before .before .before .before .position-at .ensures in
+    let p = x .before .before .position-at .ensures in
     let d = s .pre .0 .declared (a .i) (s .pre .1 .1) in
-    let x = c .before .before .before .before .before .before .before .before .variable .ensures (a .variables) (omega (arith, p .variable-is, d)) ∙ ap (variableIn vs) (p .variable-is) in
-    let w : c .before .before .before .before .before .before .before .wide .result ≡ bodyVariable r (a .i) = c .before .before .before .before .before .before .before .wide .ensures .0 ∙ p .variable-is in
-    let l : ℤ = getD (a .lows .now) (c .before .before .before .before .before .before .before .wide .result) (pos 0) in
-    let h : ℤ = getD (a .highs .now) (c .before .before .before .before .before .before .before .wide .result) (pos 0) in
-    let z : toZ w64 (ofZ w64 l) ≡ l = search needs in
-    let y : toZ w64 (ofZ w64 h) ≡ h = search needs in
+    let y = x .before .variable .ensures (a .variables) (omega (arith, p .variable-is, d)) ∙ ap (variableIn vs) (p .variable-is) in
     record {
-      first-is = first-read vs (valued (a .lows .now)) (valued (a .highs .now)) r (a .i) (p .kept-is) (c .before .before .is-founded .ensures ∙ ap (λ (v : Variable). isFounded v) x)
+      first-is = first-read vs (valued (a .lows .now)) (valued (a .highs .now)) r (a .i) (p .kept-is) (c .before .before .is-founded .ensures ∙ ap (λ (v : Variable). isFounded v) y)
           (c .before .before .before .is-rising .ensures ∙ ap (λ (e : Direction). isRising e) (c .before .before .before .before .opposite .ensures) ∙ ap (λ (e : Direction). isRising (opposite e)) (p .direction-is));
       loose-is = loose-read vs (valued (a .lows .now)) (valued (a .highs .now)) r (a .i) (c .before .is-mixed .ensures ∙ ap (λ (e : Direction). isMixed e) (p .direction-is))
-          (z ∙ ap (λ (v : ℕ). getD (a .lows .now) v (pos 0)) w) (y ∙ ap (λ (v : ℕ). getD (a .highs .now) v (pos 0)) w);
+          (x .is-open .ensures ∙ ap (λ (v : ℕ). ltZ (valued (a .lows .now) v) (valued (a .highs .now) v)) (p .variable-is));
     }
 
 pub way-at-spec : {M : Type 1} → statement M
@@ -80,11 +61,7 @@ way-at-spec =
     (tie.spec
     position-at-requires
     variable-requires
-    wide-requires
-    mul-low
-    element-copy-out-low
-    mul-high
-    element-copy-out-high
+    is-open-requires
     opposite-requires
     is-rising-requires
     is-founded-requires

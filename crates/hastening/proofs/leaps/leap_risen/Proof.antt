@@ -12,13 +12,13 @@ gather-requires c κs = search needs
 
 lengthen-requires : tie.Need-lengthen-requires
 lengthen-requires c κs =
-    let p = c .before .before .before .before .before .before .before .pre in
+    let p = c .before .before .before .before .before .before .before .before .pre in
     let t = some-stand (p .1 .0) _ (p .0) in
     ((t .0, t .1, c .before .before .before .gather .ensures .2), (refl, values-none 256))
 
 leap-on-requires : tie.Need-leap-on-requires
 leap-on-requires c κs =
-    let p = c .before .before .before .before .before .before .before .before .before .before .before .before .before .before .pre in
+    let p = c .before .before .before .before .before .before .before .before .before .before .before .before .before .before .before .pre in
     (p .0, (p .1 .0, ((p .1 .1 .0, p .1 .1 .1, c .before .before .before .before .before .before .before .before .before .before .gather .ensures .2), (refl, values-none 256))))
 
 returns : tie.Need-returns

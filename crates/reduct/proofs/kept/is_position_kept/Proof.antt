@@ -5,7 +5,7 @@ use Rattle.program.specs.declared.Term.{Term}
 use Rattle.program.specs.Program.{ruleOf, variablesAt}
 use Rattle.parts.proofs.Bytes.{term-handed}
 use Rattle.positions.proofs.Occurrences.{declared-at}
-use Rattle.reduct.proofs.KindLaws.{position-kept}
+use Rattle.positions.proofs.KindLaws.{position-kept}
 use borrow.Author.Needs.{needs}
 use Rattle.reduct.proofs.kept.is_position_kept.Statement.{statement}
 use Rattle.reduct.proofs.kept.is_position_kept.Tie as tie

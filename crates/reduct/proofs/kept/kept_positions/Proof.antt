@@ -1,5 +1,5 @@
 -- A size by its variable's range, all else by the variable's kind.
-use Rattle.reduct.proofs.KindLaws.{rule-kinds}
+use Rattle.positions.proofs.KindLaws.{rule-kinds}
 use borrow.Author.Needs.{needs}
 use Rattle.reduct.proofs.kept.kept_positions.Statement.{statement}
 use Rattle.reduct.proofs.kept.kept_positions.Tie as tie

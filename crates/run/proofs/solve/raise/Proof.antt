@@ -17,7 +17,7 @@ store-requires c κs = search needs
 
 returns : tie.Need-returns
 returns c =
-    let s = c .before .before .before in
+    let s = c .before .before .before .before in
     let o = c .before .store in
     let z : toZ w64 (ofZ w64 (s .args .a)) ≡ s .args .a = search needs in
     let n = not-stored (s .args .x) (s .args .head) (s .args .a) (s .args .model .now) (o .last .1 .1 .1 .0) (rw z at (o .ensures .1)) (not-true (o .result) (c .if1 .taken)) in
@@ -32,9 +32,9 @@ join-readers-requires c κs = search needs
 returns-2 : tie.Need-returns-2
 returns-2 c =
     let s = c .before .before .before .before .before .before .before in
-    let o = c .before .before .before .before .before .store in
+    let o = c .before .before .before .before .store in
     let z : toZ w64 (ofZ w64 (s .args .a)) ≡ s .args .a = search needs in
-    let n = stored (s .args .x) (s .args .head) (s .args .a) (s .args .model .now) (o .last .1 .1 .1 .0) (rw z at (o .ensures .1)) (not-false (o .result) (c .before .before .before .before .if1 .left)) in
+    let n = stored (s .args .x) (s .args .head) (s .args .a) (s .args .model .now) (o .last .1 .1 .1 .0) (rw z at (o .ensures .1)) (not-false (o .result) (c .before .before .before .if1 .left)) in
     let e = c .before .wide .ensures .0 in (
       o .ensures .0,
       (

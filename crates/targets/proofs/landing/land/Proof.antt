@@ -31,7 +31,7 @@ abbrev μ-loop : tie.MeasureT-loop
 μ-loop readers target model₀ waiting₀ v₀ model waiting v = maxVariables - v
 
 loop-holds : tie.Need-loop-holds Inv-loop μ-loop
-loop-holds c = let p = c .pre in (omega arith, p .0, p .1, λ s P R θ offsets masks others stops cut k. (k, omega arith))
+loop-holds c = let p = c .before .pre in (omega arith, p .0, p .1, λ s P R θ offsets masks others stops cut k. (k, omega arith))
 
 mul-goal : tie.Need-mul-goal Inv-loop μ-loop
 mul-goal c = search needs
@@ -50,7 +50,7 @@ loop-less c = search needs
 
 loop-again : tie.Need-loop-again Inv-loop μ-loop
 loop-again c =
-    let a = c .before .before .before .before .before .before .args in
+    let a = c .before .before .before .before .before .before .before .args in
     let l = c .before .before .before .before .before .loop in
     let p = c .place in
     let t : toZ w64 (ofZ w64 (getD (a .target .now) (l .v) (pos 0))) ≡ getD (a .target .now) (l .v) (pos 0) = search needs in (

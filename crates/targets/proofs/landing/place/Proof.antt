@@ -17,7 +17,7 @@ element-copy-out-before c = search needs
 
 returns : tie.Need-returns
 returns c =
-    let s = c .before .before in
+    let s = c .before .before .before in
     let m = getD (s .args .model .now) (s .args .v) (pos 0) in
     let p : toZ w64 (ofZ w64 m) ≡ m = search needs in
     let q : toZ w64 (ofZ w64 (s .args .value)) ≡ s .args .value = search needs in
@@ -41,7 +41,7 @@ returns-2 c =
       (
         j .ensures .0,
         inr (
-          λ e. c .before .before .before .if1 .left (ap (ofZ w64) e),
+          λ e. c .before .before .if1 .left (ap (ofZ w64) e),
           record { model-is = ap (set (s .args .model .now) (s .args .v)) q; waiting-is = j .ensures .1 },
         ),
       ),

@@ -13,12 +13,12 @@ line-length-requires c κs = search needs
 
 draw-back-requires : tie.Need-draw-back-requires
 draw-back-requires c κs =
-    let p = c .before .before .before .before .pre in
+    let p = c .before .before .before .before .before .pre in
     ((limited (p .0) .inside, limited (p .0) .few-variables), (refl, running-small (p .1 .0 .run)))
 
 lift-all-requires : tie.Need-lift-all-requires
 lift-all-requires c κs =
-    let s = c .before .before .before .before .before .before .before in
+    let s = c .before .before .before .before .before .before .before .before in
     let d = c .before .before .draw-back .ensures in
     let k = s .pre .1 .0 .run in (
       s .pre .0,
@@ -29,17 +29,17 @@ lift-all-requires c κs =
     )
 
 arrived-requires : tie.Need-arrived-requires
-arrived-requires c κs = search needs
+arrived-requires c κs = (c .before .lift-all .ensures .0, c .before .before .before .before .before .before .before .before .before .before .pre .1 .1 .0 .1)
 
 returns : tie.Need-returns
-returns c = let p = c .before .before .before .before .before .before .before .before .before .before .before .pre in (p .1 .1 .0 .0, (p .1 .1 .1, (λ P R θ k. k, omega arith)))
+returns c = let p = c .before .before .before .before .before .before .before .before .before .before .before .before .pre in (p .1 .1 .0 .0, (p .1 .1 .1, (λ P R θ k. k, omega arith)))
 
 land-requires : tie.Need-land-requires
-land-requires c κs = let p = c .before .before .before .before .before .before .before .before .before .before .before .before .before .pre in (p .1 .1 .0 .0, p .1 .1 .1)
+land-requires c κs = let p = c .before .before .before .before .before .before .before .before .before .before .before .before .before .before .pre in (p .1 .1 .0 .0, p .1 .1 .1)
 
 returns-2 : tie.Need-returns-2
 returns-2 c =
-    let s = c .before .before .before .before .before .before .before .before .before .before .before .before .before .before in
+    let s = c .before .before .before .before .before .before .before .before .before .before .before .before .before .before .before in
     let d = c .before .before .before .before .before .before .before .before .before .draw-back .ensures in
     let l = c .before .before .before .before .before .before .lift-all .ensures in
     let h = c .before .before .before .before .arrived .ensures in
@@ -56,4 +56,11 @@ returns-2 c =
     )
 
 pub leap-spec : {M : Type 1} → statement M
-leap-spec = tie.close (tie.spec line-length-requires draw-back-requires lift-all-requires arrived-requires returns land-requires returns-2)
+leap-spec = tie.close (tie.spec
+    line-length-requires
+    draw-back-requires
+    lift-all-requires
+    arrived-requires
+    returns
+    land-requires
+    returns-2)

@@ -1,0 +1,70 @@
+// What one rule demands.
+ghost use mathlib.Core.Path.{_≡_};
+ghost use Prim.Native.Nat.{ℕ};
+ghost use Rattle.program.specs.Program.{Program, ruleOf, termForm, variableIn, variablesAt};
+ghost use Rattle.program.specs.Readings.{Valuation, bodyVariable};
+ghost use Rattle.program.specs.Evaluable.{Evaluable, Small};
+ghost use Rattle.parts.specs.Values.{Standing};
+ghost use Rattle.meaning.specs.Reduct.{reduct};
+ghost use Rattle.run.specs.Running.{RuleStands, SomeRule, Demanded};
+ghost use Rattle.ascent.specs.Ascending.{risen, Sided};
+ghost use Rattle.ascent.specs.Looking.{sizeSide, plainSide, SomeStanding};
+use parts::places::value_at;
+use parts::rules;
+use parts::variables;
+use program::Given;
+use program::Variable;
+use run::Demand;
+use run::demands::head_at;
+use sided::Sides;
+use sided::read;
+use sided::rules::gives_past;
+
+// Whether the variable x of a size is read as falling, `above` telling whether the head is founded from above.
+fn size_side(x: Variable, above: bool) -> bool
+    ensures { λ r. ⌜ r ≡ sizeSide x above ⌝ }
+{
+    if 0 <= x.low {
+        return above;
+    }
+    if x.high <= 0 {
+        return !above;
+    }
+    !x.is_from_above()
+}
+
+// Whether the plain terms of the rule in a field's value, whose head is h, are read as falling. Of a size this goes by its variable's range, of all else by the head.
+fn plain_side(file: &[u8], value: &[u8], h: Variable) -> bool
+    requires { ⌜ SomeStanding (now file) (now value) ⌝ }
+    requires { ⌜ Evaluable (ruleOf (now value)) ⌝ }
+    ensures { λ r. ⌜ ((n : ℕ) → Standing (now (file .entry)) n (now (value .entry))
+        → r ≡ plainSide (termForm (ruleOf (now (value .entry)) .form)) h (variableIn (variablesAt (now (file .entry)) n) (bodyVariable (ruleOf (now (value .entry))) 0))) ⌝ }
+{
+    let above = h.is_from_above();
+    if value[0] != 5 {
+        return above;
+    }
+    let first = rules::variable_at(value, 0);
+    let x = variables::variable(file, first);
+    size_side(x, above)
+}
+
+// Whether the rule whose field stands at `at` demands more than its head has.
+pub fn look(file: &[u8], at: usize, sides: &[i64; Sides::LENGTH]) -> Demand
+    requires { ⌜ SomeRule (now file) at ⌝ }
+    requires { ⌜ Small (now sides) ⌝ }
+    ensures { λ r. ⌜ ((P : Program) (i : ℕ) (θ : Valuation) → RuleStands (now (file .entry)) P i at → Sided (P .variables) θ (now (sides .entry))
+        → Demanded P (reduct P) θ (risen (P .variables) (now (sides .entry))) i r) ⌝ }
+{
+    let value = value_at(file, at);
+    let head = head_at(file, at);
+    let x = variables::variable(file, head);
+    let above = x.is_from_above();
+    let side = plain_side(file, value, x);
+    let has = read(sides, above, head);
+    let past = gives_past(value, side, sides, x, has);
+    match past {
+        Given::Value(a) => Demand::More(a),
+        Given::Nothing => Demand::Enough,
+    }
+}
