@@ -13,7 +13,6 @@ use Rattle.program.specs.Program.{Program, variableIn}
 use Rattle.program.specs.Reading.{AcceptedAs, Accepts}
 use Rattle.program.specs.Readings.{Valuation}
 use Rattle.program.specs.Evaluable.{Small}
-use Rattle.program.specs.Variables.{fromAbove}
 use Rattle.program.specs.declared.Counts.{Counts}
 use Rattle.program.specs.declared.Variable.{Variable}
 use Rattle.reader.proofs.Published.{reads-accepts}
@@ -22,8 +21,8 @@ use Rattle.meaning.specs.Reduct.{system}
 use Rattle.meaning.proofs.InRanges.{past-zero}
 use Rattle.reduct.proofs.Fills.{zeros}
 use Rattle.sided.specs.Sides.{sidesLength, sidePlace, onSide}
-use Rattle.ascent.specs.Ascending.{risen, Sided}
-use Rattle.ascent.specs.Level.{LevelSides}
+use Rattle.sided.specs.Reached.{ownSide, risen, Sided}
+use Rattle.ascent.specs.Level.{LevelSides, LevelPast}
 use Rattle.ascent.proofs.PlaceLaws.{side-of, both, both-own, both-other, both-else}
 
 -- ---- past the last variable
@@ -63,13 +62,17 @@ module _ {n : ℕ} {θ : Valuation} {sides₀ sides : List ℤ} (k : LevelSides 
       go (yes l) = k .below v l f
       go (no l) = k .past v (omega arith) f ∙ z v (omega arith) f
 
-  pub level-sided : (vs : List Variable) → Sided vs θ sides
+  -- and stays so past the last variable
+  pub past-level : LevelPast n θ sides
+  past-level v l f = level-all f v
+
+  pub level-sided : (vs : List Variable) → Sided vs θ θ sides
   unfolding risen
-  level-sided vs = record { other = λ v. level-all (not (fromAbove (variableIn vs v))) v; standard = λ v t. level-all (fromAbove (variableIn vs v)) v }
+  level-sided vs = record { other = λ v. level-all (not (ownSide (variableIn vs v))) v; standard = λ v t. level-all (ownSide (variableIn vs v)) v }
 
   pub level-risen : (vs : List Variable) → risen vs sides ≡ θ
   unfolding risen
-  level-risen vs = fun-ext (λ v. level-all (fromAbove (variableIn vs v)) v)
+  level-risen vs = fun-ext (λ v. level-all (ownSide (variableIn vs v)) v)
 
   pub level-small : ((v : ℕ) → natAbs (θ v) ≤ maxNumber) → Small sides
   level-small h p = let q = side-of p in rw (q .2, level-all (q .1) (q .0)) (h (q .0))

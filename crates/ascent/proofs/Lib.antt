@@ -1,5 +1,6 @@
 pub mod PlaceLaws
-pub mod SideLaws
+pub mod CutLaws
+pub mod ReductLaws
 pub mod LookLaws
 pub mod ValueLaws
 pub mod LevelLaws

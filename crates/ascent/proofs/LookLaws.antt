@@ -1,6 +1,7 @@
--- What a rule is found to demand is what it demands in the reduct.
+-- What a rule is found to demand is what it demands in the reckoning.
 use Prim.Native.Nat.{ℕ, _<_}
-use mathlib.Core.Path.{_≡_, refl, sym, ap, ap₂, _∙_}
+use mathlib.Core.Path.{_≡_, refl, sym, ap, ap₂, _∙_, subst}
+use mathlib.Core.Logic.{_⊎_, inl, inr}
 use mathlib.Core.Bool.{Bool, true, false, not, cond, true≢false}
 use mathlib.Core.List.{List}
 use lib.Dec.{T, eqb}
@@ -9,10 +10,10 @@ use lib.ListN.{length}
 use borrow.Author.Tests.{eq-eqb, ne-eqb, eqb-true}
 use Rattle.program.specs.Fields.{valueAt}
 use Rattle.program.specs.Program.{Program, Rule, ruleOf, ruleIn, termForm, variableIn, variablesAt}
-use Rattle.program.specs.Variables.{fromAbove, notPast, noMore}
+use Rattle.program.specs.Variables.{isFounded, fromAbove, notPast, noMore}
 use Rattle.program.specs.Evaluate.{evaluate}
 use Rattle.program.specs.Evaluable.{Evaluable}
-use Rattle.program.specs.Readings.{Valuation, bodyVariable, gives}
+use Rattle.program.specs.Readings.{Valuation, bodyVariable, valued}
 use Rattle.program.specs.declared.Given.{Given}
 use Rattle.program.specs.declared.Given.the-variants.{Nothing, Value}
 use Rattle.program.specs.declared.Variable.{Variable}
@@ -20,17 +21,20 @@ use Rattle.program.proofs.Gives.{enough-of}
 use Rattle.program.proofs.Promises.{accepts-promises}
 use Rattle.program.proofs.Tests.{cases}
 use Rattle.program.proofs.Unique.{accepts-reads}
+use Rattle.program.proofs.Variables.{founded-kind}
 use Rattle.parts.specs.Values.{Standing}
 use Rattle.reader.proofs.Published.{variables-are}
 use Rattle.evaluation.specs.Past.{pastOnly}
-use Rattle.meaning.specs.Reduct.{reduct}
-use Rattle.run.specs.Running.{headOf, RuleStands, Demanded}
+use Rattle.meaning.specs.Reduct.{Reckoning}
+use Rattle.meaning.proofs.Monotone.{head-founded}
+use Rattle.run.specs.Running.{headOf, RuleMetIn, RuleStands, Demanded}
 use Rattle.run.specs.declared.Demand.the-variants.{More, Enough}
 use Rattle.run.proofs.RunLaws.{lies}
 use Rattle.sided.specs.Sides.{onSide, sidedReading}
-use Rattle.ascent.specs.Ascending.{risen, Sided}
-use Rattle.ascent.specs.Looking.{sizeSide, plainSide, SomeStanding}
-use Rattle.ascent.proofs.SideLaws.{gives-sided}
+use Rattle.sided.specs.Reached.{ownSide, risen, sizeSide, plainSide, ruleSide, sidedGives}
+use Rattle.ascent.specs.Ascending.{capped, FoundOn, ReadOn}
+use Rattle.ascent.specs.Looking.{SomeStanding}
+use Rattle.ascent.proofs.CutLaws.{same-no-more, capped-no-more, capped-under, capped-past, capped-value}
 
 -- ---- the side of plain terms
 
@@ -82,6 +86,35 @@ module _ (x : Variable) (z : ℤ) where
   past-nothing Nothing e = tt
   past-nothing (Value b) e = cases (notPast x b z) (λ t. cond t Nothing (Value b) ≡ Nothing → T t) (λ t q. tt) (λ t q. absurd (true≢false (sym (ap isNothing q)))) e
 
+-- ---- the head
+
+-- of a founded variable the value reached stands where its kind says
+pub own-above : (x : Variable) → T (isFounded x) → fromAbove x ≡ ownSide x
+unfolding ownSide
+own-above x t = go (founded-kind x t)
+  where
+    go : ((fromAbove x ≡ false) × (x .kind ≡ 1)) ⊎ ((fromAbove x ≡ true) × (x .kind ≡ 2)) → fromAbove x ≡ not (eqb (x .kind) 1)
+    go (inl q) = rw (q .1)
+    go (inr q) = rw (q .1)
+
+-- a rule is met whose head has its stop
+pub read-full : {P : Program} {R : Reckoning} {θ : Valuation} {stops : List ℤ} {full : Bool} {sides : List ℤ} {i : ℕ} → ReadOn P R θ stops full sides i → full ≡ true
+    → risen (P .variables) sides (headOf P i) ≡ valued stops (headOf P i) → RuleMetIn P R θ (risen (P .variables) sides) i
+read-full {P} {R} {θ} {stops} {full} {sides} {i} o f e = go (o .found)
+  where
+    h : ℕ
+    h = headOf P i
+
+    x : Variable
+    x = variableIn (P .variables) h
+
+    found : Given
+    found = sidedGives (P .variables) sides (ruleIn (P .rules) i)
+
+    go : FoundOn P R θ stops full sides i → RuleMetIn P R θ (risen (P .variables) sides) i
+    go (inl q) = rw (q, e) (same-no-more (R .variable h) x (capped full x (valued stops h) found) (valued stops h) (o .order) (capped-no-more x (valued stops h) full f found))
+    go (inr q) = q .2
+
 -- ---- the rule at a place
 
 module _ {s : List ℕ} {P : Program} {i at : ℕ} (h : RuleStands s P i at) {v : List ℕ} (q : v ≡ valueAt s at) where
@@ -94,40 +127,79 @@ module _ {s : List ℕ} {P : Program} {i at : ℕ} (h : RuleStands s P i at) {v 
   here-is : ruleOf v ≡ ruleIn (P .rules) i
   here-is = ap ruleOf q ∙ sym (lies h .is)
 
-  module _ {x : Variable} (p : x ≡ variableIn (P .variables) (headOf P i)) where
+module _ {s : List ℕ} {P : Program} {i at : ℕ} (h : RuleStands s P i at) {x : Variable} (p : x ≡ variableIn (P .variables) (headOf P i)) where
+  here-own : fromAbove x ≡ ownSide (variableIn (P .variables) (headOf P i))
+  here-own = ap fromAbove p ∙ own-above (variableIn (P .variables) (headOf P i)) (head-founded (accepts-promises (h .accepts)) i (h .among))
+
+  -- the head's value is the one reached
+  here-value : (sides : List ℤ) {head : ℕ} {above : Bool} {z : ℤ} → head ≡ headOf P i → above ≡ fromAbove x → z ≡ onSide sides above head
+      → z ≡ risen (P .variables) sides (headOf P i)
+  unfolding risen
+  here-value sides a b e = e ∙ rw (a, b ∙ here-own)
+
+  -- the head has its stop, which the code read as z and b
+  pub look-full : {R : Reckoning} {θ : Valuation} {stops : List ℤ} {full : Bool} {sides : List ℤ} → ReadOn P R θ stops full sides i
+      → {head : ℕ} {above : Bool} {z b : ℤ} → head ≡ headOf P i → above ≡ fromAbove x → z ≡ onSide sides above head → b ≡ valued stops head → full ≡ true → z ≡ b
+      → Demanded P R θ (risen (P .variables) sides) i Enough
+  look-full {stops = stops} {sides = sides} o a d e k f w = read-full o f (sym (here-value sides a d e) ∙ w ∙ k ∙ ap (valued stops) a)
+
+  module _ {v : List ℕ} (q : v ≡ valueAt s at) where
     here-side : {side : Bool} → ((n : ℕ) → Standing s n v → side ≡ plainSide (termForm (ruleOf v .form)) x (variableIn (variablesAt s n) (bodyVariable (ruleOf v) 0)))
-        → side ≡ plainSide (termForm (ruleIn (P .rules) i .form)) (variableIn (P .variables) (headOf P i)) (variableIn (P .variables) (bodyVariable (ruleIn (P .rules) i) 0))
+        → side ≡ ruleSide (P .variables) (ruleIn (P .rules) i)
     here-side f =
         let n = length (P .variables) in
-        f n here-standing
-        ∙ ap (λ (r : Rule). plainSide (termForm (r .form)) x (variableIn (variablesAt s n) (bodyVariable r 0))) here-is
+        f n (here-standing h q)
+        ∙ ap (λ (r : Rule). plainSide (termForm (r .form)) x (variableIn (variablesAt s n) (bodyVariable r 0))) (here-is h q)
         ∙ ap (λ (vs : List Variable). plainSide (termForm (ruleIn (P .rules) i .form)) x (variableIn vs (bodyVariable (ruleIn (P .rules) i) 0)))
         (sym (variables-are (accepts-reads (h .accepts)) (h .accepts)))
         ∙ ap (λ (y : Variable). plainSide (termForm (ruleIn (P .rules) i .form)) y (variableIn (P .variables) (bodyVariable (ruleIn (P .rules) i) 0))) p
 
-    -- the head's value is the one reached
-    here-value : (sides : List ℤ) {head : ℕ} {above : Bool} {z : ℤ} → head ≡ headOf P i → above ≡ fromAbove x → z ≡ onSide sides above head
-        → z ≡ risen (P .variables) sides (headOf P i)
-    unfolding risen
-    here-value sides a b e = e ∙ rw (a, b, p)
-
-    module _ {θ : Valuation} {sides : List ℤ} (o : Sided (P .variables) θ sides) {head : ℕ} {above side : Bool} {z : ℤ} {g : Given}
-        (a : head ≡ headOf P i) (b : above ≡ fromAbove x) (e : z ≡ onSide sides above head)
+    -- the head has not its stop
+    module _ {R : Reckoning} {θ : Valuation} {stops : List ℤ} {full : Bool} {sides : List ℤ} (o : ReadOn P R θ stops full sides i) {head : ℕ} {above side : Bool} {z b : ℤ} {g : Given}
+        (a : head ≡ headOf P i) (d : above ≡ fromAbove x) (e : z ≡ onSide sides above head) (w : b ≡ valued stops head) (n : full ≡ true → z ≡ b → ⊥)
         (f : (n : ℕ) → Standing s n v → side ≡ plainSide (termForm (ruleOf v .form)) x (variableIn (variablesAt s n) (bodyVariable (ruleOf v) 0)))
         (k : g ≡ pastOnly x z (evaluate (ruleOf v) (sidedReading sides (termForm (ruleOf v .form)) side (ruleOf v .terms)))) where
       abbrev m : Valuation
       m = risen (P .variables) sides
 
-      found : g ≡ pastOnly (variableIn (P .variables) (headOf P i)) (m (headOf P i)) (gives (P .variables) (ruleIn (P .rules) i) m θ)
-      found = k ∙ ap₂ (λ (y : Variable) (w : ℤ). pastOnly y w (evaluate (ruleOf v) (sidedReading sides (termForm (ruleOf v .form)) side (ruleOf v .terms)))) p (here-value sides a b e)
-          ∙ ap (pastOnly (variableIn (P .variables) (headOf P i)) (m (headOf P i)))
-          (ap (λ (r : Rule). evaluate r (sidedReading sides (termForm (r .form)) side (r .terms))) here-is
-          ∙ gives-sided (P .variables) (ruleIn (P .rules) i) (accepts-promises (h .accepts) .rules i (h .among)) o (here-side f))
+      abbrev y : Variable
+      y = variableIn (P .variables) (headOf P i)
 
-      pub look-more : {y : ℤ} → g ≡ Value y → Demanded P (reduct P) θ m i (More y)
-      look-more {y} c =
-          let t = past-value (variableIn (P .variables) (headOf P i)) (m (headOf P i)) (gives (P .variables) (ruleIn (P .rules) i) m θ) y (sym found ∙ c) in
-          record { gives-it = t .0; more = record { lt = t .1 } }
+      abbrev found : Given
+      found = sidedGives (P .variables) sides (ruleIn (P .rules) i)
 
-      pub look-enough : g ≡ Nothing → Demanded P (reduct P) θ m i Enough
-      look-enough c = past-nothing (variableIn (P .variables) (headOf P i)) (m (headOf P i)) (gives (P .variables) (ruleIn (P .rules) i) m θ) (sym found ∙ c)
+      as-found : g ≡ pastOnly y (m (headOf P i)) found
+      as-found = k ∙ ap₂ (λ (y : Variable) (w : ℤ). pastOnly y w (evaluate (ruleOf v) (sidedReading sides (termForm (ruleOf v .form)) side (ruleOf v .terms)))) p (here-value sides a d e)
+          ∙ ap (pastOnly y (m (headOf P i)))
+          (ap (λ (r : Rule). evaluate r (sidedReading sides (termForm (r .form)) side (r .terms))) (here-is h q)
+          ∙ ap (λ (t : Bool). evaluate (ruleIn (P .rules) i) (sidedReading sides (termForm (ruleIn (P .rules) i .form)) t (ruleIn (P .rules) i .terms))) (here-side f))
+
+      stop-is : b ≡ valued stops (headOf P i)
+      stop-is = w ∙ ap (valued stops) a
+
+      apart : full ≡ true → m (headOf P i) ≡ valued stops (headOf P i) → ⊥
+      apart t u = n t (here-value sides a d e ∙ u ∙ sym stop-is)
+
+      -- so that what it gives is what is found
+      given : FoundOn P R θ stops full sides i → R .gives i m θ ≡ capped full y (valued stops (headOf P i)) found
+      given (inl t) = t
+      given (inr t) = absurd (apart (t .0) (t .1))
+
+      pub look-more : {c r : ℤ} → g ≡ Value c → r ≡ cond full (cond (notPast x c b) c b) c → Demanded P R θ m i (More r)
+      look-more {c} {r} t u =
+          let l = past-value y (m (headOf P i)) found c (sym as-found ∙ t) in
+          rw (u, p, stop-is)
+          record {
+            gives-it = given (o .found) ∙ ap (capped full y (valued stops (headOf P i))) (l .0) ∙ capped-value y (valued stops (headOf P i)) full c;
+            more = record {
+              lt = subst (λ (t : Bool). T (not t)) (sym (o .order _ (m (headOf P i))))
+                  (capped-past y (valued stops (headOf P i)) (m (headOf P i)) full c (o .short) apart (l .1));
+            };
+          }
+
+      pub look-enough : g ≡ Nothing → Demanded P R θ m i Enough
+      look-enough t =
+          let u = past-nothing y (m (headOf P i)) found (sym as-found ∙ t) in
+          rw (given (o .found))
+          (same-no-more (R .variable (headOf P i)) y (capped full y (valued stops (headOf P i)) found) (m (headOf P i)) (o .order)
+          (capped-under y (valued stops (headOf P i)) (m (headOf P i)) full found (o .short) u))

@@ -11,3 +11,7 @@ use Rattle.sided.specs.Sides.{onSide}
 pub record LevelSides (n : ℕ) (θ : Valuation) (sides sides⁺ : List ℤ) : Type 0 where
   pub below : (v : ℕ) → v < n → (falling : Bool) → onSide sides⁺ falling v ≡ θ v
   pub past : (v : ℕ) → n ≤ v → (falling : Bool) → onSide sides⁺ falling v ≡ onSide sides falling v
+
+-- past the first n variables both sides have the values θ
+abbrev pub LevelPast : ℕ → Valuation → List ℤ → Type 0
+LevelPast n θ sides = (v : ℕ) → n ≤ v → (falling : Bool) → onSide sides falling v ≡ θ v

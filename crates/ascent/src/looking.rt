@@ -1,14 +1,18 @@
 // What one rule demands.
 ghost use mathlib.Core.Path.{_≡_};
+ghost use mathlib.Core.Bool.{cond};
 ghost use Prim.Native.Nat.{ℕ};
 ghost use Rattle.program.specs.Program.{Program, ruleOf, termForm, variableIn, variablesAt};
 ghost use Rattle.program.specs.Readings.{Valuation, bodyVariable};
+ghost use Rattle.program.specs.Variables.{notPast};
 ghost use Rattle.program.specs.Evaluable.{Evaluable, Small};
 ghost use Rattle.parts.specs.Values.{Standing};
-ghost use Rattle.meaning.specs.Reduct.{reduct};
+ghost use Rattle.meaning.specs.Reduct.{Reckoning};
+ghost use Rattle.sided.specs.Reached.{risen, sizeSide, plainSide};
 ghost use Rattle.run.specs.Running.{RuleStands, SomeRule, Demanded};
-ghost use Rattle.ascent.specs.Ascending.{risen, Sided};
-ghost use Rattle.ascent.specs.Looking.{sizeSide, plainSide, SomeStanding};
+ghost use Rattle.ascent.specs.Ascending.{ReadOn};
+ghost use Rattle.ascent.specs.Looking.{SomeStanding};
+use format::Format;
 use parts::places::value_at;
 use parts::rules;
 use parts::variables;
@@ -49,22 +53,41 @@ fn plain_side(file: &[u8], value: &[u8], h: Variable) -> bool
     size_side(x, above)
 }
 
-// Whether the rule whose field stands at `at` demands more than its head has.
-pub fn look(file: &[u8], at: usize, sides: &[i64; Sides::LENGTH]) -> Demand
+// What is given to the head x: with `full` no further than its stop.
+fn no_further(full: bool, x: Variable, stop: i64, a: i64) -> i64
+    ensures { λ r. ⌜ r ≡ cond full (cond (notPast x a stop) a stop) a ⌝ }
+{
+    if full && x.is_before(stop, a) {
+        return stop;
+    }
+    a
+}
+
+// Whether the rule whose field stands at `at` demands more than its head has; with `full` a head that has its value in `stops` needs no more, and no rule gives past it.
+pub fn look(
+    file: &[u8],
+    at: usize,
+    sides: &[i64; Sides::LENGTH],
+    stops: &[i64; Format::MAX_VARIABLES],
+    full: bool,
+) -> Demand
     requires { ⌜ SomeRule (now file) at ⌝ }
     requires { ⌜ Small (now sides) ⌝ }
-    ensures { λ r. ⌜ ((P : Program) (i : ℕ) (θ : Valuation) → RuleStands (now (file .entry)) P i at → Sided (P .variables) θ (now (sides .entry))
-        → Demanded P (reduct P) θ (risen (P .variables) (now (sides .entry))) i r) ⌝ }
+    ensures { λ r. ⌜ ((P : Program) (R : Reckoning) (θ : Valuation) (i : ℕ) → RuleStands (now (file .entry)) P i at
+        → ReadOn P R θ (now (stops .entry)) full (now (sides .entry)) i → Demanded P R θ (risen (P .variables) (now (sides .entry))) i r) ⌝ }
 {
     let value = value_at(file, at);
     let head = head_at(file, at);
     let x = variables::variable(file, head);
-    let above = x.is_from_above();
+    let has = read(sides, x.is_from_above(), head);
+    let stop = stops[format::wide(head)];
+    if full && has == stop {
+        return Demand::Enough;
+    }
     let side = plain_side(file, value, x);
-    let has = read(sides, above, head);
     let past = gives_past(value, side, sides, x, has);
     match past {
-        Given::Value(a) => Demand::More(a),
+        Given::Value(a) => Demand::More(no_further(full, x, stop, a)),
         Given::Nothing => Demand::Enough,
     }
 }

@@ -1,4 +1,4 @@
-// The values on both sides, from an assignment, and the values reached.
+// The values on both sides at the start, and the values reached.
 ghost use mathlib.Core.Path.{_≡_};
 ghost use mathlib.Core.Bool.{not};
 ghost use Prim.Native.Nat.{_*_, _≤_};
@@ -6,10 +6,11 @@ ghost use lib.ListN.{length, set};
 ghost use Rattle.format.specs.Limits.{maxVariables};
 ghost use Rattle.program.specs.Program.{variablesAt};
 ghost use Rattle.program.specs.Readings.{valued};
-ghost use Rattle.program.specs.Variables.{fromAbove, started};
+ghost use Rattle.program.specs.Variables.{started};
 ghost use Rattle.reduct.specs.Filling.{Filled};
 ghost use Rattle.sided.specs.Sides.{sidesLength, sidePlace};
-ghost use Rattle.ascent.specs.Ascending.{risen, SidesStart};
+ghost use Rattle.sided.specs.Reached.{ownSide, risen};
+ghost use Rattle.ascent.specs.Ascending.{SidesStart};
 use format::Format;
 use parts::variables;
 use program::Variable;
@@ -17,17 +18,23 @@ use sided::Sides;
 use sided::read;
 use sided::write;
 
-// Variable v, whose record is x, at its starting end, with its assigned value beside it; a standard one as assigned.
-fn start_one(v: u8, x: Variable, given: i64, sides: &mut [i64; Sides::LENGTH])
+// Whether the value that x has reached stands where falling positions read it.
+fn own_side(x: Variable) -> bool
+    ensures { λ r. ⌜ r ≡ ownSide x ⌝ }
+{
+    x.kind != 1
+}
+
+// Variable v, whose record is x, at its starting end, a standard one as assigned, with the other value beside it.
+fn start_one(v: u8, x: Variable, given: i64, other: i64, sides: &mut [i64; Sides::LENGTH])
     requires { ⌜ length (now sides) ≡ sidesLength ⌝ }
     ensures { λ _. ⌜ length (now (sides .exit)) ≡ sidesLength ⌝ }
-    ensures { λ _. ⌜ now (sides .exit)
-        ≡ set (set (now (sides .entry)) (sidePlace (fromAbove x) v) (started x given)) (sidePlace (not (fromAbove x)) v) given ⌝ }
+    ensures { λ _. ⌜ now (sides .exit) ≡ set (set (now (sides .entry)) (sidePlace (ownSide x) v) (started x given)) (sidePlace (not (ownSide x)) v) other ⌝ }
 {
-    let above = x.is_from_above();
+    let side = own_side(x);
     let from = x.started(given);
-    write(sides, above, v, from);
-    write(sides, !above, v, given);
+    write(sides, side, v, from);
+    write(sides, !side, v, other);
 }
 
 // The first n variables; those past the last one stay.
@@ -35,17 +42,19 @@ pub fn start_sides(
     file: &[u8],
     n: usize,
     assigned: &[i64; Format::MAX_VARIABLES],
+    others: &[i64; Format::MAX_VARIABLES],
     sides: &mut [i64; Sides::LENGTH],
 )
     requires { ⌜ (8 * n ≤ length (now file)) × (n ≤ maxVariables) ⌝ }
     requires { ⌜ length (now sides) ≡ sidesLength ⌝ }
     ensures { λ _. ⌜ length (now (sides .exit)) ≡ sidesLength ⌝ }
-    ensures { λ _. ⌜ SidesStart (variablesAt (now (file .entry)) n) n (valued (now (assigned .entry))) (now (sides .entry)) (now (sides .exit)) ⌝ }
+    ensures { λ _. ⌜ SidesStart (variablesAt (now (file .entry)) n) n (valued (now (assigned .entry))) (valued (now (others .entry))) (now (sides .entry)) (now (sides .exit)) ⌝ }
 {
     for v in 0..n {
         let x = variables::variable(file, v as u8);
         let given = assigned[v];
-        start_one(v as u8, x, given, sides);
+        let other = others[v];
+        start_one(v as u8, x, given, other, sides);
     }
 }
 
@@ -63,7 +72,7 @@ pub fn values_of(
 {
     for v in 0..n {
         let x = variables::variable(file, v as u8);
-        let value = read(sides, x.is_from_above(), v as u8);
+        let value = read(sides, own_side(x), v as u8);
         model[v] = value;
     }
 }

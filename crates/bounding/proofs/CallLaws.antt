@@ -1,6 +1,6 @@
 -- The call bounds, from a file that was accepted: when it is turned down, and what it writes.
 use Prim.Native.Nat.{ℕ, _+_, _*_, _/_, _<_, _≤_}
-use mathlib.Core.Path.{_≡_, refl, sym, ap, subst, _∙_}
+use mathlib.Core.Path.{_≡_, refl, sym, ap, subst, fun-ext, _∙_}
 use mathlib.Core.Logic.{inl, inr}
 use mathlib.Core.Bool.{Bool, true, false}
 use mathlib.Core.List.{List, _++_}
@@ -8,7 +8,7 @@ use native.Mathlib.Omega.{arith}
 use borrow.Author.Tests.{ltb-true, ltb-false}
 use lib.Dec.{ltb}
 use lib.IntN.{ℤ, pos, natAbs}
-use lib.ListN.{length, drop, List·getD-eq-default}
+use lib.ListN.{length, drop, replicate, List·getD-eq-default}
 use Rattle.format.specs.Limits.{maxNumber}
 use Rattle.format.proofs.Int.{int}
 use Rattle.program.specs.Program.{Program, noVariable, variablesAt}
@@ -26,22 +26,29 @@ use Rattle.meaning.proofs.InRanges.{value-small}
 use Rattle.reader.proofs.Published.{reads-accepts, counts-of, variables-are}
 use Rattle.reduct.specs.Filling.{Filled}
 use Rattle.reduct.proofs.AssignedLaws.{one-valuation}
-use Rattle.reduct.proofs.Fills.{filled-done, loaded-as}
+use Rattle.reduct.proofs.Fills.{filled-done, loaded-as, zeros}
 use Rattle.lent.specs.Ranges.{lowIn, highIn, AllFit}
 use Rattle.lent.specs.Lent.{lent, Bounds}
 use Rattle.lent.specs.BoundsCall.{rangeBytes, turned, BoundsCall, within-bounds, bounded}
-use Rattle.lent.proofs.Fits.{Fitting, ranges-fitting, lent-within}
+use Rattle.lent.proofs.Fits.{Fitting, ranges-fitting, lent-narrows, low-within, lent-within}
 use Rattle.lent.proofs.Ends.{ends-model}
 use Rattle.lent.proofs.Calls.{all-fit, lent-called}
 use Rattle.tables.specs.Laid.{OffsetsOf}
 use Rattle.meaning.specs.Reduct.{Reckoning}
-use Rattle.run.specs.Running.{Basis, FullMet, SomeBasis, EndsWith}
+use Rattle.sided.specs.Sides.{sidesLength, sidePlace}
+use Rattle.sided.specs.Reached.{risen}
+use Rattle.run.specs.Running.{Underway, SomeWay}
 use Rattle.run.specs.declared.Ending.{Ending}
 use Rattle.run.specs.declared.Ending.the-variants as ending
-use Rattle.run.proofs.SweepLaws.{cut-full}
+use Rattle.ascent.specs.declared.Climbed.{Climbed}
+use Rattle.ascent.specs.declared.Climbed.the-variants.{Ended, Open}
+use Rattle.ascent.specs.Ascending.{SidesStart, Climbing, SomeClimbing, ClimbIs}
+use Rattle.ascent.proofs.ValueLaws.{start-progress, reached-ended, reached-open}
 use Rattle.ends.specs.Ends.{otherEnd, otherEnds, stopEnd, stopEnds, FitIs, LentMasks}
+use Rattle.ends.specs.Freed.{FitsRanges, AtStops, Freed}
+use Rattle.ends.proofs.ScaleLaws.{lent-climbing}
 use Rattle.ends.proofs.TaskLaws.{lent-basis}
-use Rattle.bounding.specs.Writing.{BoundsWritten, FitsFile}
+use Rattle.bounding.specs.Writing.{BoundsWritten, AtOthers, OnTheWay, EndsBounded}
 
 -- ---- the ranges as loaded
 
@@ -59,7 +66,7 @@ pub fit-as : (vs : List Variable) (n : ℕ) {low high low′ high′ : Valuation
 fit-as vs n u p q e f = rw (p, q, e) at f
 
 -- what the run is asked, and what it writes, in the words of the ranges
-pub fits-lists : {s : List ℕ} {low high low′ high′ : Valuation} → low ≡ low′ → high ≡ high′ → FitsFile s low′ high′ → FitsFile s low high
+pub fits-lists : {s : List ℕ} {low high low′ high′ : Valuation} → low ≡ low′ → high ≡ high′ → FitsRanges s low′ high′ → FitsRanges s low high
 fits-lists p q f P x = rw (p, q) (f P x)
 
 pub written-lists : {s b b′ : List ℕ} {low high low′ high′ : Valuation} → low ≡ low′ → high ≡ high′ → ((P : Program) → Accepts s P → BoundsWritten P low high b b′)
@@ -88,12 +95,12 @@ module _ {P : Program} {low high : Valuation} (f : Fitting P low high) (v : ℕ)
 
 -- ---- a file that was accepted
 
-module _ (s : List ℕ) (k : Counts) (r : AcceptedAs s k) where
+module _ {s : List ℕ} {k : Counts} (r : AcceptedAs s k) where
   -- ends that were set for the declared variables over zeros, at every variable
-  module _ (low high : Valuation) (fit : FitsFile s low high) (ms ms′ : List ℤ) (z : (v : ℕ) → valued ms v ≡ pos 0) (P : Program) (x : Accepts s P) where
-    whole : (m : List Variable → Valuation) → Filled (m (variablesAt s (k .variables))) (k .variables) ms ms′ → ((v : ℕ) → length (P .variables) ≤ v → pos 0 ≡ m (P .variables) v)
-        → (v : ℕ) → valued ms′ v ≡ m (P .variables) v
-    whole m f past v = go (ltb v (k .variables)) refl
+  module _ {low high : Valuation} (fit : FitsRanges s low high) {ms ms′ : List ℤ} (z : (v : ℕ) → valued ms v ≡ pos 0) where
+    whole : (m : List Variable → Valuation) → Filled (m (variablesAt s (k .variables))) (k .variables) ms ms′ → (P : Program) → Accepts s P
+        → ((v : ℕ) → length (P .variables) ≤ v → pos 0 ≡ m (P .variables) v) → (v : ℕ) → valued ms′ v ≡ m (P .variables) v
+    whole m f P x past v = go (ltb v (k .variables)) refl
       where
         go : (t : Bool) → ltb v (k .variables) ≡ t → valued ms′ v ≡ m (P .variables) v
         go true q = f .below v (ltb-true v (k .variables) q) ∙ ap (λ (vs : List Variable). m vs v) (sym (variables-are r x))
@@ -101,60 +108,87 @@ module _ (s : List ℕ) (k : Counts) (r : AcceptedAs s k) where
             let l = ltb-false v (k .variables) q in
             f .past v l ∙ z v ∙ past v (omega (arith, counts-of r x .variables-are))
 
-    pub others-whole : Filled (otherEnds (variablesAt s (k .variables)) low high) (k .variables) ms ms′ → (v : ℕ) → valued ms′ v ≡ otherEnds (P .variables) low high v
-    others-whole f = whole (λ vs. otherEnds vs low high) f (other-past (fit P x))
+    pub others-whole : Filled (otherEnds (variablesAt s (k .variables)) low high) (k .variables) ms ms′ → AtOthers s low high ms′
+    others-whole f P x = whole (λ vs. otherEnds vs low high) f P x (other-past (fit P x))
 
-    pub stops-whole : Filled (stopEnds (variablesAt s (k .variables)) low high) (k .variables) ms ms′ → (v : ℕ) → valued ms′ v ≡ stopEnds (P .variables) low high v
-    stops-whole f = whole (λ vs. stopEnds vs low high) f (stop-past (fit P x))
+    pub stops-whole : Filled (stopEnds (variablesAt s (k .variables)) low high) (k .variables) ms ms′ → AtStops s low high ms′
+    stops-whole f P x = whole (λ vs. stopEnds vs low high) f P x (stop-past (fit P x))
 
   -- zeros are the low ends past the last variable
-  pub zero-past : (low high : Valuation) → FitsFile s low high → (m : Valuation) → ((v : ℕ) → m v ≡ pos 0) → (v : ℕ) → k .variables ≤ v → m v ≡ low v
-  zero-past low high fit m z v l =
+  pub zero-past : {low high : Valuation} → FitsRanges s low high → (m : Valuation) → ((v : ℕ) → m v ≡ pos 0) → (v : ℕ) → k .variables ≤ v → m v ≡ low v
+  zero-past fit m z v l =
       let x = reads-accepts r in
       z v ∙ sym (low-past (fit (x .meant) (x .accepts)) v (omega (arith, x .variables-are)))
 
-  -- what the run relies on
-  module _ (low high : Valuation) (fit : FitsFile s low high) (os : List ℕ) (t : OffsetsOf s os) (ms : List ℕ)
-      (masks : (P : Program) → Accepts s P → LentMasks P low high (length (P .rules)) ms) (zs others stops : List ℤ) (z : (v : ℕ) → valued zs v ≡ pos 0)
-      (o : Filled (otherEnds (variablesAt s (k .variables)) low high) (k .variables) zs others)
-      (e : Filled (stopEnds (variablesAt s (k .variables)) low high) (k .variables) zs stops) where
-    bound-basis : (P : Program) → Accepts s P → Basis s P (lent P low high) low os ms others stops true
-    bound-basis P x = lent-basis x t low high (fit P x) ms (masks P x) others stops (others-whole low high fit zs others z P x o) (stops-whole low high fit zs stops z P x e)
+  -- the ends at which others are read and lifts stop
+  module _ {low high : Valuation} (fit : FitsRanges s low high) (others stops : List ℤ) (o : AtOthers s low high others) (e : AtStops s low high stops) where
+    -- at the start
+    begun : {sides : List ℤ} → SidesStart (variablesAt s (k .variables)) (k .variables) low (valued others) (replicate sidesLength (pos 0)) sides
+        → (P : Program) → Accepts s P → Freed P low high 0 sides
+    begun h P x =
+        let n = counts-of r x .variables-are in
+        let q = start-progress r x (lent-narrows (fit P x)) (low-within (fit P x)) (λ v l f. zeros sidesLength (sidePlace f v) ∙ sym (low-past (fit P x) v (omega arith)))
+        (λ v l. o P x v ∙ sym (other-past (fit P x) v (omega arith)) ∙ sym (low-past (fit P x) v (omega arith))) h in
+        record { sided = rw (sym (fun-ext (o P x))) (q .0); progress = q .1; free = λ i l. absurd (omega arith) }
 
-    -- a head that has its stop is full
-    bound-full : (P : Program) → Accepts s P → FullMet P (lent P low high) low stops true
-    bound-full P x = cut-full true (bound-basis P x)
+    -- the heads of undecided rules have been given their stops
+    module _ {sides sides⁺ : List ℤ} (h : SidesStart (variablesAt s (k .variables)) (k .variables) low (valued others) (replicate sidesLength (pos 0)) sides)
+        (g : (P : Program) → Accepts s P → Freed P low high 0 sides → Freed P low high (length (P .rules)) sides⁺) where
+      climbs : (P : Program) → Accepts s P → Climbing P (lent P low high) low (otherEnds (P .variables) low high) stops true sides⁺
+      climbs P x = lent-climbing x low high (fit P x) stops (e P x) (g P x (begun h P x))
 
-    pub bound-ends : (m : Valuation) (r : Ending) → ((P : Program) (R : Reckoning) → Basis s P R low os ms others stops true → FullMet P R low stops true → EndsWith P R low m r)
-        → (P : Program) → Accepts s P → EndsWith P (lent P low high) low m r
-    bound-ends m r f P x = f P (lent P low high) (bound-basis P x) (bound-full P x)
+      pub some-climbs : SomeClimbing s stops true sides⁺
+      some-climbs =
+          let x = reads-accepts r in
+          let P = x .meant in
+          record {
+            program = P;
+            reckoning = lent P low high;
+            assigned = low;
+            others = otherEnds (P .variables) low high;
+            accepts = x .accepts;
+            climbing = climbs P (x .accepts);
+          }
 
-    pub some-basis : k .rules ≤ length os → k .rules ≤ length ms → SomeBasis s low os ms others stops true true
-    some-basis h l =
-        let x = reads-accepts r in
-        record {
-          program = x .meant;
-          reckoning = lent (x .meant) low high;
-          basis = bound-basis (x .meant) (x .accepts);
-          full-met = bound-full (x .meant) (x .accepts);
-          reach = record { offsets-reach = omega (arith, x .rules-are, h); masks-reach = omega (arith, x .rules-are, l) };
-        }
+      -- what climbing ended with, in the values that were written
+      module _ (sides⁺⁺ : List ℤ) (b : Climbed) {m₀ m : List ℤ}
+          (c : (P : Program) (R : Reckoning) (θ others : Valuation) → Accepts s P → Climbing P R θ others stops true sides⁺ → ClimbIs P R θ sides⁺⁺ b)
+          (z : (v : ℕ) → k .variables ≤ v → valued m₀ v ≡ low v) (f : Filled (risen (variablesAt s (k .variables)) sides⁺⁺) (k .variables) m₀ m) where
+        ends : (P : Program) → Accepts s P → ClimbIs P (lent P low high) low sides⁺⁺ b
+        ends P x = c P (lent P low high) low (otherEnds (P .variables) low high) x (climbs P x)
+
+        pub climbed-ended : {a : Ending} → b ≡ Ended a → EndsBounded s low high (valued m) a
+        climbed-ended q P x = reached-ended r x (lent-narrows (fit P x)) low sides⁺⁺ z f (ends P x) q
+
+        pub climbed-open : b ≡ Open → OnTheWay s low high (valued m)
+        climbed-open q P x = reached-open r x (lent-narrows (fit P x)) low sides⁺⁺ z f (ends P x) q
+
+    -- what is left open
+    module _ {os ms : List ℕ} (t : OffsetsOf s os) (masks : (P : Program) → Accepts s P → LentMasks P low high (length (P .rules)) ms) (m : List ℤ)
+        (w : OnTheWay s low high (valued m)) where
+      pub underway : (P : Program) → Accepts s P → Underway s P (lent P low high) low os ms others stops true m
+      underway P x = record { basis = lent-basis x t low high (fit P x) ms (masks P x) others stops (o P x) (e P x); progress = w P x }
+
+      pub some-way : SomeWay s os ms others stops true m
+      some-way =
+          let x = reads-accepts r in
+          record { program = x .meant; reckoning = lent (x .meant) low high; assigned = low; way = underway (x .meant) (x .accepts) }
 
   -- the run ends in the bounds, for there is a model
-  pub ends-bounds : (low high : Valuation) → FitsFile s low high → (m : Valuation) (e : Ending) → ((P : Program) → Accepts s P → EndsWith P (lent P low high) low m e)
+  pub ends-bounds : {low high : Valuation} → FitsRanges s low high → (m : Valuation) (e : Ending) → EndsBounded s low high m e
       → (P : Program) → Accepts s P → Bounds P low high m
-  ends-bounds low high fit m ending.Model h P x = h P x
-  ends-bounds low high fit m ending.NoModel h P x = absurd (h P x _ (ends-model (accepts-promises x) (fit P x)))
+  ends-bounds fit m ending.Model h P x = h P x
+  ends-bounds fit m ending.NoModel h P x = absurd (h P x _ (ends-model (accepts-promises x) (fit P x)))
 
-  pub bounds-small : (low high : Valuation) → FitsFile s low high → (m : Valuation) → ((P : Program) → Accepts s P → Bounds P low high m) → (v : ℕ) → v < k .variables
+  pub bounds-small : {low high : Valuation} → FitsRanges s low high → (m : Valuation) → ((P : Program) → Accepts s P → Bounds P low high m) → (v : ℕ) → v < k .variables
       → natAbs (m v) ≤ maxNumber
-  bounds-small low high fit m h v l =
+  bounds-small fit m h v l =
       let x = reads-accepts r in
       value-small (accepts-promises (x .accepts)) (lent-within (fit (x .meant) (x .accepts)) (h (x .meant) (x .accepts) .model .within)) v
 
-  pub bounds-written : (low high : Valuation) (m : Valuation) → ((P : Program) → Accepts s P → Bounds P low high m) → (b b′ : List ℕ)
+  pub bounds-written : {low high : Valuation} (m : Valuation) → ((P : Program) → Accepts s P → Bounds P low high m) → (b b′ : List ℕ)
       → b′ ≡ written m (k .variables) ++ drop (2 * k .variables) b → (P : Program) → Accepts s P → BoundsWritten P low high b b′
-  bounds-written low high m h b b′ e P x = record {
+  bounds-written m h b b′ e P x = record {
     model = m;
     bounds = h P x;
     bytes = e ∙ ap (λ (n : ℕ). written m n ++ drop (2 * n) b) (sym (counts-of r x .variables-are));
@@ -180,7 +214,7 @@ module _ (s : List ℕ) (k : Counts) (r : AcceptedAs s k) where
       fit : FitIs (variablesAt s (k .variables)) (lowIn g) (highIn g) (k .variables) true → (P : Program) → Accepts s P → AllFit P (lowIn g) (highIn g)
       fit f P x v l = rw (variables-are r x) (f v (omega (arith, counts-of r x .variables-are)))
 
-      pub fits-file : FitIs (variablesAt s (k .variables)) (lowIn g) (highIn g) (k .variables) true → FitsFile s (lowIn g) (highIn g)
+      pub fits-file : FitIs (variablesAt s (k .variables)) (lowIn g) (highIn g) (k .variables) true → FitsRanges s (lowIn g) (highIn g)
       fits-file f P x = ranges-fitting P g (let q = counts-of r x .variables-are in omega arith) (fit f P x)
 
       pub wrong-ranges : FitIs (variablesAt s (k .variables)) (lowIn g) (highIn g) (k .variables) false → Refuses (turned g b) s 20 0

@@ -1,13 +1,20 @@
 // The call bounds.
 ghost use mathlib.Core.Path.{_≡_};
-ghost use Prim.Native.Nat.{_*_, _≤_};
+ghost use Prim.Native.Nat.{ℕ, _*_, _≤_};
 ghost use lib.ListN.{length};
+ghost use Rattle.format.specs.Limits.{maxVariables};
 ghost use Rattle.program.specs.Program.{Program};
 ghost use Rattle.program.specs.Reading.{AcceptedAs, Accepts};
 ghost use Rattle.program.specs.Readings.{valued};
 ghost use Rattle.meaning.specs.LeastCall.{leastBytes};
 ghost use Rattle.lent.specs.BoundsCall.{BoundsCall, answerOf, rangeBytes};
-ghost use Rattle.bounding.specs.Writing.{BoundsWritten, FitsFile};
+ghost use Rattle.ends.specs.Freed.{FitsRanges, AtStops};
+ghost use Rattle.bounding.specs.Writing.{BoundsWritten, AtOthers, OnTheWay, EndsBounded};
+use ascent::Climbed;
+use ascent::sweeping::climb;
+use ascent::values::start_sides;
+use ascent::values::values_of;
+use ends::free::free_heads;
 use ends::masks::set_masks;
 use ends::ranges;
 use format::Format;
@@ -16,7 +23,9 @@ use lent::Bounding;
 use meaning::Denied;
 use program::Counts;
 use program::Reading;
-use solving::reckon;
+use run::Ending;
+use settling::settle;
+use sided::Sides;
 use tables::Tables;
 
 // What the call asks of its ranges and of its buffer.
@@ -36,47 +45,115 @@ impl Asks {
     {}
 }
 
-// Ranges that fit, with memory for the tables: the bounds are written.
-fn bound_in(
+// What sweeps leave open, with memory for the tables.
+fn finish_in(
     file: &[u8],
     counts: Counts,
     offsets: &mut [u16],
     masks: &mut [u32],
     lows: &[i64; Format::MAX_VARIABLES],
     highs: &[i64; Format::MAX_VARIABLES],
-    buffer: &mut [u8],
-)
+    others: &[i64; Format::MAX_VARIABLES],
+    stops: &[i64; Format::MAX_VARIABLES],
+    model: &mut [i64; Format::MAX_VARIABLES],
+) -> Ending
     requires { ⌜ AcceptedAs (now file) counts ⌝ }
     requires { ⌜ (counts .rules ≤ length (now offsets)) × (counts .rules ≤ length (now masks)) ⌝ }
-    requires { ⌜ FitsFile (now file) (valued (now lows)) (valued (now highs)) ⌝ }
-    requires { ⌜ leastBytes * counts .variables ≤ length (now buffer) ⌝ }
-    ensures { λ _. ⌜ ((P : Program) → Accepts (now (file .entry)) P
-        → BoundsWritten P (valued (now (lows .entry))) (valued (now (highs .entry))) (now (buffer .entry)) (now (buffer .exit))) ⌝ }
+    requires { ⌜ FitsRanges (now file) (valued (now lows)) (valued (now highs)) ⌝ }
+    requires { ⌜ AtOthers (now file) (valued (now lows)) (valued (now highs)) (now others) ⌝ }
+    requires { ⌜ AtStops (now file) (valued (now lows)) (valued (now highs)) (now stops) ⌝ }
+    requires { ⌜ OnTheWay (now file) (valued (now lows)) (valued (now highs)) (valued (now model)) ⌝ }
+    requires { ⌜ length (now model) ≡ maxVariables ⌝ }
+    ensures { λ _. ⌜ length (now (model .exit)) ≡ maxVariables ⌝ }
+    ensures { λ r. ⌜ EndsBounded (now (file .entry)) (valued (now (lows .entry))) (valued (now (highs .entry))) (valued (now (model .exit))) r ⌝ }
 {
-    let n = counts.variables;
-    let mut others = [0i64; Format::MAX_VARIABLES];
-    let mut stops = [0i64; Format::MAX_VARIABLES];
-    let mut model = [0i64; Format::MAX_VARIABLES];
     set_masks(file, counts, lows, highs, offsets, masks);
-    ranges::set_ends(file, n, lows, highs, &mut others, &mut stops);
     let cut = true;
-    let full = true;
-    reckon(
-        file,
-        counts,
-        offsets,
-        masks,
-        lows,
-        &others,
-        &stops,
-        cut,
-        full,
-        &mut model,
-    );
-    write_values(&model, n, buffer);
+    settle(file, counts, offsets, masks, model, others, stops, cut)
 }
 
-// Ranges that fit.
+// The same, the tables made by size.
+fn finish(
+    file: &[u8],
+    counts: Counts,
+    lows: &[i64; Format::MAX_VARIABLES],
+    highs: &[i64; Format::MAX_VARIABLES],
+    others: &[i64; Format::MAX_VARIABLES],
+    stops: &[i64; Format::MAX_VARIABLES],
+    model: &mut [i64; Format::MAX_VARIABLES],
+) -> Ending
+    requires { ⌜ AcceptedAs (now file) counts ⌝ }
+    requires { ⌜ FitsRanges (now file) (valued (now lows)) (valued (now highs)) ⌝ }
+    requires { ⌜ AtOthers (now file) (valued (now lows)) (valued (now highs)) (now others) ⌝ }
+    requires { ⌜ AtStops (now file) (valued (now lows)) (valued (now highs)) (now stops) ⌝ }
+    requires { ⌜ OnTheWay (now file) (valued (now lows)) (valued (now highs)) (valued (now model)) ⌝ }
+    requires { ⌜ length (now model) ≡ maxVariables ⌝ }
+    ensures { λ _. ⌜ length (now (model .exit)) ≡ maxVariables ⌝ }
+    ensures { λ r. ⌜ EndsBounded (now (file .entry)) (valued (now (lows .entry))) (valued (now (highs .entry))) (valued (now (model .exit))) r ⌝ }
+{
+    if counts.rules <= Tables::FEW {
+        let mut offsets = [0u16; Tables::FEW];
+        let mut masks = [0u32; Tables::FEW];
+        return finish_in(
+            file,
+            counts,
+            &mut offsets,
+            &mut masks,
+            lows,
+            highs,
+            others,
+            stops,
+            model,
+        );
+    }
+    let mut offsets = [0u16; Format::MAX_RULES];
+    let mut masks = [0u32; Format::MAX_RULES];
+    finish_in(
+        file,
+        counts,
+        &mut offsets,
+        &mut masks,
+        lows,
+        highs,
+        others,
+        stops,
+        model,
+    )
+}
+
+// From the starting ends to the bounds.
+fn run(
+    file: &[u8],
+    counts: Counts,
+    lows: &[i64; Format::MAX_VARIABLES],
+    highs: &[i64; Format::MAX_VARIABLES],
+    others: &[i64; Format::MAX_VARIABLES],
+    stops: &[i64; Format::MAX_VARIABLES],
+    model: &mut [i64; Format::MAX_VARIABLES],
+) -> Ending
+    requires { ⌜ AcceptedAs (now file) counts ⌝ }
+    requires { ⌜ FitsRanges (now file) (valued (now lows)) (valued (now highs)) ⌝ }
+    requires { ⌜ AtOthers (now file) (valued (now lows)) (valued (now highs)) (now others) ⌝ }
+    requires { ⌜ AtStops (now file) (valued (now lows)) (valued (now highs)) (now stops) ⌝ }
+    requires { ⌜ ((v : ℕ) → counts .variables ≤ v → valued (now model) v ≡ valued (now lows) v) ⌝ }
+    requires { ⌜ length (now model) ≡ maxVariables ⌝ }
+    ensures { λ _. ⌜ length (now (model .exit)) ≡ maxVariables ⌝ }
+    ensures { λ r. ⌜ EndsBounded (now (file .entry)) (valued (now (lows .entry))) (valued (now (highs .entry))) (valued (now (model .exit))) r ⌝ }
+{
+    let n = counts.variables;
+    let mut sides = [0i64; Sides::LENGTH];
+    start_sides(file, n, lows, others, &mut sides);
+    free_heads(file, counts, lows, highs, stops, &mut sides);
+    let full = true;
+    let climbed = climb(file, counts, &mut sides, stops, full);
+    values_of(file, n, &sides, model);
+    match climbed {
+        Climbed::Ended(ending) => ending,
+        Climbed::Open => finish(file, counts, lows, highs, others, stops, model),
+    }
+}
+
+// Ranges that fit: the bounds are written.
 fn bound(
     file: &[u8],
     counts: Counts,
@@ -85,20 +162,18 @@ fn bound(
     buffer: &mut [u8],
 )
     requires { ⌜ AcceptedAs (now file) counts ⌝ }
-    requires { ⌜ FitsFile (now file) (valued (now lows)) (valued (now highs)) ⌝ }
+    requires { ⌜ FitsRanges (now file) (valued (now lows)) (valued (now highs)) ⌝ }
     requires { ⌜ leastBytes * counts .variables ≤ length (now buffer) ⌝ }
     ensures { λ _. ⌜ ((P : Program) → Accepts (now (file .entry)) P
         → BoundsWritten P (valued (now (lows .entry))) (valued (now (highs .entry))) (now (buffer .entry)) (now (buffer .exit))) ⌝ }
 {
-    if counts.rules <= Tables::FEW {
-        let mut offsets = [0u16; Tables::FEW];
-        let mut masks = [0u32; Tables::FEW];
-        bound_in(file, counts, &mut offsets, &mut masks, lows, highs, buffer);
-        return;
-    }
-    let mut offsets = [0u16; Format::MAX_RULES];
-    let mut masks = [0u32; Format::MAX_RULES];
-    bound_in(file, counts, &mut offsets, &mut masks, lows, highs, buffer);
+    let n = counts.variables;
+    let mut others = [0i64; Format::MAX_VARIABLES];
+    let mut stops = [0i64; Format::MAX_VARIABLES];
+    let mut model = [0i64; Format::MAX_VARIABLES];
+    ranges::set_ends(file, n, lows, highs, &mut others, &mut stops);
+    run(file, counts, lows, highs, &others, &stops, &mut model);
+    write_values(&model, n, buffer);
 }
 
 // Ranges of the right length.

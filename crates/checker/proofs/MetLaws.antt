@@ -37,14 +37,14 @@ exceeds-unmet P θ i {a} e r =
 
 -- the first that asks for more than its head has, every position read in the assignment
 module _ {s : List ℕ} {P : Program} {θ m : Valuation} (e : m ≡ θ) where
-  pub first-unmet : {i at : ℕ} {a : ℤ} → FirstMore s P θ m 0 i at a → FirstUnmet (RuleMet P θ) (length (P .rules)) i
+  pub first-unmet : {i at : ℕ} {a : ℤ} → FirstMore s P (reduct P) θ m 0 i at a → FirstUnmet (RuleMet P θ) (length (P .rules)) i
   first-unmet {i} {at} {a} f = record {
     among = f .stands .among;
     unmet = exceeds-unmet P θ i (subst (λ (v : Valuation). Exceeds P (reduct P) θ v i a) e (f .exceeds));
     first = λ j l. subst (λ (v : Valuation). RuleMetIn P (reduct P) θ v j) e (f .before j (omega arith) l);
   }
 
-  pub none-unmet : {at : ℕ} → NoneMore s P θ m 0 at → (at ≡ constraintPlace s P 0) × ((j : ℕ) → j < length (P .rules) → RuleMet P θ j)
+  pub none-unmet : {at : ℕ} → NoneMore s P (reduct P) θ m 0 at → (at ≡ constraintPlace s P 0) × ((j : ℕ) → j < length (P .rules) → RuleMet P θ j)
   none-unmet f = (f .placed ∙ sym (first-constraint s P), λ j l. subst (λ (v : Valuation). RuleMetIn P (reduct P) θ v j) e (f .met j (omega arith) l))
 
 -- ---- constraints

@@ -8,6 +8,8 @@ ghost use Rattle.meaning.specs.Founded.{Within};
 ghost use Rattle.meaning.specs.Reduct.{system};
 ghost use Rattle.meaning.specs.Stable.{RuleMet};
 ghost use Rattle.reader.specs.Parts.{constraintPlace};
+ghost use Rattle.sided.specs.Sides.{sidesLength};
+ghost use Rattle.ascent.specs.Level.{LevelPast};
 ghost use Rattle.verdict.specs.Checks.{answerOf, Judged, Checks, checkBytes};
 ghost use Rattle.verdict.specs.Demands.{Demands};
 ghost use Rattle.program.specs.Readings.{valued};
@@ -21,6 +23,7 @@ use meaning::Opening;
 use program::Counts;
 use reduct::loading;
 use reduct::loading::Outside;
+use sided::Sides;
 use verdict::Verdict;
 use words::Found;
 
@@ -43,9 +46,11 @@ fn check_constraints(
     counts: Counts,
     start: usize,
     values: &[i64; Format::MAX_VARIABLES],
+    sides: &mut [i64; Sides::LENGTH],
     report: &mut [u8],
 ) -> Verdict
     requires { ⌜ AcceptedAs (now file) counts ⌝ }
+    requires { ⌜ LevelPast (counts .variables) (valued (now values)) (now sides) × (length (now sides) ≡ sidesLength) ⌝ }
     requires { ⌜ ((P : Program) → Accepts (now file) P → start ≡ constraintPlace (now file) P 0) ⌝ }
     requires { ⌜ ((P : Program) → Accepts (now file) P → Within (system P) (valued (now values))) ⌝ }
     requires { ⌜ ((P : Program) → Accepts (now file) P → (i : ℕ) → i < length (P .rules) → RuleMet P (valued (now values)) i) ⌝ }
@@ -55,7 +60,7 @@ fn check_constraints(
     let unmet = first_unmet_constraint(file, start, counts, values);
     match unmet {
         Found::At(i) => Verdict::Constraint(i),
-        Found::Nothing => compare(file, counts, values, report),
+        Found::Nothing => compare(file, counts, values, sides, report),
     }
 }
 
@@ -71,10 +76,11 @@ fn check_rules(
     requires { ⌜ checkBytes * counts .variables ≤ length (now report) ⌝ }
     ensures { λ r. ⌜ ((P : Program) → Accepts (now (file .entry)) P → Judged P (valued (now (values .entry))) (now (report .entry)) (answerOf r) (now (report .exit))) ⌝ }
 {
-    let rules = first_unmet_rule(file, counts, values);
+    let mut sides = [0i64; Sides::LENGTH];
+    let rules = first_unmet_rule(file, counts, values, &mut sides);
     match rules {
         Rules::Unmet(i) => Verdict::Rule(i),
-        Rules::Met(start) => check_constraints(file, counts, start, values, report),
+        Rules::Met(start) => check_constraints(file, counts, start, values, &mut sides, report),
     }
 }
 

@@ -6,6 +6,8 @@ ghost use Rattle.words.specs.Bit.{has};
 ghost use Rattle.program.specs.Program.{Program};
 ghost use Rattle.program.specs.Reading.{AcceptedAs, Accepts};
 ghost use Rattle.meaning.specs.Stable.{Meets};
+ghost use Rattle.sided.specs.Sides.{sidesLength};
+ghost use Rattle.ascent.specs.Level.{LevelPast};
 ghost use Rattle.verdict.specs.Checks.{answerOf, Judged, checkBytes};
 ghost use Rattle.comparison.specs.Shows.{entryCount, ShowsSets};
 ghost use Rattle.program.specs.Readings.{valued};
@@ -18,6 +20,7 @@ use conditions::short::in_parts;
 use conditions::short::short_set;
 use format::Format;
 use program::Counts;
+use sided::Sides;
 use solving::run;
 use verdict::Verdict;
 
@@ -42,21 +45,23 @@ fn show(
     Verdict::Unfounded(below + above, most + least)
 }
 
-// The least model is compared with the assignment.
+// The least model is compared with the assignment. The sides are lent, and what stands there is overwritten.
 pub fn compare(
     file: &[u8],
     counts: Counts,
     assigned: &[i64; Format::MAX_VARIABLES],
+    sides: &mut [i64; Sides::LENGTH],
     report: &mut [u8],
 ) -> Verdict
     requires { ⌜ AcceptedAs (now file) counts ⌝ }
+    requires { ⌜ LevelPast (counts .variables) (valued (now assigned)) (now sides) × (length (now sides) ≡ sidesLength) ⌝ }
     requires { ⌜ ((P : Program) → Accepts (now file) P → Meets P (valued (now assigned))) ⌝ }
     requires { ⌜ checkBytes * counts .variables ≤ length (now report) ⌝ }
     ensures { λ r. ⌜ ((P : Program) → Accepts (now (file .entry)) P → Judged P (valued (now (assigned .entry))) (now (report .entry)) (answerOf r) (now (report .exit))) ⌝ }
 {
     let n = counts.variables;
     let mut model = [0i64; Format::MAX_VARIABLES];
-    run(file, counts, assigned, true, &mut model);
+    run(file, counts, assigned, true, sides, &mut model);
     let set = short_set(file, n, assigned, &model);
     if set.count() == 0 {
         return Verdict::Stable;

@@ -2,3 +2,5 @@
 pub mod MaskLaws
 pub mod RangeLaws
 pub mod TaskLaws
+pub mod FreeLaws
+pub mod ScaleLaws

@@ -99,7 +99,7 @@ module _ (vs : List Variable) (low high : Valuation) (ordered : (v : ℕ) → T 
 -- ---- the run
 
 -- the ends at which positions are read lie in the declared ranges
-others-within : {P : Program} {low high : Valuation} → Fitting P low high → Within (system P) (otherEnds (P .variables) low high)
+pub others-within : {P : Program} {low high : Valuation} → Fitting P low high → Within (system P) (otherEnds (P .variables) low high)
 unfolding otherEnd
 others-within {P} {low} {high} f = record {
   inside = λ v.

@@ -39,7 +39,11 @@ pub struct Way {
 }
 
 // Whether the range of variable v is not single.
-fn is_open(lows: &[i64; Format::MAX_VARIABLES], highs: &[i64; Format::MAX_VARIABLES], v: u8) -> bool
+pub fn is_open(
+    lows: &[i64; Format::MAX_VARIABLES],
+    highs: &[i64; Format::MAX_VARIABLES],
+    v: u8,
+) -> bool
     ensures { λ r. ⌜ r ≡ ltZ (valued (now (lows .entry)) v) (valued (now (highs .entry)) v) ⌝ }
 {
     let at = format::wide(v);

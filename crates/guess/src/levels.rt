@@ -23,7 +23,8 @@ use program::Variable;
 use run::demands::demand;
 use run::demands::head_at;
 use sequence::walk::get;
-use tables::place_of;
+use tables::mask_in;
+use tables::place_in;
 
 // A value of x, turned so that x rises.
 fn turned(x: Variable, a: i64) -> i64 {
@@ -114,8 +115,8 @@ fn turned_or_least(x: Variable, level: Given) -> i64 {
 fn level_of(
     file: &[u8],
     rules: usize,
-    offsets: &[u16; Format::MAX_RULES],
-    masks: &[u32; Format::MAX_RULES],
+    offsets: &[u16],
+    masks: &[u32],
     i: usize,
     low: &[i64; Format::MAX_VARIABLES],
     high: &[i64; Format::MAX_VARIABLES],
@@ -127,15 +128,22 @@ fn level_of(
     if i >= rules {
         return 0 - Format::MAX_NUMBER;
     }
-    level_at(file, place_of(offsets, i), masks[i], low, high, others)
+    level_at(
+        file,
+        place_in(offsets, i),
+        mask_in(masks, i),
+        low,
+        high,
+        others,
+    )
 }
 
 // The highest level of the first `count` rules of the line.
 fn highest_level(
     file: &[u8],
     rules: usize,
-    offsets: &[u16; Format::MAX_RULES],
-    masks: &[u32; Format::MAX_RULES],
+    offsets: &[u16],
+    masks: &[u32],
     line: &[usize; Format::MAX_VARIABLES],
     count: usize,
     low: &[i64; Format::MAX_VARIABLES],
@@ -199,8 +207,8 @@ fn part_all(
     requires { ⌜ (length (now low) ≡ maxVariables) × Small (now low) × (length (now high) ≡ maxVariables) × Small (now high) ⌝ }
     ensures { λ _. ⌜ (length (now (low .exit)) ≡ maxVariables) × Small (now (low .exit)) × (length (now (high .exit)) ≡ maxVariables) × Small (now (high .exit)) ⌝ }
 {
-    copy(low, model);
-    copy(high, model);
+    copy(low, model, variables);
+    copy(high, model, variables);
     for k in 0..count {
         part_one(file, variables, get(heads, k), model, target, low, high);
     }
@@ -259,8 +267,8 @@ pub fn level(
     file: &[u8],
     variables: usize,
     rules: usize,
-    offsets: &[u16; Format::MAX_RULES],
-    masks: &[u32; Format::MAX_RULES],
+    offsets: &[u16],
+    masks: &[u32],
     line: &[usize; Format::MAX_VARIABLES],
     heads: &[u8; Format::MAX_VARIABLES],
     count: usize,

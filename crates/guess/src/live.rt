@@ -18,7 +18,8 @@ use run::demands::demand;
 use run::demands::head_at;
 use sequence::walk::node;
 use tables::Tables;
-use tables::place_of;
+use tables::mask_in;
+use tables::place_in;
 
 // Variable v is put at its far end, if it is founded.
 fn top_one(file: &[u8], variables: usize, v: u8, tops: &mut [i64; Format::MAX_VARIABLES])
@@ -47,7 +48,7 @@ fn top_all(
     requires { ⌜ (8 * variables ≤ length (now file)) × (length (now tops) ≡ maxVariables) × Small (now tops) ⌝ }
     ensures { λ _. ⌜ (length (now (tops .exit)) ≡ maxVariables) × Small (now (tops .exit)) ⌝ }
 {
-    copy(tops, model);
+    copy(tops, model, variables);
     if holding {
         return;
     }
@@ -105,8 +106,8 @@ pub fn keep_live(
     file: &[u8],
     variables: usize,
     rules: usize,
-    offsets: &[u16; Format::MAX_RULES],
-    masks: &[u32; Format::MAX_RULES],
+    offsets: &[u16],
+    masks: &[u32],
     holding: bool,
     model: &[i64; Format::MAX_VARIABLES],
     others: &[i64; Format::MAX_VARIABLES],
@@ -121,8 +122,8 @@ pub fn keep_live(
     for i in 0..rules {
         let kept = is_live(
             file,
-            place_of(offsets, i),
-            masks[i],
+            place_in(offsets, i),
+            mask_in(masks, i),
             holding,
             &tops,
             model,

@@ -7,6 +7,7 @@ ghost use Rattle.format.specs.Limits.{maxVariables, maxNumber};
 ghost use Rattle.program.specs.Evaluable.{Small};
 use evaluation::quotients::over_up;
 use format::Format;
+use sequence::listed;
 
 // The number of the format's range that is next to a.
 pub fn near(a: i64) -> i64
@@ -30,12 +31,17 @@ pub fn put(values: &mut [i64; Format::MAX_VARIABLES], v: usize, a: i64)
     values[v] = n;
 }
 
-// The values become those of another list.
-pub fn copy(values: &mut [i64; Format::MAX_VARIABLES], from: &[i64; Format::MAX_VARIABLES])
+// The values of n variables become those of another list.
+pub fn copy(
+    values: &mut [i64; Format::MAX_VARIABLES],
+    from: &[i64; Format::MAX_VARIABLES],
+    n: usize,
+)
     requires { ⌜ (length (now values) ≡ maxVariables) × Small (now values) ⌝ }
     ensures { λ _. ⌜ (length (now (values .exit)) ≡ maxVariables) × Small (now (values .exit)) ⌝ }
 {
-    for v in 0..Format::MAX_VARIABLES {
+    let many = listed(n);
+    for v in 0..many {
         put(values, v, from[v]);
     }
 }

@@ -21,8 +21,10 @@ use format::Format;
 use parts::places::value_at;
 use parts::rules;
 use parts::terms;
+use sequence::listed;
 use sequence::walk::get;
-use tables::place_of;
+use tables::mask_in;
+use tables::place_in;
 
 // The size of a number times a stride, added to what there is; or the larger of the stride and what there is.
 fn add_stride(sums: bool, total: i64, number: i64, stride: i64) -> i64 {
@@ -108,8 +110,8 @@ fn lengthen_to(strides: &mut [i64; Format::MAX_VARIABLES], v: u8, stride: i64) -
 fn lengthen_one(
     file: &[u8],
     rules: usize,
-    offsets: &[u16; Format::MAX_RULES],
-    masks: &[u32; Format::MAX_RULES],
+    offsets: &[u16],
+    masks: &[u32],
     i: usize,
     v: u8,
     strides: &mut [i64; Format::MAX_VARIABLES],
@@ -121,7 +123,7 @@ fn lengthen_one(
     if i >= rules {
         return false;
     }
-    let stride = stride_at(file, place_of(offsets, i), masks[i], strides);
+    let stride = stride_at(file, place_in(offsets, i), mask_in(masks, i), strides);
     lengthen_to(strides, v, stride)
 }
 
@@ -129,8 +131,8 @@ fn lengthen_one(
 fn lengthen_once(
     file: &[u8],
     rules: usize,
-    offsets: &[u16; Format::MAX_RULES],
-    masks: &[u32; Format::MAX_RULES],
+    offsets: &[u16],
+    masks: &[u32],
     line: &[usize; Format::MAX_VARIABLES],
     heads: &[u8; Format::MAX_VARIABLES],
     count: usize,
@@ -160,8 +162,8 @@ impl Strides {
 fn lengthen_all(
     file: &[u8],
     rules: usize,
-    offsets: &[u16; Format::MAX_RULES],
-    masks: &[u32; Format::MAX_RULES],
+    offsets: &[u16],
+    masks: &[u32],
     line: &[usize; Format::MAX_VARIABLES],
     heads: &[u8; Format::MAX_VARIABLES],
     count: usize,
@@ -179,8 +181,9 @@ fn lengthen_all(
     false
 }
 
-// The strides of the heads of the line are 1, all others 0.
+// The strides of the heads of the line are 1, all others of so many variables 0.
 fn begin(
+    variables: usize,
     heads: &[u8; Format::MAX_VARIABLES],
     count: usize,
     strides: &mut [i64; Format::MAX_VARIABLES],
@@ -188,27 +191,29 @@ fn begin(
     requires { ⌜ (length (now strides) ≡ maxVariables) × Small (now strides) ⌝ }
     ensures { λ _. ⌜ (length (now (strides .exit)) ≡ maxVariables) × Small (now (strides .exit)) ⌝ }
 {
-    clear(strides);
+    clear(strides, variables);
     for k in 0..count {
         let v = format::wide(get(heads, k));
         put(strides, v, 1);
     }
 }
 
-// All strides are 0.
-fn clear(strides: &mut [i64; Format::MAX_VARIABLES])
+// The strides of n variables are 0.
+fn clear(strides: &mut [i64; Format::MAX_VARIABLES], n: usize)
     requires { ⌜ (length (now strides) ≡ maxVariables) × Small (now strides) ⌝ }
     ensures { λ _. ⌜ (length (now (strides .exit)) ≡ maxVariables) × Small (now (strides .exit)) ⌝ }
 {
-    for v in 0..Format::MAX_VARIABLES {
+    let many = listed(n);
+    for v in 0..many {
         put(strides, v, 0);
     }
 }
 
-// The longest stride.
-fn longest(strides: &[i64; Format::MAX_VARIABLES]) -> i64 {
+// The longest stride of n variables.
+fn longest(strides: &[i64; Format::MAX_VARIABLES], n: usize) -> i64 {
+    let many = listed(n);
     let mut most = 0i64;
-    for v in 0..Format::MAX_VARIABLES {
+    for v in 0..many {
         most = extreme(true, most, strides[v]);
     }
     most
@@ -228,24 +233,26 @@ fn ended(stride: i64, kept: bool) -> i64
     a
 }
 
-// Every stride is at least 1, and 1 where they are not kept.
-fn end(strides: &mut [i64; Format::MAX_VARIABLES], kept: bool)
+// Every stride of n variables is at least 1, and 1 where they are not kept.
+fn end(strides: &mut [i64; Format::MAX_VARIABLES], n: usize, kept: bool)
     requires { ⌜ (length (now strides) ≡ maxVariables) × Small (now strides) ⌝ }
     ensures { λ _. ⌜ (length (now (strides .exit)) ≡ maxVariables) × Small (now (strides .exit)) ⌝ }
-    ensures { λ _. ⌜ ((v : ℕ) → v < maxVariables → pos 1 ≤ℤ valued (now (strides .exit)) v) ⌝ }
+    ensures { λ _. ⌜ ((v : ℕ) → v < n → v < maxVariables → pos 1 ≤ℤ valued (now (strides .exit)) v) ⌝ }
 {
-    for v in 0..Format::MAX_VARIABLES {
+    let many = listed(n);
+    for v in 0..many {
         let stride = ended(strides[v], kept);
         strides[v] = stride;
     }
 }
 
-// Strides of the heads of the line; 1 for all others, and for all where none are found or one is too long.
+// Strides of the heads of the line; 1 for all others of so many variables, and for all where none are found or one is too long.
 pub fn lengthen(
     file: &[u8],
+    variables: usize,
     rules: usize,
-    offsets: &[u16; Format::MAX_RULES],
-    masks: &[u32; Format::MAX_RULES],
+    offsets: &[u16],
+    masks: &[u32],
     line: &[usize; Format::MAX_VARIABLES],
     heads: &[u8; Format::MAX_VARIABLES],
     count: usize,
@@ -254,10 +261,10 @@ pub fn lengthen(
     requires { ⌜ (rules ≤ maxRules) × RulesStand (now file) (now offsets) rules × (count ≤ maxVariables) ⌝ }
     requires { ⌜ (length (now strides) ≡ maxVariables) × Small (now strides) ⌝ }
     ensures { λ _. ⌜ (length (now (strides .exit)) ≡ maxVariables) × Small (now (strides .exit)) ⌝ }
-    ensures { λ _. ⌜ ((v : ℕ) → v < maxVariables → pos 1 ≤ℤ valued (now (strides .exit)) v) ⌝ }
+    ensures { λ _. ⌜ ((v : ℕ) → v < variables → v < maxVariables → pos 1 ≤ℤ valued (now (strides .exit)) v) ⌝ }
 {
-    begin(heads, count, strides);
+    begin(variables, heads, count, strides);
     let settled = lengthen_all(file, rules, offsets, masks, line, heads, count, strides);
-    let short = longest(strides) < Format::MAX_NUMBER;
-    end(strides, settled & short);
+    let short = longest(strides, variables) < Format::MAX_NUMBER;
+    end(strides, variables, settled & short);
 }

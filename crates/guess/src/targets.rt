@@ -1,7 +1,7 @@
 // The targets: far ends at first, then lowered to what the rules of the line are estimated to give on the way there, or drawn in towards the values.
 ghost use mathlib.Core.Path.{_≡_};
 ghost use Prim.Native.Nat.{_*_, _≤_, _<_};
-ghost use lib.ListN.{length, getD};
+ghost use lib.ListN.{length};
 ghost use Rattle.format.specs.Limits.{maxVariables, maxRules};
 ghost use Rattle.program.specs.Evaluable.{Small};
 ghost use Rattle.run.specs.Running.{SomeRule};
@@ -20,7 +20,8 @@ use run::demands::stop_at;
 use sequence::walk::get;
 use steady::steps::distance;
 use steady::steps::further;
-use tables::place_of;
+use tables::mask_in;
+use tables::place_in;
 
 // The furthest that a value can be raised: its far end, or where lifts stop.
 fn furthest(x: Variable, cut: bool, stop: i64) -> i64 {
@@ -61,7 +62,7 @@ pub fn open(
     requires { ⌜ (8 * variables ≤ length (now file)) × (length (now target) ≡ maxVariables) × Small (now target) ⌝ }
     ensures { λ _. ⌜ (length (now (target .exit)) ≡ maxVariables) × Small (now (target .exit)) ⌝ }
 {
-    copy(target, model);
+    copy(target, model, variables);
     for k in 0..count {
         open_one(file, variables, get(heads, k), stops, cut, target);
     }
@@ -120,8 +121,8 @@ fn lower_at(
 fn lower_rule(
     file: &[u8],
     rules: usize,
-    offsets: &[u16; Format::MAX_RULES],
-    masks: &[u32; Format::MAX_RULES],
+    offsets: &[u16],
+    masks: &[u32],
     i: usize,
     model: &[i64; Format::MAX_VARIABLES],
     others: &[i64; Format::MAX_VARIABLES],
@@ -140,8 +141,8 @@ fn lower_rule(
     }
     lower_at(
         file,
-        place_of(offsets, i),
-        masks[i],
+        place_in(offsets, i),
+        mask_in(masks, i),
         model,
         others,
         stops,
@@ -155,8 +156,8 @@ fn lower_rule(
 fn lower_once(
     file: &[u8],
     rules: usize,
-    offsets: &[u16; Format::MAX_RULES],
-    masks: &[u32; Format::MAX_RULES],
+    offsets: &[u16],
+    masks: &[u32],
     line: &[usize; Format::MAX_VARIABLES],
     count: usize,
     model: &[i64; Format::MAX_VARIABLES],
@@ -203,8 +204,8 @@ impl Passes {
 pub fn lower(
     file: &[u8],
     rules: usize,
-    offsets: &[u16; Format::MAX_RULES],
-    masks: &[u32; Format::MAX_RULES],
+    offsets: &[u16],
+    masks: &[u32],
     line: &[usize; Format::MAX_VARIABLES],
     count: usize,
     model: &[i64; Format::MAX_VARIABLES],

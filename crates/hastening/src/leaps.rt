@@ -28,8 +28,8 @@ fn leap_if(
     solved: bool,
     file: &[u8],
     counts: Counts,
-    offsets: &[u16; Format::MAX_RULES],
-    masks: &[u32; Format::MAX_RULES],
+    offsets: &[u16],
+    masks: &[u32],
     readers: &[u64],
     model: &mut [i64; Format::MAX_VARIABLES],
     others: &[i64; Format::MAX_VARIABLES],
@@ -84,8 +84,8 @@ impl Tries {
 fn leap_to(
     file: &[u8],
     counts: Counts,
-    offsets: &[u16; Format::MAX_RULES],
-    masks: &[u32; Format::MAX_RULES],
+    offsets: &[u16],
+    masks: &[u32],
     readers: &[u64],
     model: &mut [i64; Format::MAX_VARIABLES],
     others: &[i64; Format::MAX_VARIABLES],
@@ -152,8 +152,8 @@ fn leap_to(
 fn leap_by(
     file: &[u8],
     counts: Counts,
-    offsets: &[u16; Format::MAX_RULES],
-    masks: &[u32; Format::MAX_RULES],
+    offsets: &[u16],
+    masks: &[u32],
     readers: &[u64],
     model: &mut [i64; Format::MAX_VARIABLES],
     others: &[i64; Format::MAX_VARIABLES],
@@ -178,7 +178,7 @@ fn leap_by(
         (now (model .entry)) (now (waiting .entry)) (now (model .exit)) (now (waiting .exit)) ⌝ }
 {
     let n = counts.variables;
-    copy(target, first);
+    copy(target, first, n);
     if highest(heads, count, model, target) <= steps {
         return 0;
     }
@@ -206,8 +206,8 @@ fn leap_by(
 fn leap_by_doubles(
     file: &[u8],
     counts: Counts,
-    offsets: &[u16; Format::MAX_RULES],
-    masks: &[u32; Format::MAX_RULES],
+    offsets: &[u16],
+    masks: &[u32],
     readers: &[u64],
     model: &mut [i64; Format::MAX_VARIABLES],
     others: &[i64; Format::MAX_VARIABLES],
@@ -266,8 +266,8 @@ fn leap_by_doubles(
 fn leap_less(
     file: &[u8],
     counts: Counts,
-    offsets: &[u16; Format::MAX_RULES],
-    masks: &[u32; Format::MAX_RULES],
+    offsets: &[u16],
+    masks: &[u32],
     readers: &[u64],
     model: &mut [i64; Format::MAX_VARIABLES],
     others: &[i64; Format::MAX_VARIABLES],
@@ -291,7 +291,7 @@ fn leap_less(
     let n = counts.variables;
     let rules = counts.rules;
     let mut first = [0i64; Format::MAX_VARIABLES];
-    copy(&mut first, target);
+    copy(&mut first, target, n);
     level(
         file,
         n,
@@ -349,8 +349,8 @@ fn leap_less(
 fn leap_on(
     file: &[u8],
     counts: Counts,
-    offsets: &[u16; Format::MAX_RULES],
-    masks: &[u32; Format::MAX_RULES],
+    offsets: &[u16],
+    masks: &[u32],
     readers: &[u64],
     model: &mut [i64; Format::MAX_VARIABLES],
     others: &[i64; Format::MAX_VARIABLES],
@@ -419,8 +419,8 @@ fn leap_on(
 pub fn leap_risen(
     file: &[u8],
     counts: Counts,
-    offsets: &[u16; Format::MAX_RULES],
-    masks: &[u32; Format::MAX_RULES],
+    offsets: &[u16],
+    masks: &[u32],
     readers: &[u64],
     model: &mut [i64; Format::MAX_VARIABLES],
     others: &[i64; Format::MAX_VARIABLES],
@@ -445,9 +445,11 @@ pub fn leap_risen(
     let mut target = [0i64; Format::MAX_VARIABLES];
     let mut strides = [0i64; Format::MAX_VARIABLES];
     let count = gather(list, from, to, by, risen, &mut line, &mut heads);
+    let n = counts.variables;
     let rules = counts.rules;
     lengthen(
         file,
+        n,
         rules,
         offsets,
         masks,

@@ -35,8 +35,8 @@ pub enum Lapped {
 // Rule i is looked at if it waits, and leaves the set.
 fn attempt(
     file: &[u8],
-    offsets: &[u16; Format::MAX_RULES],
-    masks: &[u32; Format::MAX_RULES],
+    offsets: &[u16],
+    masks: &[u32],
     readers: &[u64],
     i: usize,
     model: &mut [i64; Format::MAX_VARIABLES],
@@ -76,10 +76,10 @@ fn wide(x: u16) -> usize {
 }
 
 // The rule at place k of an order; rule 0 where there is no such place.
-fn rule_at(order: &[u16; Format::MAX_RULES], k: usize) -> usize
+fn rule_at(order: &[u16], k: usize) -> usize
     ensures { λ r. ⌜ r < maxRules ⌝ }
 {
-    if k < Format::MAX_RULES {
+    if k < order.len() {
         return wide(order[k]) % Format::MAX_RULES;
     }
     0
@@ -107,10 +107,10 @@ fn note(
 // The rules at the places from `from` to `to` of an order, those that wait, one after the other. `by` has for each risen variable the rule that raised it last.
 pub fn lap(
     file: &[u8],
-    offsets: &[u16; Format::MAX_RULES],
-    masks: &[u32; Format::MAX_RULES],
+    offsets: &[u16],
+    masks: &[u32],
     readers: &[u64],
-    order: &[u16; Format::MAX_RULES],
+    order: &[u16],
     from: usize,
     to: usize,
     model: &mut [i64; Format::MAX_VARIABLES],

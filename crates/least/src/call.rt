@@ -16,6 +16,7 @@ use program::Counts;
 use reduct::loading;
 use reduct::loading::Outside;
 use run::Ending;
+use sided::Sides;
 use solving::run;
 
 // What the call asks of its buffer.
@@ -46,8 +47,9 @@ fn solve(
     ensures { λ r. ⌜ LeastCall (now (file .entry)) (now (assignment .entry)) (now (buffer .entry)) (answerOf r) (now (buffer .exit)) ⌝ }
 {
     let n = counts.variables;
+    let mut sides = [0i64; Sides::LENGTH];
     let mut model = [0i64; Format::MAX_VARIABLES];
-    let ending = run(file, counts, values, false, &mut model);
+    let ending = run(file, counts, values, false, &mut sides, &mut model);
     match ending {
         Ending::Model => {
             write_values(&model, n, buffer);

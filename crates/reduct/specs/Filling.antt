@@ -6,7 +6,7 @@ use mathlib.Core.Bool.{true, false}
 use lib.IntN.{ℤ}
 use Rattle.program.specs.Program.{variableIn}
 use Rattle.reduct.specs.declared.loading.Outside.{Outside}
-use Rattle.program.specs.Variables.{inRange, started}
+use Rattle.program.specs.Variables.{inRange}
 use Rattle.program.specs.Readings.{Valuation, valued}
 use Rattle.program.specs.declared.Variable.{Variable}
 use Rattle.reduct.specs.declared.loading.Outside.the-variants.{At, Nowhere}
@@ -15,10 +15,6 @@ use Rattle.reduct.specs.declared.loading.Outside.the-variants.{At, Nowhe
 pub record Filled (m : Valuation) (n : ℕ) (ms ms′ : List ℤ) : Type 0 where
   pub below : (v : ℕ) → v < n → valued ms′ v ≡ m v
   pub past : (v : ℕ) → n ≤ v → valued ms′ v ≡ valued ms v
-
--- the values that the least model starts from, vs being the variables and θ the assignment
-unfoldable pub starting : List Variable → Valuation → Valuation
-starting vs θ v = started (variableIn vs v) (θ v)
 
 -- the first of n variables outside its range
 abbrev pub OutsideIs : List Variable → Valuation → ℕ → Outside → Type 0

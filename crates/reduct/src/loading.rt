@@ -1,11 +1,11 @@
 // The values of the variables, one for each in number order.
 ghost use mathlib.Core.Path.{_≡_};
-ghost use Prim.Native.Nat.{_+_, _*_, _/_, _≤_};
+ghost use Prim.Native.Nat.{_*_, _/_, _≤_};
 ghost use lib.ListN.{length};
 ghost use Rattle.format.specs.Limits.{maxVariables};
 ghost use Rattle.program.specs.Program.{variablesAt};
 ghost use Rattle.meaning.specs.Stable.{assigned};
-ghost use Rattle.reduct.specs.Filling.{Filled, starting, OutsideIs};
+ghost use Rattle.reduct.specs.Filling.{Filled, OutsideIs};
 ghost use Rattle.program.specs.Readings.{valued};
 use format::Format;
 use parts::variables;
@@ -48,24 +48,4 @@ pub fn first_outside(
         v += 1;
     }
     Outside::Nowhere
-}
-
-// The values that the least model starts from; those past the last variable stay.
-pub fn start_values(
-    file: &[u8],
-    variables: usize,
-    assigned: &[i64; Format::MAX_VARIABLES],
-    model: &mut [i64; Format::MAX_VARIABLES],
-)
-    requires { ⌜ (8 * variables ≤ length (now file)) × (variables ≤ maxVariables) ⌝ }
-    requires { ⌜ length (now model) ≡ maxVariables ⌝ }
-    ensures { λ _. ⌜ length (now (model .exit)) ≡ maxVariables ⌝ }
-    ensures { λ _. ⌜ Filled (starting (variablesAt (now (file .entry)) variables) (valued (now (assigned .entry)))) variables (now (model .entry)) (now (model .exit)) ⌝ }
-{
-    for v in 0..variables {
-        let given = assigned[v];
-        let x = variables::variable(file, v as u8);
-        let value = x.started(given);
-        model[v] = value;
-    }
 }

@@ -2,6 +2,5 @@ pub mod RunLaws
 pub mod PastLaws
 pub mod StepLaws
 pub mod RaiseLaws
-pub mod SweepLaws
 pub mod SolveLaws
 pub mod StartLaws

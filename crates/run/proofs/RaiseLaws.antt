@@ -11,7 +11,7 @@ use lib.IntN.{ℤ, pos}
 use lib.ListN.{length, getD, set}
 use lib.Seq.{getD-set-same, getD-set-other}
 use borrow.Author.Tests.{not-false}
-use Rattle.format.specs.Limits.{maxVariables, maxRules}
+use Rattle.format.specs.Limits.{maxVariables}
 use Rattle.program.specs.Program.{Program, variableIn, variablesAt}
 use Rattle.program.specs.Reading.{Accepts}
 use Rattle.program.specs.Variables.{isFounded, far, notPast}
@@ -85,9 +85,6 @@ module _ {s : List ℕ} {P : Program} {R : Reckoning} {θ : Valuation} {offsets 
   module _ {i : ℕ} {a : ℤ} (l : i < length (P .rules)) (x : Exceeds P R θ (valued m) i a) where
     pub way-stands : RuleStands s P i (getD offsets i 0)
     way-stands = k .basis .reckons .stands i l
-
-    pub way-among : i < maxRules
-    way-among = omega (arith, program-limited accepts .few-rules)
 
     declared : headOf P i < length (P .variables)
     declared = promises .rules i l .head-declared

@@ -26,7 +26,7 @@ use Rattle.parts.specs.Values.{ruleHeader}
 use Rattle.bodies.specs.Readings.{readingOf}
 use Rattle.reader.specs.Parts.{RuleLies}
 use Rattle.reader.proofs.Published.{rule-lies, variable-lies, variable-at}
-use Rattle.meaning.specs.Reduct.{Reckoning, reduct}
+use Rattle.meaning.specs.Reduct.{Reckoning}
 use Rattle.meaning.proofs.Narrowing.{narrows-past}
 use Rattle.meaning.proofs.Steps.{Raised}
 use Rattle.tables.specs.Tabled.{MaskOf, readAt}

@@ -19,7 +19,7 @@ use Rattle.words.proofs.Bits.{bit-or}
 use Rattle.words.proofs.Joins.{Taken}
 use Rattle.program.specs.Program.{Program, variableIn, variablesAt, ruleIn, ruleOf}
 use Rattle.program.specs.Fields.{valueAt}
-use Rattle.program.specs.Variables.{far, notPast, started}
+use Rattle.program.specs.Variables.{far, notPast}
 use Rattle.program.specs.Readings.{Valuation, valued}
 use Rattle.program.specs.Evaluable.{Small}
 use Rattle.program.specs.declared.Given.the-variants.{Value}
@@ -31,9 +31,8 @@ use Rattle.reader.proofs.Published.{program-limited}
 use Rattle.meaning.specs.Founded.{AtOrBefore, GivenNoMore, Within, Model, Least}
 use Rattle.meaning.specs.Reduct.{Reckoning, reckoned, reduct, system}
 use Rattle.meaning.proofs.InRanges.{within-small}
-use Rattle.meaning.proofs.Theory.{progress-start}
 use Rattle.meaning.proofs.Monotone.{laws}
-use Rattle.meaning.proofs.Narrowing.{reduct-narrows, narrows-started}
+use Rattle.meaning.proofs.Narrowing.{reduct-narrows}
 use Rattle.meaning.proofs.Steps.{Raised, gap}
 use Rattle.tables.specs.Tabled.{rowWords, readAt, ReadersAre}
 use Rattle.tables.specs.Laid.{Placed}
@@ -41,7 +40,7 @@ use Rattle.run.specs.Running.{headOf, RuleMetIn, RuleStands, SomeRule, A
 use Rattle.run.specs.declared.Step.{Step}
 use Rattle.run.specs.declared.Step.the-variants.{Raise, Done}
 use Rattle.run.proofs.RunLaws.{at-stands, found-reduct, here-head, head-field, head-variable, reckons-unread}
-use Rattle.run.proofs.RaiseLaws.{way-small, way-assigned, way-done, way-stands, way-among, head-few, way-over, way-raised, way-stored, way-on, way-risen, way-nearer}
+use Rattle.run.proofs.RaiseLaws.{way-small, way-assigned, way-done, way-stands, head-few, way-over, way-raised, way-stored, way-on, way-risen, way-nearer}
 
 -- ---- rows
 
@@ -123,14 +122,6 @@ reduct-basis {P = P} t θ stops w = record {
 -- ---- the start
 
 module _ {s : List ℕ} {P : Program} {R : Reckoning} {θ : Valuation} {offsets masks : List ℕ} {others stops : List ℤ} {cut : Bool} where
-  -- standard values as assigned, founded ones at their starting ends
-  pub way-start : Basis s P R θ offsets masks others stops cut → (m : List ℤ) → ((v : ℕ) → valued m v ≡ started (variableIn (P .variables) v) (θ v))
-      → Underway s P R θ offsets masks others stops cut m
-  way-start b m is = record {
-    basis = b;
-    progress = progress-start {𝒮 = reckoned P R} (b .assigned) (valued m) (λ v. is v ∙ sym (narrows-started (b .reckons .narrows) v (θ v)));
-  }
-
   -- every rule waits
   pub run-start : {m : List ℤ} → Underway s P R θ offsets masks others stops cut m → (readers : List ℕ) → ReadersAre P (length (P .rules)) masks readers
       → (waiting : List ℕ) → ((i : ℕ) → i < maxRules → has waiting i ≡ ltb i (length (P .rules))) → Running s P R θ offsets masks readers others stops cut m waiting
@@ -212,9 +203,6 @@ module _ {s : List ℕ} {P : Program} {R : Reckoning} {θ : Valuation} {offsets 
   module _ (w : List ℕ) {i : ℕ} {a : ℤ} (x : Lifting P R θ (valued m) (has w) i a) where
     here : RuleStands s P i (getD offsets i 0)
     here = way-stands way (x .among) (x .exceeds)
-
-    pub run-among : i < maxRules
-    run-among = way-among way (x .among) (x .exceeds)
 
     pub run-rule : SomeRule s (getD offsets i 0)
     run-rule = record { program = P; rule = i; here = here }

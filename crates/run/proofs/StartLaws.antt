@@ -1,5 +1,5 @@
 -- The run begins.
-use Prim.Native.Nat.{ℕ, _<_, _≤_}
+use Prim.Native.Nat.{ℕ, _<_}
 use mathlib.Core.Path.{_≡_, refl, sym, ap, subst, _∙_}
 use mathlib.Core.Bool.{Bool, true, false, _||_}
 use mathlib.Core.List.{List}
@@ -7,34 +7,20 @@ use lib.Dec.{ltb}
 use lib.IntN.{ℤ}
 use lib.ListN.{length, getD}
 use Rattle.words.specs.Bit.{has}
-use Rattle.program.specs.Program.{Program, variableIn, variablesAt}
+use Rattle.program.specs.Program.{Program}
 use Rattle.program.specs.Reading.{AcceptedAs, Accepts}
-use Rattle.program.specs.Variables.{started}
 use Rattle.program.specs.Readings.{Valuation, valued}
 use Rattle.program.specs.declared.Counts.{Counts}
-use Rattle.program.specs.declared.Variable.{Variable}
 use Rattle.reader.specs.Parts.{rulePlace}
-use Rattle.reader.proofs.Published.{accepts-unique, counts-of, variables-are}
+use Rattle.reader.proofs.Published.{accepts-unique, counts-of}
 use Rattle.meaning.specs.Founded.{Within}
 use Rattle.meaning.specs.Reduct.{Reckoning, reduct, system}
-use Rattle.meaning.proofs.Monotone.{laws}
 use Rattle.tables.specs.Tabled.{ReadersAre}
-use Rattle.tables.specs.Laid.{Laid, OffsetsOf, SameBelow}
-use Rattle.reduct.specs.Filling.{Filled, starting}
-use Rattle.reduct.proofs.Ranges.{started-whole}
+use Rattle.tables.specs.Laid.{Laid, OffsetsOf}
 use Rattle.run.specs.Running.{Basis, Underway, Running}
-use Rattle.run.proofs.SolveLaws.{reduct-basis, way-start, run-start}
+use Rattle.run.proofs.SolveLaws.{reduct-basis, run-start}
 
 module _ (s : List ℕ) (k : Counts) (r : AcceptedAs s k) where
-  -- the first values, for a program that the file means
-  pub begun : {P : Program} {R : Reckoning} (θ : List ℤ) {os ms : List ℕ} {others stops : List ℤ} {cut : Bool} → Basis s P R (valued θ) os ms others stops cut
-      → (m₀ m : List ℤ) → ((v : ℕ) → k .variables ≤ v → valued m₀ v ≡ valued θ v) → Filled (starting (variablesAt s (k .variables)) (valued θ)) (k .variables) m₀ m
-      → Underway s P R (valued θ) os ms others stops cut m
-  unfolding starting
-  begun θ b m₀ m z f =
-      way-start b m
-      (λ v. started-whole s (k .variables) (valued θ) f z v ∙ ap (λ (vs : List Variable). started (variableIn vs v) (valued θ v)) (sym (variables-are r (b .reckons .accepts))))
-
   -- the first set, with the readers
   pub all-wait : {P : Program} {R : Reckoning} {θ : Valuation} {os ms : List ℕ} {others stops : List ℤ} {cut : Bool} {m : List ℤ}
       → Underway s P R θ os ms others stops cut m → (rs : List ℕ) → ((Q : Program) → Accepts s Q → ReadersAre Q (length (Q .rules)) ms rs)
@@ -47,29 +33,6 @@ module _ (s : List ℕ) (k : Counts) (r : AcceptedAs s k) where
       or-false : (b : Bool) → (b || false) ≡ b
       or-false true = refl
       or-false false = refl
-
--- tables that are the same up to the last rule serve as well
-module _ {s : List ℕ} {P : Program} {R : Reckoning} {θ : Valuation} {os ms : List ℕ} {others stops : List ℤ} {cut : Bool} (os′ ms′ : List ℕ)
-    (p : SameBelow (length (P .rules)) os os′) (q : SameBelow (length (P .rules)) ms ms′) where
-  basis-same : Basis s P R θ os ms others stops cut → Basis s P R θ os′ ms′ others stops cut
-  basis-same b = record {
-    reckons = record {
-      accepts = b .reckons .accepts;
-      stands = λ i l. rw (p i l) (b .reckons .stands i l);
-      narrows = b .reckons .narrows;
-      finds = λ i l m a. rw (q i l) (b .reckons .finds i l m a);
-      keeps = λ i l j h e. b .reckons .keeps i l j h (rw (q i l) at e);
-      ranged = b .reckons .ranged;
-      ends = b .reckons .ends;
-    };
-    laws = b .laws;
-    assigned = b .assigned;
-    small = b .small;
-    inside = b .inside;
-  }
-
-  pub way-same : {m : List ℤ} → Underway s P R θ os ms others stops cut m → Underway s P R θ os′ ms′ others stops cut m
-  way-same k = record { basis = basis-same (k .basis); progress = k .progress }
 
 -- where the rules of some reckoning's program stand
 pub way-offsets : {s : List ℕ} {P : Program} {R : Reckoning} {θ : Valuation} {os ms : List ℕ} {others stops : List ℤ} {cut : Bool} {m : List ℤ}

@@ -1,6 +1,6 @@
 -- What holds on the way to the least model of a program P of a file s, read by a reckoning R, θ being the assignment and m the values reached. The reduct is one
 -- reckoning; a file with lent ranges is another.
-use Prim.Native.Nat.{ℕ, _+_, _*_, _<_, _≤_}
+use Prim.Native.Nat.{ℕ, _+_, _*_, _<_}
 use mathlib.Core.Path.{_≡_}
 use mathlib.Core.Logic.{_⊎_}
 use mathlib.Core.Bool.{Bool, true, false, not, cond, _||_, _&&_}
@@ -8,12 +8,12 @@ use mathlib.Core.List.{List}
 use lib.Dec.{T, eqb}
 use lib.IntN.{ℤ}
 use lib.ListN.{length, getD, set}
-use Rattle.format.specs.Limits.{maxVariables, maxRules}
+use Rattle.format.specs.Limits.{maxRules}
 use Rattle.words.specs.Bit.{bit, has, LeastFrom, NoneIn}
 use Rattle.words.specs.declared.Found.{Found}
 use Rattle.words.specs.declared.Found.the-variants.{At}
 use Rattle.words.specs.declared.Found.the-variants as found
-use Rattle.program.specs.Program.{Program, ruleIn, variableIn, variablesAt}
+use Rattle.program.specs.Program.{Program, ruleIn, variableIn}
 use Rattle.program.specs.Reading.{Accepts}
 use Rattle.program.specs.Evaluate.{evaluate}
 use Rattle.program.specs.Evaluable.{Small}
@@ -27,7 +27,6 @@ use Rattle.meaning.specs.Reduct.{Reckoning, reckoned, system}
 use Rattle.meaning.specs.Narrowing.{Narrows}
 use Rattle.meaning.proofs.Laws.{Laws}
 use Rattle.meaning.proofs.Theory.{Progress}
-use Rattle.meaning.proofs.Steps.{gap}
 use Rattle.tables.specs.Tabled.{ReadersAre}
 use Rattle.run.specs.declared.Demand.{Demand}
 use Rattle.run.specs.declared.Demand.the-variants.{More, Enough}
@@ -37,10 +36,6 @@ use Rattle.run.specs.declared.Ending.{Ending}
 use Rattle.program.specs.Variables.{isFounded, far, notPast, cutOff}
 use Rattle.program.specs.Readings.{Valuation, valued, bodyVariable, kept}
 use Rattle.run.specs.declared.Ending.the-variants as ending
-use Rattle.run.specs.declared.Sweep.{Sweep}
-use Rattle.run.specs.declared.Sweep.the-variants as sweep
-use Rattle.run.specs.declared.Sweeping.{Sweeping}
-use Rattle.run.specs.declared.Sweeping.the-variants as sweeping
 
 -- the head of rule i
 abbrev pub headOf : Program → ℕ → ℕ
@@ -145,21 +140,6 @@ pub record Underway (s : List ℕ) (P : Program) (R : Reckoning) (θ : Valuation
   pub basis : Basis s P R θ offsets masks others stops cut
   pub progress : Progress (reckoned P R) θ (valued m)
 
--- where `full` is set, a rule is met whose head has its value in `stops`
-pub record FullMet (P : Program) (R : Reckoning) (θ : Valuation) (stops : List ℤ) (full : Bool) : Type 0 where
-  pub met : full ≡ true → (i : ℕ) → i < length (P .rules) → (m : List ℤ) → Progress (reckoned P R) θ (valued m) → valued m (headOf P i) ≡ valued stops (headOf P i)
-      → RuleMetIn P R θ (valued m) i
-
--- the tables reach to the last rule
-pub record Reach (P : Program) (offsets masks : List ℕ) : Type 0 where
-  pub offsets-reach : length (P .rules) ≤ length offsets
-  pub masks-reach : length (P .rules) ≤ length masks
-
--- the values are on the way, and full heads need no look
-pub record Sweepable (s : List ℕ) (P : Program) (R : Reckoning) (θ : Valuation) (offsets masks : List ℕ) (others stops : List ℤ) (cut full : Bool) (m : List ℤ) : Type 0 where
-  pub way : Underway s P R θ offsets masks others stops cut m
-  pub full-met : FullMet P R θ stops full
-
 -- ---- one step
 
 -- every rule outside the set is met
@@ -259,45 +239,7 @@ pub record SomeWay (s offsets masks : List ℕ) (others stops : List ℤ) (cut :
   pub assigned : Valuation
   pub way : Underway s program reckoning assigned offsets masks others stops cut m
 
-pub record SomeSweepable (s offsets masks : List ℕ) (others stops : List ℤ) (cut full : Bool) (m : List ℤ) : Type 0 where
-  pub program : Program
-  pub reckoning : Reckoning
-  pub assigned : Valuation
-  pub sweepable : Sweepable s program reckoning assigned offsets masks others stops cut full m
-  pub reach : Reach program offsets masks
-
-pub record SomeBasis (s : List ℕ) (θ : Valuation) (offsets masks : List ℕ) (others stops : List ℤ) (cut full : Bool) : Type 0 where
-  pub program : Program
-  pub reckoning : Reckoning
-  pub basis : Basis s program reckoning θ offsets masks others stops cut
-  pub full-met : FullMet program reckoning θ stops full
-  pub reach : Reach program offsets masks
-
 -- the least model, or no model
 abbrev pub EndsWith : Program → Reckoning → Valuation → Valuation → Ending → Type 0
 EndsWith P R θ m ending.Model = Least (reckoned P R) θ m
 EndsWith P R θ m ending.NoModel = (m′ : Valuation) → Model (reckoned P R) θ m′ → ⊥
-
--- ---- sweeps
-
--- from m to m⁺ by this many raises, at most one by each rule from `from` to below `to`; where there is none, those rules are met
-pub record Swept (s : List ℕ) (P : Program) (R : Reckoning) (θ : Valuation) (from to raises : ℕ) (m m⁺ : List ℤ) : Type 0 where
-  pub progress : Progress (reckoned P R) θ (valued m⁺)
-  pub few : from + raises ≤ to
-  pub nearer : gap (variablesAt s maxVariables) m⁺ + raises ≤ gap (variablesAt s maxVariables) m
-  pub same : raises ≡ 0 → m⁺ ≡ m
-  pub met : raises ≡ 0 → (i : ℕ) → from ≤ i → i < to → RuleMetIn P R θ (valued m⁺) i
-
--- what a sweep over those rules answers
-abbrev pub SweepIs : List ℕ → Program → Reckoning → Valuation → ℕ → ℕ → List ℤ → List ℤ → Sweep → Type 0
-SweepIs s P R θ from to m m⁺ (sweep.Raises n) = Swept s P R θ from to n m m⁺
-SweepIs s P R θ from to m m⁺ sweep.NoModel = EndsWith P R θ (valued m⁺) ending.NoModel
-
--- what sweeping ends with, at the values m
-abbrev pub SweepingIs : Program → Reckoning → Valuation → List ℤ → Sweeping → Type 0
-SweepingIs P R θ m (sweeping.Ended e) = EndsWith P R θ (valued m) e
-SweepingIs P R θ m sweeping.Open = Progress (reckoned P R) θ (valued m)
-
--- the sweeps of a run at most
-abbrev pub mostSweeps : ℕ
-mostSweeps = 8

@@ -1,6 +1,6 @@
 // One step on the way to the least model: the lowest rule that demands more than its head has.
 ghost use mathlib.Core.Path.{_≡_};
-ghost use Prim.Native.Nat.{ℕ, _<_, _≤_};
+ghost use Prim.Native.Nat.{ℕ, _≤_};
 ghost use lib.ListN.{length, getD};
 ghost use Rattle.program.specs.Fields.{valueAt, nextAt};
 ghost use Rattle.program.specs.Program.{Program, ruleOf, ruleIn};
@@ -10,7 +10,6 @@ ghost use Rattle.parts.specs.Values.{ruleHeader};
 ghost use Rattle.bodies.specs.Readings.{readingOf};
 ghost use Rattle.evaluation.specs.Past.{pastOnly};
 ghost use Rattle.words.specs.Bit.{has};
-ghost use Rattle.format.specs.Limits.{maxRules};
 ghost use Rattle.meaning.specs.Reduct.{Reckoning};
 ghost use Rattle.run.specs.Running.{RuleStands, SomeRule, AsAssigned, Reckons, MetOutside, stopped, demandOf, LookedAt, Inside, Takes, Ready, Stepped};
 ghost use Rattle.tables.specs.Tabled.{rowWords};
@@ -28,7 +27,8 @@ use parts::variables;
 use program::Given;
 use program::Variable;
 use tables::Tables;
-use tables::place_of;
+use tables::mask_in;
+use tables::place_in;
 use words::Found;
 
 // What the rule whose field stands at `at` gives, the positions whose bit is set in the mask read in the model.
@@ -75,12 +75,11 @@ pub fn head_at(file: &[u8], at: usize) -> u8
 }
 
 // The head of rule i.
-pub fn head_of(file: &[u8], offsets: &[u16; Format::MAX_RULES], i: usize) -> u8
-    requires { ⌜ i < maxRules ⌝ }
+pub fn head_of(file: &[u8], offsets: &[u16], i: usize) -> u8
     requires { ⌜ SomeRule (now file) (getD (now offsets) i 0) ⌝ }
     ensures { λ r. ⌜ r ≡ ruleOf (valueAt (now (file .entry)) (getD (now (offsets .entry)) i 0)) .head ⌝ }
 {
-    head_at(file, place_of(offsets, i))
+    head_at(file, place_in(offsets, i))
 }
 
 // Whether what is given is more than the value of the head, whose variable is x.
@@ -152,25 +151,24 @@ pub fn look_at(
     exceeds(x, stop_at(cut, x, stop, mask, given), value)
 }
 
-// Whether rule i does, in tables for the most rules.
+// Whether rule i does, by its place and its mask in the tables.
 pub fn look(
     file: &[u8],
-    offsets: &[u16; Format::MAX_RULES],
-    masks: &[u32; Format::MAX_RULES],
+    offsets: &[u16],
+    masks: &[u32],
     i: usize,
     model: &[i64; Format::MAX_VARIABLES],
     others: &[i64; Format::MAX_VARIABLES],
     stops: &[i64; Format::MAX_VARIABLES],
     cut: bool,
 ) -> Demand
-    requires { ⌜ i < maxRules ⌝ }
     requires { ⌜ SomeRule (now file) (getD (now offsets) i 0) ⌝ }
     requires { ⌜ Small (now model) × Small (now others) ⌝ }
     ensures { λ r. ⌜ ((P : Program) → RuleStands (now (file .entry)) P i (getD (now (offsets .entry)) i 0)
         → LookedAt P (getD (now (masks .entry)) i 0) cut (now (stops .entry)) (now (others .entry)) (now (model .entry)) i r) ⌝ }
 {
-    let at = place_of(offsets, i);
-    let mask = masks[i];
+    let at = place_in(offsets, i);
+    let mask = mask_in(masks, i);
     look_at(file, at, mask, model, others, stops, cut)
 }
 
@@ -190,8 +188,8 @@ fn take_lowest(waiting: &mut [u64; Tables::ROW]) -> Found
 // The lowest rule of the waiting set that demands more than its head has; it and those below it leave the set.
 pub fn step(
     file: &[u8],
-    offsets: &[u16; Format::MAX_RULES],
-    masks: &[u32; Format::MAX_RULES],
+    offsets: &[u16],
+    masks: &[u32],
     model: &[i64; Format::MAX_VARIABLES],
     others: &[i64; Format::MAX_VARIABLES],
     stops: &[i64; Format::MAX_VARIABLES],

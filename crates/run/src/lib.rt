@@ -4,7 +4,6 @@ ghost use Rattle.run.specs.Running.{freeBit};
 
 pub mod demands;
 pub mod solve;
-pub mod sweeps;
 
 pub struct Masks {}
 
@@ -34,16 +33,4 @@ pub enum Step {
 pub enum Ending {
     Model,
     NoModel,
-}
-
-// What a sweep over rules answers: how many heads it raised, or that there is no model.
-pub enum Sweep {
-    Raises(usize),
-    NoModel,
-}
-
-// Where sweeping ends: at the end of the run, or before it.
-pub enum Sweeping {
-    Ended(Ending),
-    Open,
 }

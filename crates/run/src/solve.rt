@@ -7,13 +7,12 @@ ghost use Rattle.format.specs.Limits.{maxVariables, maxRules};
 ghost use Rattle.words.specs.Bit.{wordBits, has};
 ghost use Rattle.program.specs.Program.{Program};
 ghost use Rattle.meaning.specs.Reduct.{Reckoning};
-ghost use Rattle.run.specs.Running.{Lifted, Running, SomeRun, EndsWith};
+ghost use Rattle.run.specs.Running.{Stored, Lifted, Running, SomeRun, EndsWith};
 ghost use Rattle.tables.specs.Tabled.{readersWords, rowWords};
 ghost use Rattle.program.specs.Readings.{Valuation, valued};
 use crate::Ending;
 use crate::Step;
 use crate::demands;
-use crate::sweeps::store;
 use format::Format;
 use parts::variables;
 use program::Variable;
@@ -50,6 +49,19 @@ pub fn join_readers(waiting: &mut [u64; Tables::ROW], readers: &[u64], x: usize)
     words::join_bits(waiting, &readers[start..start + Tables::ROW]);
 }
 
+// The head, whose variable is x, gets the value a; or a is past its far end, and nothing changes.
+fn store(x: Variable, head: u8, a: i64, model: &mut [i64; Format::MAX_VARIABLES]) -> bool
+    requires { ⌜ length (now model) ≡ maxVariables ⌝ }
+    ensures { λ _. ⌜ length (now (model .exit)) ≡ maxVariables ⌝ }
+    ensures { λ r. ⌜ Stored x head a (now (model .entry)) (now (model .exit)) r ⌝ }
+{
+    if x.is_before(x.far(), a) {
+        return false;
+    }
+    model[format::wide(head)] = a;
+    true
+}
+
 // The head, whose variable is x, gets the value a, and its readers join the set; or a is past its far end, and nothing changes.
 pub fn raise(
     x: Variable,
@@ -76,8 +88,8 @@ pub fn raise(
 // others in `others`; with `cut` what is given to a head stops at its value in `stops`.
 pub fn solve(
     file: &[u8],
-    offsets: &[u16; Format::MAX_RULES],
-    masks: &[u32; Format::MAX_RULES],
+    offsets: &[u16],
+    masks: &[u32],
     readers: &[u64],
     model: &mut [i64; Format::MAX_VARIABLES],
     others: &[i64; Format::MAX_VARIABLES],

@@ -8,7 +8,6 @@ use crate::walk::get;
 use crate::walk::node;
 use crate::walk::walk_from;
 use format::Format;
-use reach::Rows;
 use sets::Set;
 
 // Puts a number at place i of a list, if there is such a place.
@@ -22,7 +21,7 @@ pub fn note(list: &mut [u16; Format::MAX_VARIABLES], i: usize, n: usize)
 }
 
 // All n nodes, each after those that follow it as far as they are not on the way to it.
-pub fn finish(rows: &[u64; Rows::LENGTH], n: usize, list: &mut [u8; Format::MAX_VARIABLES])
+pub fn finish(rows: &[u64], n: usize, list: &mut [u8; Format::MAX_VARIABLES])
     requires { ⌜ (n ≤ maxVariables) × (length (now list) ≡ maxVariables) ⌝ }
     ensures { λ _. ⌜ length (now (list .exit)) ≡ maxVariables ⌝ }
 {
@@ -43,7 +42,7 @@ pub struct Parts {
 
 // The component of x, if it is not found yet, goes to the list.
 fn part_of(
-    back: &[u64; Rows::LENGTH],
+    back: &[u64],
     x: u8,
     fresh: &mut [u64; Set::WORDS],
     list: &mut [u8; Format::MAX_VARIABLES],
@@ -72,7 +71,7 @@ fn part_of(
 // The components, by the rows of the edges turned round and by the nodes as they were finished. The list has their nodes, and `ends` the place after the last one
 // of each. It answers how many components there are.
 pub fn collect(
-    back: &[u64; Rows::LENGTH],
+    back: &[u64],
     finished: &[u8; Format::MAX_VARIABLES],
     n: usize,
     list: &mut [u8; Format::MAX_VARIABLES],

@@ -2,31 +2,33 @@
 ghost use mathlib.Core.Path.{_≡_};
 ghost use Prim.Native.Nat.{_<_, _≤_};
 ghost use lib.ListN.{length};
-ghost use Rattle.format.specs.Limits.{maxRules, maxTerms};
+ghost use Rattle.format.specs.Limits.{maxVariables, maxRules, maxTerms};
 ghost use Rattle.program.specs.Program.{ruleOf};
 ghost use Rattle.parts.specs.Values.{ruleHeader};
-ghost use Rattle.reach.specs.Rows.{rowsLength};
 ghost use Rattle.sequence.specs.Standing.{RulesStand};
-use format::Format;
 use parts::places::value_at;
 use parts::rules;
-use reach::Rows;
-use reach::mark;
+use sets::Set;
 use tables::Tables;
-use tables::place_of;
+use tables::mask_in;
+use tables::place_in;
+use words::Words;
+
+// Node y follows node x, if there is a row for x.
+fn mark(rows: &mut [u64], x: usize, y: usize)
+    requires { ⌜ (x < maxVariables) × (y < maxVariables) ⌝ }
+    ensures { λ _. ⌜ length (now (rows .exit)) ≡ length (now (rows .entry)) ⌝ }
+{
+    let at = Set::WORDS * x + y / Words::BITS;
+    if at < rows.len() {
+        rows[at] = rows[at] | (1u64 << (y % Words::BITS));
+    }
+}
 
 // Position j of a rule, if its bit is set in the mask: the head follows its variable, or turned round its variable the head.
-fn link_position(
-    value: &[u8],
-    head: u8,
-    mask: u32,
-    j: usize,
-    turned: bool,
-    rows: &mut [u64; Rows::LENGTH],
-)
+fn link_position(value: &[u8], head: u8, mask: u32, j: usize, turned: bool, rows: &mut [u64])
     requires { ⌜ (ruleHeader ≤ length (now value)) × (j < length (ruleOf (now value) .terms)) × (j < maxTerms) ⌝ }
-    requires { ⌜ length (now rows) ≡ rowsLength ⌝ }
-    ensures { λ _. ⌜ length (now (rows .exit)) ≡ rowsLength ⌝ }
+    ensures { λ _. ⌜ length (now (rows .exit)) ≡ length (now (rows .entry)) ⌝ }
 {
     if (mask >> j) % 2 == 1 {
         let h = format::wide(head);
@@ -40,10 +42,9 @@ fn link_position(
 }
 
 // The rule in a field's value.
-fn link_rule(value: &[u8], mask: u32, turned: bool, rows: &mut [u64; Rows::LENGTH])
+fn link_rule(value: &[u8], mask: u32, turned: bool, rows: &mut [u64])
     requires { ⌜ (ruleHeader ≤ length (now value)) × (length (ruleOf (now value) .terms) ≤ maxTerms) ⌝ }
-    requires { ⌜ length (now rows) ≡ rowsLength ⌝ }
-    ensures { λ _. ⌜ length (now (rows .exit)) ≡ rowsLength ⌝ }
+    ensures { λ _. ⌜ length (now (rows .exit)) ≡ length (now (rows .entry)) ⌝ }
 {
     let rule = rules::header(value);
     let n = rules::positions(value);
@@ -53,38 +54,40 @@ fn link_rule(value: &[u8], mask: u32, turned: bool, rows: &mut [u64; Rows::LENGT
 }
 
 // The mask of rule i, 0 where it is none of the live rules.
-pub fn mask_of(masks: &[u32; Format::MAX_RULES], live: &[u64; Tables::ROW], i: usize) -> u32
+pub fn mask_of(masks: &[u32], live: &[u64; Tables::ROW], i: usize) -> u32
     requires { ⌜ i < maxRules ⌝ }
 {
-    if words::has_bit(live, i) { masks[i] } else { 0 }
+    if words::has_bit(live, i) {
+        mask_in(masks, i)
+    } else {
+        0
+    }
 }
 
 // Every rule.
 pub fn link(
     file: &[u8],
     rules: usize,
-    offsets: &[u16; Format::MAX_RULES],
-    masks: &[u32; Format::MAX_RULES],
+    offsets: &[u16],
+    masks: &[u32],
     live: &[u64; Tables::ROW],
     turned: bool,
-    rows: &mut [u64; Rows::LENGTH],
+    rows: &mut [u64],
 )
     requires { ⌜ (rules ≤ maxRules) × RulesStand (now file) (now offsets) rules ⌝ }
-    requires { ⌜ length (now rows) ≡ rowsLength ⌝ }
-    ensures { λ _. ⌜ length (now (rows .exit)) ≡ rowsLength ⌝ }
+    ensures { λ _. ⌜ length (now (rows .exit)) ≡ length (now (rows .entry)) ⌝ }
 {
     for i in 0..rules {
         let mask = mask_of(masks, live, i);
-        link_rule(value_at(file, place_of(offsets, i)), mask, turned, rows);
+        link_rule(value_at(file, place_in(offsets, i)), mask, turned, rows);
     }
 }
 
 // No edge.
-pub fn unlink(rows: &mut [u64; Rows::LENGTH])
-    requires { ⌜ length (now rows) ≡ rowsLength ⌝ }
-    ensures { λ _. ⌜ length (now (rows .exit)) ≡ rowsLength ⌝ }
+pub fn unlink(rows: &mut [u64])
+    ensures { λ _. ⌜ length (now (rows .exit)) ≡ length (now (rows .entry)) ⌝ }
 {
-    for t in 0..Rows::LENGTH {
+    for t in 0..rows.len() {
         rows[t] = 0;
     }
 }

@@ -6,7 +6,6 @@ ghost use lib.ListN.{length};
 ghost use Rattle.format.specs.Limits.{maxVariables};
 ghost use Rattle.words.specs.Bit.{wordBits, wordCount};
 use format::Format;
-use reach::Rows;
 use sets::Set;
 use words::Found;
 use words::Words;
@@ -47,11 +46,19 @@ fn zeros_below(w: u64) -> usize
     u64::trailing_zeros(w) as usize
 }
 
+// The word at place i of the rows; none follows past their end.
+fn word(rows: &[u64], i: usize) -> u64 {
+    if i < rows.len() {
+        return rows[i];
+    }
+    0
+}
+
 // The first node that follows x and is still fresh.
-fn first_fresh(rows: &[u64; Rows::LENGTH], x: u8, fresh: &[u64; Set::WORDS]) -> Found {
+fn first_fresh(rows: &[u64], x: u8, fresh: &[u64; Set::WORDS]) -> Found {
     let from = Set::WORDS * format::wide(x);
     for t in 0..Set::WORDS {
-        let w = rows[from + t] & fresh[t];
+        let w = word(rows, from + t) & fresh[t];
         if w != 0 {
             return Found::At(Words::BITS * t + zeros_below(w));
         }
@@ -61,7 +68,7 @@ fn first_fresh(rows: &[u64; Rows::LENGTH], x: u8, fresh: &[u64; Set::WORDS]) -> 
 
 // One step from the last node on the way: to a fresh node that follows it, or, where there is none, it is done and goes to the list.
 fn advance(
-    rows: &[u64; Rows::LENGTH],
+    rows: &[u64],
     fresh: &mut [u64; Set::WORDS],
     way: &mut [u8; Format::MAX_VARIABLES],
     list: &mut [u8; Format::MAX_VARIABLES],
@@ -97,7 +104,7 @@ fn advance(
 // From a fresh node x: it and every fresh node that can be reached go to the list, from place `done` on, each after those that follow it. It answers the
 // place after the last one.
 pub fn walk_from(
-    rows: &[u64; Rows::LENGTH],
+    rows: &[u64],
     x: u8,
     fresh: &mut [u64; Set::WORDS],
     way: &mut [u8; Format::MAX_VARIABLES],

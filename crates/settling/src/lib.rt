@@ -9,7 +9,7 @@ ghost use Rattle.program.specs.Program.{Program};
 ghost use Rattle.program.specs.Reading.{AcceptedAs};
 ghost use Rattle.program.specs.Readings.{Valuation, valued};
 ghost use Rattle.meaning.specs.Reduct.{Reckoning};
-ghost use Rattle.tables.specs.Tabled.{rowWords};
+ghost use Rattle.tables.specs.Tabled.{rowWords, narrowVariables, middleVariables};
 ghost use Rattle.run.specs.Running.{Underway, SomeWay, EndsWith};
 use format::Format;
 use guess::live::keep_live;
@@ -21,21 +21,20 @@ use run::solve::solve;
 use sequence::parts_by;
 use sequence::sequence;
 use tables::Tables;
-use tables::copy_tables;
 use tables::fill_readers;
 
 // From values on the way to the least model, by this order and with these readers, empty yet: every rule waits, components come one after the other, and what still
 // waits then is looked at from the lowest rule on.
-fn settle_with(
+fn follow(
     file: &[u8],
     counts: Counts,
-    offsets: &[u16; Format::MAX_RULES],
-    masks: &[u32; Format::MAX_RULES],
+    offsets: &[u16],
+    masks: &[u32],
     model: &mut [i64; Format::MAX_VARIABLES],
     others: &[i64; Format::MAX_VARIABLES],
     stops: &[i64; Format::MAX_VARIABLES],
     cut: bool,
-    order: &[u16; Format::MAX_RULES],
+    order: &[u16],
     ends: &[u16; Format::MAX_VARIABLES],
     list: &[u8; Format::MAX_VARIABLES],
     lasts: &[u16; Format::MAX_VARIABLES],
@@ -89,144 +88,26 @@ fn settle_with(
     )
 }
 
-// The same, the readers of a file of more than a few variables made by size.
-fn settle_wide(
+// The same, the rules first put in order: by the live rules, and inside each component as another list has its variables.
+fn settle_along(
     file: &[u8],
     counts: Counts,
-    offsets: &[u16; Format::MAX_RULES],
-    masks: &[u32; Format::MAX_RULES],
+    offsets: &[u16],
+    masks: &[u32],
     model: &mut [i64; Format::MAX_VARIABLES],
     others: &[i64; Format::MAX_VARIABLES],
     stops: &[i64; Format::MAX_VARIABLES],
     cut: bool,
-    order: &[u16; Format::MAX_RULES],
-    ends: &[u16; Format::MAX_VARIABLES],
-    list: &[u8; Format::MAX_VARIABLES],
-    lasts: &[u16; Format::MAX_VARIABLES],
-    parts: usize,
+    live: &[u64; Tables::ROW],
+    finer: &[u8; Format::MAX_VARIABLES],
+    order: &mut [u16],
+    readers: &mut [u64],
 ) -> Ending
     requires { ⌜ AcceptedAs (now file) counts ⌝ }
     requires { ⌜ SomeWay (now file) (now offsets) (now masks) (now others) (now stops) cut (now model) ⌝ }
     requires { ⌜ length (now model) ≡ maxVariables ⌝ }
-    ensures { λ _. ⌜ length (now (model .exit)) ≡ maxVariables ⌝ }
-    ensures { λ r. ⌜ ((P : Program) (R : Reckoning) (θ : Valuation)
-        → Underway (now (file .entry)) P R θ (now (offsets .entry)) (now (masks .entry)) (now (others .entry)) (now (stops .entry)) cut (now (model .entry))
-        → EndsWith P R θ (valued (now (model .exit))) r) ⌝ }
-{
-    let n = counts.variables;
-    if n <= Tables::MIDDLE {
-        let mut readers = [0u64; Tables::MIDDLE * Tables::ROW];
-        return settle_with(
-            file,
-            counts,
-            offsets,
-            masks,
-            model,
-            others,
-            stops,
-            cut,
-            order,
-            ends,
-            list,
-            lasts,
-            parts,
-            &mut readers,
-        );
-    }
-    let mut readers = [0u64; Tables::READERS];
-    settle_with(
-        file,
-        counts,
-        offsets,
-        masks,
-        model,
-        others,
-        stops,
-        cut,
-        order,
-        ends,
-        list,
-        lasts,
-        parts,
-        &mut readers,
-    )
-}
-
-// The same, the readers made by size.
-fn settle_by(
-    file: &[u8],
-    counts: Counts,
-    offsets: &[u16; Format::MAX_RULES],
-    masks: &[u32; Format::MAX_RULES],
-    model: &mut [i64; Format::MAX_VARIABLES],
-    others: &[i64; Format::MAX_VARIABLES],
-    stops: &[i64; Format::MAX_VARIABLES],
-    cut: bool,
-    order: &[u16; Format::MAX_RULES],
-    ends: &[u16; Format::MAX_VARIABLES],
-    list: &[u8; Format::MAX_VARIABLES],
-    lasts: &[u16; Format::MAX_VARIABLES],
-    parts: usize,
-) -> Ending
-    requires { ⌜ AcceptedAs (now file) counts ⌝ }
-    requires { ⌜ SomeWay (now file) (now offsets) (now masks) (now others) (now stops) cut (now model) ⌝ }
-    requires { ⌜ length (now model) ≡ maxVariables ⌝ }
-    ensures { λ _. ⌜ length (now (model .exit)) ≡ maxVariables ⌝ }
-    ensures { λ r. ⌜ ((P : Program) (R : Reckoning) (θ : Valuation)
-        → Underway (now (file .entry)) P R θ (now (offsets .entry)) (now (masks .entry)) (now (others .entry)) (now (stops .entry)) cut (now (model .entry))
-        → EndsWith P R θ (valued (now (model .exit))) r) ⌝ }
-{
-    let n = counts.variables;
-    if n <= Tables::NARROW {
-        let mut readers = [0u64; Tables::NARROW * Tables::ROW];
-        return settle_with(
-            file,
-            counts,
-            offsets,
-            masks,
-            model,
-            others,
-            stops,
-            cut,
-            order,
-            ends,
-            list,
-            lasts,
-            parts,
-            &mut readers,
-        );
-    }
-    settle_wide(
-        file,
-        counts,
-        offsets,
-        masks,
-        model,
-        others,
-        stops,
-        cut,
-        order,
-        ends,
-        list,
-        lasts,
-        parts,
-    )
-}
-
-// From values on the way to the least model.
-pub fn settle(
-    file: &[u8],
-    counts: Counts,
-    offsets: &[u16; Format::MAX_RULES],
-    masks: &[u32; Format::MAX_RULES],
-    model: &mut [i64; Format::MAX_VARIABLES],
-    others: &[i64; Format::MAX_VARIABLES],
-    stops: &[i64; Format::MAX_VARIABLES],
-    cut: bool,
-) -> Ending
-    requires { ⌜ AcceptedAs (now file) counts ⌝ }
-    requires { ⌜ SomeWay (now file) (now offsets) (now masks) (now others) (now stops) cut (now model) ⌝ }
-    requires { ⌜ length (now model) ≡ maxVariables ⌝ }
+    requires { ⌜ rowWords * counts .variables ≤ length (now readers) ⌝ }
+    requires { ⌜ ((n : ℕ) → has (now readers) n ≡ false) ⌝ }
     ensures { λ _. ⌜ length (now (model .exit)) ≡ maxVariables ⌝ }
     ensures { λ r. ⌜ ((P : Program) (R : Reckoning) (θ : Valuation)
         → Underway (now (file .entry)) P R θ (now (offsets .entry)) (now (masks .entry)) (now (others .entry)) (now (stops .entry)) cut (now (model .entry))
@@ -236,10 +117,65 @@ pub fn settle(
     let rules = counts.rules;
     let mut list = [0u8; Format::MAX_VARIABLES];
     let mut lasts = [0u16; Format::MAX_VARIABLES];
-    let mut order = [0u16; Format::MAX_RULES];
     let mut ends = [0u16; Format::MAX_VARIABLES];
+    let parts = sequence(
+        file,
+        n,
+        rules,
+        offsets,
+        masks,
+        live,
+        finer,
+        &mut list,
+        &mut lasts,
+        order,
+        &mut ends,
+    );
+    follow(
+        file,
+        counts,
+        offsets,
+        masks,
+        model,
+        others,
+        stops,
+        cut,
+        order,
+        &ends,
+        &list,
+        &lasts,
+        parts,
+        readers,
+    )
+}
+
+// The same, the live rules found first, and the memory of the order made by size.
+fn settle_with(
+    file: &[u8],
+    counts: Counts,
+    offsets: &[u16],
+    masks: &[u32],
+    model: &mut [i64; Format::MAX_VARIABLES],
+    others: &[i64; Format::MAX_VARIABLES],
+    stops: &[i64; Format::MAX_VARIABLES],
+    cut: bool,
+    readers: &mut [u64],
+) -> Ending
+    requires { ⌜ AcceptedAs (now file) counts ⌝ }
+    requires { ⌜ SomeWay (now file) (now offsets) (now masks) (now others) (now stops) cut (now model) ⌝ }
+    requires { ⌜ length (now model) ≡ maxVariables ⌝ }
+    requires { ⌜ rowWords * counts .variables ≤ length (now readers) ⌝ }
+    requires { ⌜ ((n : ℕ) → has (now readers) n ≡ false) ⌝ }
+    ensures { λ _. ⌜ length (now (model .exit)) ≡ maxVariables ⌝ }
+    ensures { λ r. ⌜ ((P : Program) (R : Reckoning) (θ : Valuation)
+        → Underway (now (file .entry)) P R θ (now (offsets .entry)) (now (masks .entry)) (now (others .entry)) (now (stops .entry)) cut (now (model .entry))
+        → EndsWith P R θ (valued (now (model .exit))) r) ⌝ }
+{
+    let n = counts.variables;
+    let rules = counts.rules;
     let mut live = [0u64; Tables::ROW];
     let mut finer = [0u8; Format::MAX_VARIABLES];
+    let mut lasts = [0u16; Format::MAX_VARIABLES];
     keep_live(
         file,
         n,
@@ -272,20 +208,25 @@ pub fn settle(
         others,
         &mut live,
     );
-    let parts = sequence(
-        file,
-        n,
-        rules,
-        offsets,
-        masks,
-        &live,
-        &finer,
-        &mut list,
-        &mut lasts,
-        &mut order,
-        &mut ends,
-    );
-    settle_by(
+    if rules <= Tables::FEW {
+        let mut order = [0u16; Tables::FEW];
+        return settle_along(
+            file,
+            counts,
+            offsets,
+            masks,
+            model,
+            others,
+            stops,
+            cut,
+            &live,
+            &finer,
+            &mut order,
+            readers,
+        );
+    }
+    let mut order = [0u16; Format::MAX_RULES];
+    settle_along(
         file,
         counts,
         offsets,
@@ -294,16 +235,15 @@ pub fn settle(
         others,
         stops,
         cut,
-        &order,
-        &ends,
-        &list,
-        &lasts,
-        parts,
+        &live,
+        &finer,
+        &mut order,
+        readers,
     )
 }
 
-// The same, the tables copied to full length.
-pub fn settle_in(
+// The same, with readers for few variables.
+fn settle_few(
     file: &[u8],
     counts: Counts,
     offsets: &[u16],
@@ -314,7 +254,74 @@ pub fn settle_in(
     cut: bool,
 ) -> Ending
     requires { ⌜ AcceptedAs (now file) counts ⌝ }
-    requires { ⌜ (counts .rules ≤ length (now offsets)) × (counts .rules ≤ length (now masks)) ⌝ }
+    requires { ⌜ SomeWay (now file) (now offsets) (now masks) (now others) (now stops) cut (now model) ⌝ }
+    requires { ⌜ length (now model) ≡ maxVariables ⌝ }
+    requires { ⌜ counts .variables ≤ narrowVariables ⌝ }
+    ensures { λ _. ⌜ length (now (model .exit)) ≡ maxVariables ⌝ }
+    ensures { λ r. ⌜ ((P : Program) (R : Reckoning) (θ : Valuation)
+        → Underway (now (file .entry)) P R θ (now (offsets .entry)) (now (masks .entry)) (now (others .entry)) (now (stops .entry)) cut (now (model .entry))
+        → EndsWith P R θ (valued (now (model .exit))) r) ⌝ }
+{
+    let mut readers = [0u64; Tables::NARROW * Tables::ROW];
+    settle_with(
+        file,
+        counts,
+        offsets,
+        masks,
+        model,
+        others,
+        stops,
+        cut,
+        &mut readers,
+    )
+}
+
+// The same, with readers for a middling number of variables.
+fn settle_middle(
+    file: &[u8],
+    counts: Counts,
+    offsets: &[u16],
+    masks: &[u32],
+    model: &mut [i64; Format::MAX_VARIABLES],
+    others: &[i64; Format::MAX_VARIABLES],
+    stops: &[i64; Format::MAX_VARIABLES],
+    cut: bool,
+) -> Ending
+    requires { ⌜ AcceptedAs (now file) counts ⌝ }
+    requires { ⌜ SomeWay (now file) (now offsets) (now masks) (now others) (now stops) cut (now model) ⌝ }
+    requires { ⌜ length (now model) ≡ maxVariables ⌝ }
+    requires { ⌜ counts .variables ≤ middleVariables ⌝ }
+    ensures { λ _. ⌜ length (now (model .exit)) ≡ maxVariables ⌝ }
+    ensures { λ r. ⌜ ((P : Program) (R : Reckoning) (θ : Valuation)
+        → Underway (now (file .entry)) P R θ (now (offsets .entry)) (now (masks .entry)) (now (others .entry)) (now (stops .entry)) cut (now (model .entry))
+        → EndsWith P R θ (valued (now (model .exit))) r) ⌝ }
+{
+    let mut readers = [0u64; Tables::MIDDLE * Tables::ROW];
+    settle_with(
+        file,
+        counts,
+        offsets,
+        masks,
+        model,
+        others,
+        stops,
+        cut,
+        &mut readers,
+    )
+}
+
+// The same, with readers for the most variables.
+fn settle_most(
+    file: &[u8],
+    counts: Counts,
+    offsets: &[u16],
+    masks: &[u32],
+    model: &mut [i64; Format::MAX_VARIABLES],
+    others: &[i64; Format::MAX_VARIABLES],
+    stops: &[i64; Format::MAX_VARIABLES],
+    cut: bool,
+) -> Ending
+    requires { ⌜ AcceptedAs (now file) counts ⌝ }
     requires { ⌜ SomeWay (now file) (now offsets) (now masks) (now others) (now stops) cut (now model) ⌝ }
     requires { ⌜ length (now model) ≡ maxVariables ⌝ }
     ensures { λ _. ⌜ length (now (model .exit)) ≡ maxVariables ⌝ }
@@ -322,9 +329,45 @@ pub fn settle_in(
         → Underway (now (file .entry)) P R θ (now (offsets .entry)) (now (masks .entry)) (now (others .entry)) (now (stops .entry)) cut (now (model .entry))
         → EndsWith P R θ (valued (now (model .exit))) r) ⌝ }
 {
-    let rules = counts.rules;
-    let mut places = [0u16; Format::MAX_RULES];
-    let mut all = [0u32; Format::MAX_RULES];
-    copy_tables(rules, offsets, masks, &mut places, &mut all);
-    settle(file, counts, &places, &all, model, others, stops, cut)
+    let mut readers = [0u64; Tables::READERS];
+    settle_with(
+        file,
+        counts,
+        offsets,
+        masks,
+        model,
+        others,
+        stops,
+        cut,
+        &mut readers,
+    )
+}
+
+// From values on the way to the least model.
+pub fn settle(
+    file: &[u8],
+    counts: Counts,
+    offsets: &[u16],
+    masks: &[u32],
+    model: &mut [i64; Format::MAX_VARIABLES],
+    others: &[i64; Format::MAX_VARIABLES],
+    stops: &[i64; Format::MAX_VARIABLES],
+    cut: bool,
+) -> Ending
+    requires { ⌜ AcceptedAs (now file) counts ⌝ }
+    requires { ⌜ SomeWay (now file) (now offsets) (now masks) (now others) (now stops) cut (now model) ⌝ }
+    requires { ⌜ length (now model) ≡ maxVariables ⌝ }
+    ensures { λ _. ⌜ length (now (model .exit)) ≡ maxVariables ⌝ }
+    ensures { λ r. ⌜ ((P : Program) (R : Reckoning) (θ : Valuation)
+        → Underway (now (file .entry)) P R θ (now (offsets .entry)) (now (masks .entry)) (now (others .entry)) (now (stops .entry)) cut (now (model .entry))
+        → EndsWith P R θ (valued (now (model .exit))) r) ⌝ }
+{
+    let n = counts.variables;
+    if n <= Tables::NARROW {
+        return settle_few(file, counts, offsets, masks, model, others, stops, cut);
+    }
+    if n <= Tables::MIDDLE {
+        return settle_middle(file, counts, offsets, masks, model, others, stops, cut);
+    }
+    settle_most(file, counts, offsets, masks, model, others, stops, cut)
 }

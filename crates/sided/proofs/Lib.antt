@@ -1,2 +1,3 @@
 pub mod Sided
 pub mod Amounts
+pub mod SideLaws

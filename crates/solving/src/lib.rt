@@ -8,66 +8,55 @@ ghost use Rattle.program.specs.Program.{Program};
 ghost use Rattle.program.specs.Reading.{AcceptedAs, Accepts};
 ghost use Rattle.program.specs.Readings.{valued};
 ghost use Rattle.meaning.specs.Founded.{Within};
-ghost use Rattle.meaning.specs.Reduct.{Reckoning, reduct, system};
+ghost use Rattle.meaning.specs.Reduct.{reduct, system};
 ghost use Rattle.meaning.specs.Stable.{RuleMet};
 ghost use Rattle.meaning.proofs.Theory.{Progress};
-ghost use Rattle.run.specs.Running.{Basis, FullMet, SomeBasis, EndsWith};
+ghost use Rattle.sided.specs.Sides.{sidesLength};
+ghost use Rattle.run.specs.Running.{EndsWith};
+ghost use Rattle.ascent.specs.Level.{LevelPast};
+use ascent::Climbed;
 use ascent::sweeping::climb;
 use ascent::values::start_sides;
 use ascent::values::values_of;
 use format::Format;
 use program::Counts;
-use reduct::loading;
 use run::Ending;
-use run::Sweeping;
-use run::sweeps::sweep_on;
 use settling::settle;
-use settling::settle_in;
 use sided::Sides;
+use tables::Tables;
 use tables::fill_tables;
 
-// From the starting ends, standard variables as assigned, to the least model of a reckoning. With `full` a head that has its value in `stops` is known to need no more.
-pub fn reckon(
+// What sweeps leave open: from values on the way to the least model of the reduct, with memory for the tables.
+fn finish_in(
     file: &[u8],
     counts: Counts,
-    offsets: &[u16],
-    masks: &[u32],
     assigned: &[i64; Format::MAX_VARIABLES],
-    others: &[i64; Format::MAX_VARIABLES],
-    stops: &[i64; Format::MAX_VARIABLES],
-    cut: bool,
-    full: bool,
+    offsets: &mut [u16],
+    masks: &mut [u32],
     model: &mut [i64; Format::MAX_VARIABLES],
 ) -> Ending
     requires { ⌜ AcceptedAs (now file) counts ⌝ }
-    requires { ⌜ SomeBasis (now file) (valued (now assigned)) (now offsets) (now masks) (now others) (now stops) cut full ⌝ }
-    requires { ⌜ ((v : ℕ) → counts .variables ≤ v → valued (now model) v ≡ valued (now assigned) v) ⌝ }
+    requires { ⌜ (counts .rules ≤ length (now offsets)) × (counts .rules ≤ length (now masks)) ⌝ }
+    requires { ⌜ ((P : Program) → Accepts (now file) P → Within (system P) (valued (now assigned))) ⌝ }
+    requires { ⌜ ((P : Program) → Accepts (now file) P → Progress (system P) (valued (now assigned)) (valued (now model))) ⌝ }
     requires { ⌜ length (now model) ≡ maxVariables ⌝ }
     ensures { λ _. ⌜ length (now (model .exit)) ≡ maxVariables ⌝ }
-    ensures { λ r. ⌜ ((P : Program) (R : Reckoning)
-        → Basis (now (file .entry)) P R (valued (now (assigned .entry))) (now (offsets .entry)) (now (masks .entry)) (now (others .entry)) (now (stops .entry)) cut
-        → FullMet P R (valued (now (assigned .entry))) (now (stops .entry)) full → EndsWith P R (valued (now (assigned .entry))) (valued (now (model .exit))) r) ⌝ }
+    ensures { λ r. ⌜ ((P : Program) → Accepts (now (file .entry)) P → EndsWith P (reduct P) (valued (now (assigned .entry))) (valued (now (model .exit))) r) ⌝ }
 {
-    let n = counts.variables;
-    loading::start_values(file, n, assigned, model);
-    let swept = sweep_on(
+    fill_tables(file, counts, offsets, masks);
+    settle(
         file,
         counts,
         offsets,
         masks,
         model,
-        others,
-        stops,
-        cut,
-        full,
-    );
-    match swept {
-        Sweeping::Ended(ending) => ending,
-        Sweeping::Open => settle_in(file, counts, offsets, masks, model, others, stops, cut),
-    }
+        assigned,
+        assigned,
+        false,
+    )
 }
 
-// What sweeps leave open: from values on the way to the least model of the reduct.
+// The same, the tables made by size.
 fn finish(
     file: &[u8],
     counts: Counts,
@@ -81,44 +70,40 @@ fn finish(
     ensures { λ _. ⌜ length (now (model .exit)) ≡ maxVariables ⌝ }
     ensures { λ r. ⌜ ((P : Program) → Accepts (now (file .entry)) P → EndsWith P (reduct P) (valued (now (assigned .entry))) (valued (now (model .exit))) r) ⌝ }
 {
+    if counts.rules <= Tables::FEW {
+        let mut offsets = [0u16; Tables::FEW];
+        let mut masks = [0u32; Tables::FEW];
+        return finish_in(file, counts, assigned, &mut offsets, &mut masks, model);
+    }
     let mut offsets = [0u16; Format::MAX_RULES];
     let mut masks = [0u32; Format::MAX_RULES];
-    fill_tables(file, counts, &mut offsets, &mut masks);
-    settle(
-        file,
-        counts,
-        &offsets,
-        &masks,
-        model,
-        assigned,
-        assigned,
-        false,
-    )
+    finish_in(file, counts, assigned, &mut offsets, &mut masks, model)
 }
 
-// From the starting ends to the least model of the reduct. With `full` the assignment meets every rule.
+// From the starting ends to the least model of the reduct. With `full` the assignment meets every rule. The sides are lent, and what stands there is overwritten.
 pub fn run(
     file: &[u8],
     counts: Counts,
     assigned: &[i64; Format::MAX_VARIABLES],
     full: bool,
+    sides: &mut [i64; Sides::LENGTH],
     model: &mut [i64; Format::MAX_VARIABLES],
 ) -> Ending
     requires { ⌜ AcceptedAs (now file) counts ⌝ }
     requires { ⌜ ((P : Program) → Accepts (now file) P → Within (system P) (valued (now assigned))) ⌝ }
     requires { ⌜ (full ≡ true → (P : Program) → Accepts (now file) P → (i : ℕ) → i < length (P .rules) → RuleMet P (valued (now assigned)) i) ⌝ }
+    requires { ⌜ LevelPast (counts .variables) (valued (now assigned)) (now sides) × (length (now sides) ≡ sidesLength) ⌝ }
     requires { ⌜ ((v : ℕ) → counts .variables ≤ v → valued (now model) v ≡ valued (now assigned) v) ⌝ }
     requires { ⌜ length (now model) ≡ maxVariables ⌝ }
     ensures { λ _. ⌜ length (now (model .exit)) ≡ maxVariables ⌝ }
     ensures { λ r. ⌜ ((P : Program) → Accepts (now (file .entry)) P → EndsWith P (reduct P) (valued (now (assigned .entry))) (valued (now (model .exit))) r) ⌝ }
 {
     let n = counts.variables;
-    let mut sides = [0i64; Sides::LENGTH];
-    start_sides(file, n, assigned, &mut sides);
-    let climbed = climb(file, counts, &mut sides, full);
-    values_of(file, n, &sides, model);
+    start_sides(file, n, assigned, assigned, sides);
+    let climbed = climb(file, counts, sides, assigned, full);
+    values_of(file, n, sides, model);
     match climbed {
-        Sweeping::Ended(ending) => ending,
-        Sweeping::Open => finish(file, counts, assigned, model),
+        Climbed::Ended(ending) => ending,
+        Climbed::Open => finish(file, counts, assigned, model),
     }
 }

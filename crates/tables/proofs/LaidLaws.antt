@@ -1,16 +1,14 @@
 -- The tables of an accepted file have the place and the mask of each of its rules.
-use Prim.Native.Nat.{ℕ, _+_, _<_, _≤_}
+use Prim.Native.Nat.{ℕ, _<_, _≤_}
 use mathlib.Core.Path.{_≡_, ap, _∙_}
 use mathlib.Core.List.{List}
-use native.Mathlib.Decide.{ℕ-discrete}
 use native.Mathlib.Omega.{arith}
 use lib.ListN.{length, getD, set, length-set}
-use lib.Seq.{getD-set-same, getD-set-other}
 use Rattle.format.specs.Limits.{maxRules}
 use Rattle.program.specs.Reading.{AcceptedAs}
 use Rattle.program.specs.declared.Counts.{Counts}
 use Rattle.tables.specs.Entries.{RuleHere}
-use Rattle.tables.specs.Laid.{OffsetsOf, SameBelow}
+use Rattle.tables.specs.Laid.{OffsetsOf}
 use Rattle.tables.proofs.TableLaws.{here}
 use Rattle.reader.proofs.Published.{reads-accepts, limited}
 
@@ -26,11 +24,3 @@ module _ (s offsets : List ℕ) (k : Counts) (r : AcceptedAs s k) (l : OffsetsOf
 
 pub length-stays : (xs : List ℕ) (i a : ℕ) {xs′ : List ℕ} {n : ℕ} → xs′ ≡ set xs i a → length xs ≡ n → length xs′ ≡ n
 length-stays xs i a e q = ap length e ∙ length-set xs i a ∙ q
-
--- one entry more is copied
-pub same-more : (xs ys : List ℕ) (i : ℕ) {ys′ : List ℕ} → i < length ys → ys′ ≡ set ys i (getD xs i 0) → SameBelow i xs ys → SameBelow (i + 1) xs ys′
-same-more xs ys i l e h j k = rw e (go (ℕ-discrete j i))
-  where
-    go : Dec (j ≡ i) → getD (set ys i (getD xs i 0)) j 0 ≡ getD xs j 0
-    go (yes q) = rw q (getD-set-same ys i (getD xs i 0) 0 l)
-    go (no n) = getD-set-other ys i j (getD xs i 0) 0 n ∙ h j (omega arith)

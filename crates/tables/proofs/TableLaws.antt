@@ -92,9 +92,9 @@ readers-none P ms rs e x i l m =
     e (maxRules * x + i) ∙ ap (λ (t : Bool). t && readAt (ruleIn (P .rules) i) (getD ms i 0) x) (sym (le-ltb i 0 (omega arith)))
 
 -- one rule more, which stands at this place
-pub readers-more : {s : List ℕ} (P : Program) (i at : ℕ) (ms rs rs′ : List ℕ) {v : List ℕ} → Accepts s P → i < length (P .rules) → at ≡ rulePlace s P i → v ≡ valueAt s at
-    → Entered rs rs′ i (readAt (ruleOf v) (getD ms i 0)) → ReadersAre P i ms rs → ReadersAre P (i + 1) ms rs′
-readers-more {s} P i at ms rs rs′ {v} a h e q n t x j l m = n x j l m ∙ go (ℕ-discrete j i)
+pub readers-more : {s : List ℕ} (P : Program) (i at mask : ℕ) (ms rs rs′ : List ℕ) {v : List ℕ} → Accepts s P → i < length (P .rules) → at ≡ rulePlace s P i → mask ≡ getD ms i 0 → v ≡ valueAt s at
+    → Entered rs rs′ i (readAt (ruleOf v) mask) → ReadersAre P i ms rs → ReadersAre P (i + 1) ms rs′
+readers-more {s} P i at mask ms rs rs′ {v} a h e u q n t x j l m = n x j l m ∙ go (ℕ-discrete j i)
   where
     reads : ℕ → Bool
     reads k = readAt (ruleIn (P .rules) k) (getD ms k 0) x
@@ -110,13 +110,13 @@ readers-more {s} P i at ms rs rs′ {v} a h e q n t x j l m = n x j l m ∙ go (
     same (yes p) g = lt-ltb j i p ∙ sym (lt-ltb j (i + 1) (omega arith))
     same (no f) g = le-ltb j i (omega arith) ∙ sym (le-ltb j (i + 1) (omega arith))
 
-    go : Dec (j ≡ i) → (has rs (maxRules * x + j) || (eqb j i && readAt (ruleOf v) (getD ms i 0) x)) ≡ (ltb j (i + 1) && reads j)
+    go : Dec (j ≡ i) → (has rs (maxRules * x + j) || (eqb j i && readAt (ruleOf v) mask x)) ≡ (ltb j (i + 1) && reads j)
     go (yes p) =
         ap₂ _||_ (t x j l m ∙ ap (λ (b : Bool). b && reads j) (le-ltb j i (omega arith)))
-        (ap₂ _&&_ (eq-eqb j i p) (ap (λ (r : Rule). readAt r (getD ms i 0) x) rule-here))
+        (ap₂ _&&_ (eq-eqb j i p) (ap₂ (λ (r : Rule) (w : ℕ). readAt r w x) rule-here u))
         ∙ sym (ap₂ (λ (b : Bool) (k : ℕ). b && reads k) (lt-ltb j (i + 1) (omega arith)) p)
     go (no g) =
-        ap₂ _||_ (t x j l m) (ap (λ (b : Bool). b && readAt (ruleOf v) (getD ms i 0) x) (ne-eqb j i g))
+        ap₂ _||_ (t x j l m) (ap (λ (b : Bool). b && readAt (ruleOf v) mask x) (ne-eqb j i g))
         ∙ or-false _ ∙ ap (λ (b : Bool). b && reads j) (same (decLt j i) g)
 
 pub readers-all : (P : Program) {i : ℕ} (ms rs : List ℕ) → i ≡ length (P .rules) → ReadersAre P i ms rs → ReadersAre P (length (P .rules)) ms rs

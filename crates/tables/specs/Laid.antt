@@ -32,10 +32,6 @@ pub record Laid (s : List ℕ) (k : Counts) (offsets masks : List ℕ) : Type 0 
   pub masks-reach : k .rules ≤ length masks
   pub placed : (P : Program) → Accepts s P → Placed s P offsets masks
 
--- the first n entries of two tables are the same
-abbrev pub SameBelow : ℕ → List ℕ → List ℕ → Type 0
-SameBelow n xs ys = (i : ℕ) → i < n → getD ys i 0 ≡ getD xs i 0
-
 -- the table has the place of each rule of the program that a file means
 abbrev pub OffsetsOf : List ℕ → List ℕ → Type 0
 OffsetsOf s offsets = (P : Program) → Accepts s P → (i : ℕ) → i < length (P .rules) → getD offsets i 0 ≡ rulePlace s P i

@@ -3,7 +3,7 @@ ghost use mathlib.Core.Path.{_≡_};
 ghost use mathlib.Core.Bool.{_&&_, false};
 ghost use Prim.Native.Nat.{ℕ, _*_, _<_, _≤_};
 ghost use lib.Dec.{eqb};
-ghost use lib.ListN.{length, getD, set};
+ghost use lib.ListN.{length, getD};
 ghost use Rattle.format.specs.Limits.{maxFile, maxRules, maxTerms};
 ghost use Rattle.words.specs.Bit.{has, bit};
 ghost use Rattle.program.specs.Program.{Program, ruleOf};
@@ -12,7 +12,7 @@ ghost use Rattle.parts.specs.Values.{ruleHeader};
 ghost use Rattle.program.specs.Reading.{AcceptedAs, Accepts};
 ghost use Rattle.tables.specs.Tabled.{rowWords, readersWords, narrowVariables, middleVariables, readAt, RowIn, RowsIn, Entered, ReadersAre};
 ghost use Rattle.tables.specs.Entries.{RuleHere, EntryMade};
-ghost use Rattle.tables.specs.Laid.{OffsetsOf, SameBelow, Laid};
+ghost use Rattle.tables.specs.Laid.{OffsetsOf, Laid};
 use format::Format;
 use parts::places::next_at;
 use parts::places::value_at;
@@ -62,28 +62,24 @@ fn wide(at: u16) -> usize
     at as usize
 }
 
-// Where rule i stands.
+// Where rule i stands; 0 past the table's end.
 pub fn place_in(offsets: &[u16], i: usize) -> usize
-    requires { ⌜ i < length (now offsets) ⌝ }
     ensures { λ r. ⌜ r ≡ getD (now (offsets .entry)) i 0 ⌝ }
 {
-    wide(offsets[i])
+    if i < offsets.len() {
+        return wide(offsets[i]);
+    }
+    0
 }
 
-// The mask of rule i.
+// The mask of rule i; 0 past the table's end.
 pub fn mask_in(masks: &[u32], i: usize) -> u32
-    requires { ⌜ i < length (now masks) ⌝ }
     ensures { λ r. ⌜ r ≡ getD (now (masks .entry)) i 0 ⌝ }
 {
-    masks[i]
-}
-
-// Where rule i stands, in a table for the most rules.
-pub fn place_of(offsets: &[u16; Format::MAX_RULES], i: usize) -> usize
-    requires { ⌜ i < maxRules ⌝ }
-    ensures { λ r. ⌜ r ≡ getD (now (offsets .entry)) i 0 ⌝ }
-{
-    place_in(offsets, i)
+    if i < masks.len() {
+        return masks[i];
+    }
+    0
 }
 
 // Rule k reads the variable at position j of its body, where the mask has that position.
@@ -150,48 +146,12 @@ pub fn fill_tables(file: &[u8], counts: Counts, offsets: &mut [u16], masks: &mut
     }
 }
 
-// Copies entry i of both tables.
-fn copy_entry(
-    offsets: &[u16],
-    masks: &[u32],
-    i: usize,
-    places: &mut [u16; Format::MAX_RULES],
-    all: &mut [u32; Format::MAX_RULES],
-)
-    requires { ⌜ (i < length (now offsets)) × (i < length (now masks)) × (i < maxRules) ⌝ }
-    ensures { λ _. ⌜ now (places .exit) ≡ set (now (places .entry)) i (getD (now (offsets .entry)) i 0) ⌝ }
-    ensures { λ _. ⌜ now (all .exit) ≡ set (now (all .entry)) i (getD (now (masks .entry)) i 0) ⌝ }
-{
-    places[i] = offsets[i];
-    all[i] = masks[i];
-}
-
-// Copies the entries of so many rules to tables for the most rules.
-pub fn copy_tables(
-    rules: usize,
-    offsets: &[u16],
-    masks: &[u32],
-    places: &mut [u16; Format::MAX_RULES],
-    all: &mut [u32; Format::MAX_RULES],
-)
-    requires { ⌜ (rules ≤ length (now offsets)) × (rules ≤ length (now masks)) × (rules ≤ maxRules) ⌝ }
-    requires { ⌜ (length (now places) ≡ maxRules) × (length (now all) ≡ maxRules) ⌝ }
-    ensures { λ _. ⌜ SameBelow rules (now (offsets .entry)) (now (places .exit)) ⌝ }
-    ensures { λ _. ⌜ SameBelow rules (now (masks .entry)) (now (all .exit)) ⌝ }
-{
-    let mut i = 0;
-    while i < rules {
-        copy_entry(offsets, masks, i, places, all);
-        i += 1;
-    }
-}
-
 // Enters every rule of a file that is accepted with these counts, by its place and its mask, among the readers of its variables.
 pub fn fill_readers(
     file: &[u8],
     counts: Counts,
-    offsets: &[u16; Format::MAX_RULES],
-    masks: &[u32; Format::MAX_RULES],
+    offsets: &[u16],
+    masks: &[u32],
     readers: &mut [u64],
 )
     requires { ⌜ AcceptedAs (now file) counts ⌝ }
@@ -204,8 +164,8 @@ pub fn fill_readers(
     let rules = counts.rules;
     let mut i = 0;
     while i < rules {
-        let at = place_of(offsets, i);
-        let mask = masks[i];
+        let at = place_in(offsets, i);
+        let mask = mask_in(masks, i);
         enter_rule(readers, value_at(file, at), mask, i);
         i += 1;
     }

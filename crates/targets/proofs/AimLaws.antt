@@ -4,8 +4,7 @@ use mathlib.Core.Path.{_≡_, refl, sym, subst, _∙_}
 use mathlib.Core.Bool.{Bool, true, false, not, _&&_, _||_}
 use mathlib.Core.List.{List}
 use native.Mathlib.Omega.{arith}
-use lib.Dec.{T, ltb}
-use borrow.Author.Tests.{ltb-true, ltb-false}
+use lib.Dec.{T}
 use mir.Syntax.{w64}
 use mir.Val.{SFits}
 use lib.IntN.{ℤ, pos, negsuc, negℤ, natAbs, _+ℤ_, _-ℤ_}
@@ -140,13 +139,3 @@ module _ (vs : List Variable) (cut : Bool) (strides stops m target : List ℤ) (
   pub aim-variable : {x : Variable} {s z t r : ℤ} {n : ℕ} → x ≡ variableIn vs v → s ≡ valued stops v → z ≡ valued m v → t ≡ valued target v → n ≡ strideOf strides v → r ≡ firstAim cut x n s z t
       → r ≡ firstAims vs cut strides stops m target v
   aim-variable p d e f k q = q ∙ rw (p, d, e, f, k)
-
--- two lists of one length have the same values where those below it are the same
-pub same-valued : (n : ℕ) (xs ys : List ℤ) → length xs ≡ n → length ys ≡ n → ((v : ℕ) → v < n → valued xs v ≡ valued ys v) → (v : ℕ) → valued xs v ≡ valued ys v
-same-valued n xs ys p q h v = go (ltb v n) refl
-  where
-    go : (b : Bool) → ltb v n ≡ b → valued xs v ≡ valued ys v
-    go true e = h v (ltb-true v n e)
-    go false e =
-        let l = ltb-false v n e in
-        List·getD-eq-default xs (pos 0) (omega arith) ∙ sym (List·getD-eq-default ys (pos 0) (omega arith))

@@ -1,11 +1,11 @@
 -- A rule lifts the aim of its head, and the aims that arrive.
 use Prim.Native.Nat.{ℕ, _<_}
-use mathlib.Core.Path.{_≡_, refl, sym, ap, ap₂, fun-ext, subst, _∙_}
+use mathlib.Core.Path.{_≡_, refl, sym, ap, ap₂, subst, _∙_}
 use mathlib.Core.Bool.{Bool, true, false, not, cond}
 use mathlib.Core.List.{List}
 use native.Mathlib.Omega.{arith}
 use lib.Dec.{T}
-use lib.IntN.{ℤ}
+use lib.IntN.{ℤ, pos}
 use lib.ListN.{length, getD, set}
 use Rattle.format.specs.Limits.{maxVariables}
 use Rattle.program.specs.Fields.{valueAt}
@@ -39,7 +39,7 @@ use Rattle.targets.specs.Aims.{isOpen, laterOf, estimatedBy, liftTo, nex
 use Rattle.targets.proofs.AimLaws.{not-not}
 use Rattle.targets.proofs.TargetLaws.{justified-start, justified-lift, target-progress}
 use Rattle.targets.proofs.RuleLaws.{rule-steady}
-use Rattle.targets.proofs.OpenLaws.{open-on, open-ends, first-from, first-drawn, all-short, aims-are}
+use Rattle.targets.proofs.OpenLaws.{open-on, open-ends, first-from, all-short, aims-are, arrived-drawn}
 
 -- what is given where the aim z is lifted to a on the way to t
 record LiftedTo (x : Variable) (z t : ℤ) (g : Given) (a : ℤ) : Type 0 where
@@ -143,27 +143,25 @@ running-small {m = m} k =
 
 module _ {s : List ℕ} {P : Program} {R : Reckoning} {θ : Valuation} {offsets masks readers : List ℕ} {others stops : List ℤ} {cut : Bool} {m : List ℤ} {w : List ℕ}
     (k : Running s P R θ offsets masks readers others stops cut m w) (strides target : List ℤ) {c : Counts} (r : AcceptedAs s c) (before first : List ℤ)
-    (lm : length m ≡ maxVariables) (la : length first ≡ maxVariables) (f : Filled (firstAims (variablesAt s (c .variables)) cut strides stops m target) maxVariables before first) where
-  are : valued first ≡ firstAims (P .variables) cut strides stops m target
-  are = aims-are (k .task .basis .reckons) strides m target (k .progress) r before first lm la f
-
+    (zero : (v : ℕ) → valued before v ≡ pos 0) (f : Filled (firstAims (variablesAt s (c .variables)) cut strides stops m target) (c .variables) before first) where
   from : From (reckoned P R) θ (valued m) (valued first)
-  from = rw are (first-from (k .task .basis .reckons) strides m target (k .progress))
+  from = rw (aims-are (k .task .basis .reckons) strides m target (k .progress) r before first zero f) (first-from (k .task .basis .reckons) strides m target (k .progress))
 
   -- the first aims
   pub aiming-start : Aiming s P R θ offsets masks others stops cut strides m (valued first) first
   aiming-start = record { reckons = k .task .basis .reckons; progress = k .progress; justified = justified-start (k .progress) from }
 
-  -- every aim that was lifted from them is its target
-  pub aiming-arrived : (aims : List ℤ) {a : Bool} → AimsKept s offsets masks others stops cut strides m first aims → SameIf aims target a → a ≡ true → Landing s P R θ offsets masks readers others stops cut target m w
+  -- the aims that were lifted from them are the targets of the variables
+  pub aiming-arrived : (aims : List ℤ) {a : Bool} → AimsKept s offsets masks others stops cut strides m first aims → SameIf (c .variables) aims target a → a ≡ true
+      → Landing s P R θ offsets masks readers others stops cut aims m w
   aiming-arrived aims lift same e =
       record { run = k; goal = target-progress (k .progress) drawn there _ (all-short (k .task .basis .reckons) strides m target (k .progress) from); under = there .from .after }
     where
-      there : Justified (reckoned P R) (strideOf strides) θ (valued m) (valued first) (valued target)
-      there = subst (λ (A : Valuation). Justified (reckoned P R) (strideOf strides) θ (valued m) (valued first) A) (fun-ext (same e)) (lift _ _ _ _ aiming-start .justified)
+      there : Justified (reckoned P R) (strideOf strides) θ (valued m) (valued first) (valued aims)
+      there = lift _ _ _ _ aiming-start .justified
 
-      drawn : Drawn (reckoned P R) (strideOf strides) (valued m) (valued target) (valued first)
-      drawn = rw are (first-drawn (k .task .basis .reckons) strides m target (k .progress))
+      drawn : Drawn (reckoned P R) (strideOf strides) (valued m) (valued aims) (valued first)
+      drawn = arrived-drawn (k .task .basis .reckons) strides m target (k .progress) r before first zero f (same e)
 
 -- what rule r, whose head is h, is estimated to give
 abbrev estimateOf : List ℤ → ℕ → List ℤ → List ℤ → List ℤ → Variable → ℕ → Rule → Given

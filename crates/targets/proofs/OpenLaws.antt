@@ -1,5 +1,5 @@
 -- What an open target says, and that the first aims are the targets drawn back.
-use Prim.Native.Nat.{ℕ, _+_, _*_, _≤_}
+use Prim.Native.Nat.{ℕ, _+_, _*_, _<_, _≤_}
 use mathlib.Core.Path.{_≡_, refl, sym, ap, fun-ext, subst, _∙_}
 use mathlib.Core.Logic.{_⊎_, inl, inr}
 use mathlib.Core.Bool.{Bool, true, false, not, cond, _&&_, _||_}
@@ -10,8 +10,8 @@ use lib.Dec.{T, ltb}
 use borrow.Author.Tests.{ltb-true, ltb-false}
 use lib.IntN.{ℤ, pos, negℤ, natAbs, _+ℤ_, _-ℤ_}
 use lib.Signed.{_≤ℤ_}
-use lib.ListN.{length, List·getD-eq-default}
-use Rattle.format.specs.Limits.{maxVariables, maxNumber}
+use lib.ListN.{length}
+use Rattle.format.specs.Limits.{maxNumber}
 use Rattle.format.proofs.Int.{int, sum-is, neg-is, abs-is}
 use Rattle.program.specs.Program.{Program, variableIn, variablesAt}
 use Rattle.program.specs.Reading.{AcceptedAs}
@@ -22,11 +22,11 @@ use Rattle.program.specs.declared.Variable.{Variable}
 use Rattle.program.proofs.Promises.{accepts-promises}
 use Rattle.program.proofs.Tests.{cases, is-test, and-left, and-right}
 use Rattle.program.proofs.Variables.{past-total}
-use Rattle.reader.proofs.Published.{variables-are, program-limited}
+use Rattle.reader.proofs.Published.{counts-of, variables-are}
 use Rattle.reduct.specs.Filling.{Filled}
 use Rattle.meaning.specs.Founded.{AtOrBefore, Within, Model}
 use Rattle.meaning.specs.Reduct.{Reckoning, reckoned}
-use Rattle.meaning.proofs.InRanges.{value-small}
+use Rattle.meaning.proofs.InRanges.{past-zero, value-small}
 use Rattle.meaning.proofs.Laws.{at-refl, at-trans, from-start, to-far, within-ends}
 use Rattle.meaning.proofs.Narrowing.{narrows-founded, narrows-past, narrows-within}
 use Rattle.meaning.proofs.Theory.{Progress}
@@ -143,7 +143,7 @@ module _ {s : List ℕ} {P : Program} {R : Reckoning} {θ : Valuation} {offsets 
       after = first-after;
     }
 
-    pub first-drawn : Drawn (reckoned P R) (strideOf strides) (valued m) (valued target) aim
+    first-drawn : Drawn (reckoned P R) (strideOf strides) (valued m) (valued target) aim
     first-drawn = record {
       drawn = λ v.
           at-variable v (λ a. (a ≡ valued m v) ⊎ (ahead (R .variable v) (valued target v) ≡ (ahead (R .variable v) a +ℤ pos (strideOf strides v))))
@@ -164,16 +164,30 @@ module _ {s : List ℕ} {P : Program} {R : Reckoning} {θ : Valuation} {offsets 
         few v =
             mul-le-mul {n₁ = maxNumber + maxNumber} {m₁ = 1} {n₂ = maxNumber + maxNumber} {m₂ = strideOf strides v} (omega arith) (stride-least (valued strides v))
 
-    -- the code's list has them
-    module _ {c : Counts} (r : AcceptedAs s c) (before aims : List ℤ) (lm : length m ≡ maxVariables) (la : length aims ≡ maxVariables)
-        (f : Filled (firstAims (variablesAt s (c .variables)) cut strides stops m target) maxVariables before aims) where
-      pub aims-are : valued aims ≡ aim
-      aims-are = fun-ext (λ v. go v (ltb v maxVariables) refl)
+    -- the code's list, which was filled over zeros, has them
+    module _ {c : Counts} (r : AcceptedAs s c) (before aims : List ℤ) (zero : (v : ℕ) → valued before v ≡ pos 0)
+        (f : Filled (firstAims (variablesAt s (c .variables)) cut strides stops m target) (c .variables) before aims) where
+      -- past the last variable all are zero
+      past-is : (v : ℕ) → c .variables ≤ v → (valued aims v ≡ valued m v) × (valued m v ≡ aim v)
+      past-is v l =
+          let q : length (P .variables) ≤ v = omega (arith, counts-of r (k .accepts) .variables-are) in
+          (f .past v l ∙ zero v ∙ sym (past-zero P (narrows-within (k .narrows) (p .within)) v q), past-aim (P .variables) cut strides stops m target v q)
+
+      first-is-aim : (v : ℕ) → valued aims v ≡ aim v
+      first-is-aim v = go (ltb v (c .variables)) refl
         where
-          go : (v : ℕ) (b : Bool) → ltb v maxVariables ≡ b → valued aims v ≡ aim v
-          go v true e =
-              f .below v (ltb-true v maxVariables e) ∙ ap (λ (vs : List Variable). firstAims vs cut strides stops m target v) (sym (variables-are r (k .accepts)))
-          go v false e =
-              let l = ltb-false v maxVariables e in
-              List·getD-eq-default aims (pos 0) (omega arith) ∙ sym (List·getD-eq-default m (pos 0) (omega arith))
-              ∙ past-aim (P .variables) cut strides stops m target v (omega (arith, program-limited (k .accepts) .few-variables))
+          go : (b : Bool) → ltb v (c .variables) ≡ b → valued aims v ≡ aim v
+          go true e = f .below v (ltb-true v (c .variables) e) ∙ ap (λ (vs : List Variable). firstAims vs cut strides stops m target v) (sym (variables-are r (k .accepts)))
+          go false e = let q = past-is v (ltb-false v (c .variables) e) in q .0 ∙ q .1
+
+      pub aims-are : valued aims ≡ aim
+      aims-are = fun-ext first-is-aim
+
+      -- they are drawn back from any values that are the targets at the variables
+      pub arrived-drawn : {A : Valuation} → ((v : ℕ) → v < c .variables → A v ≡ valued target v) → Drawn (reckoned P R) (strideOf strides) (valued m) A (valued aims)
+      arrived-drawn {A} same = record { drawn = λ v. go v (ltb v (c .variables)) refl }
+        where
+          go : (v : ℕ) (b : Bool) → ltb v (c .variables) ≡ b
+              → (valued aims v ≡ valued m v) ⊎ (ahead (R .variable v) (A v) ≡ (ahead (R .variable v) (valued aims v) +ℤ pos (strideOf strides v)))
+          go v true e = rw (same v (ltb-true v (c .variables) e), first-is-aim v) (first-drawn .drawn v)
+          go v false e = inl (past-is v (ltb-false v (c .variables) e) .0)

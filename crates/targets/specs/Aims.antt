@@ -1,5 +1,5 @@
 -- What the code finds of targets, in lists of values: which are open, the aims at first, and how values become their targets.
-use Prim.Native.Nat.{ℕ}
+use Prim.Native.Nat.{ℕ, _<_}
 use mathlib.Core.Path.{_≡_}
 use mathlib.Core.Logic.{_⊎_}
 use mathlib.Core.Bool.{Bool, true, not, cond, _&&_, _||_}
@@ -61,9 +61,9 @@ nextAim P mask cut strides stops others m target aims i =
     let z = valued aims h in
     cond (isOpen cut x (valued stops h) z (valued target h)) (liftTo x z (valued target h) (estimatedBy P mask cut strides stops others m aims i)) z
 
--- where the answer is yes, two lists have the same values
-abbrev pub SameIf : List ℤ → List ℤ → Bool → Type 0
-SameIf xs ys r = r ≡ true → (v : ℕ) → valued xs v ≡ valued ys v
+-- where the answer is yes, two lists have the same first n values
+abbrev pub SameIf : ℕ → List ℤ → List ℤ → Bool → Type 0
+SameIf n xs ys r = r ≡ true → (v : ℕ) → v < n → valued xs v ≡ valued ys v
 
 -- the aims of a run that has reached m, A₀ being the first
 pub record Aiming (s : List ℕ) (P : Program) (R : Reckoning) (θ : Valuation) (offsets masks : List ℕ) (others stops : List ℤ) (cut : Bool) (strides m : List ℤ)

@@ -69,21 +69,18 @@ fn aim_at(
     strides: &[i64; Format::MAX_VARIABLES],
 ) -> i64
     requires { ⌜ (8 * variables ≤ length (now file)) × (variables ≤ maxVariables) ⌝ }
-    requires { ⌜ (v < maxVariables) × Small (now model) ⌝ }
+    requires { ⌜ (v < variables) × Small (now model) ⌝ }
     ensures { λ r. ⌜ r ≡ firstAims (variablesAt (now (file .entry)) variables) cut (now (strides .entry)) (now (stops .entry)) (now (model .entry)) (now (target .entry)) v ⌝ }
 {
     let value = model[v];
     let stop = stops[v];
     let goal = target[v];
     let number = strides[v];
-    if v >= variables {
-        return value;
-    }
     let x = variables::variable(file, v as u8);
     first_aim(x, cut, stop, value, goal, stride_by(number))
 }
 
-// The first aims of all variables.
+// The first aims of the variables.
 pub fn draw_back(
     file: &[u8],
     variables: usize,
@@ -98,21 +95,25 @@ pub fn draw_back(
     requires { ⌜ (length (now aims) ≡ maxVariables) × Small (now model) ⌝ }
     ensures { λ _. ⌜ length (now (aims .exit)) ≡ maxVariables ⌝ }
     ensures { λ _. ⌜ Filled (firstAims (variablesAt (now (file .entry)) variables) cut (now (strides .entry)) (now (stops .entry)) (now (model .entry)) (now (target .entry)))
-        maxVariables (now (aims .entry)) (now (aims .exit)) ⌝ }
+        variables (now (aims .entry)) (now (aims .exit)) ⌝ }
 {
-    for v in 0..Format::MAX_VARIABLES {
+    for v in 0..variables {
         let aim = aim_at(file, variables, v, model, stops, cut, target, strides);
         aims[v] = aim;
     }
 }
 
-// Whether every aim is its target.
-pub fn arrived(aims: &[i64; Format::MAX_VARIABLES], target: &[i64; Format::MAX_VARIABLES]) -> bool
-    requires { ⌜ (length (now aims) ≡ maxVariables) × (length (now target) ≡ maxVariables) ⌝ }
-    ensures { λ r. ⌜ SameIf (now (aims .entry)) (now (target .entry)) r ⌝ }
+// Whether the aim of every variable is its target.
+pub fn arrived(
+    variables: usize,
+    aims: &[i64; Format::MAX_VARIABLES],
+    target: &[i64; Format::MAX_VARIABLES],
+) -> bool
+    requires { ⌜ variables ≤ maxVariables ⌝ }
+    ensures { λ r. ⌜ SameIf variables (now (aims .entry)) (now (target .entry)) r ⌝ }
 {
     let mut v = 0;
-    while v < Format::MAX_VARIABLES {
+    while v < variables {
         let aim = aims[v];
         let goal = target[v];
         if aim != goal {

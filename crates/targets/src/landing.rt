@@ -1,4 +1,4 @@
-// The values become their targets.
+// The values become the aims that have arrived.
 ghost use mathlib.Core.Path.{_≡_};
 ghost use mathlib.Core.Bool.{Bool};
 ghost use mathlib.Core.List.{List};
@@ -39,24 +39,25 @@ fn place(
     solve::join_readers(waiting, readers, v);
 }
 
-// Every value becomes its target.
+// The value of every variable becomes its aim.
 pub fn land(
     readers: &[u64],
-    target: &[i64; Format::MAX_VARIABLES],
+    variables: usize,
+    aims: &[i64; Format::MAX_VARIABLES],
     model: &mut [i64; Format::MAX_VARIABLES],
     waiting: &mut [u64; Tables::ROW],
 )
-    requires { ⌜ length (now model) ≡ maxVariables ⌝ }
+    requires { ⌜ (variables ≤ maxVariables) × (length (now model) ≡ maxVariables) ⌝ }
     requires { ⌜ length (now waiting) ≡ rowWords ⌝ }
     ensures { λ _. ⌜ length (now (model .exit)) ≡ maxVariables ⌝ }
     ensures { λ _. ⌜ length (now (waiting .exit)) ≡ rowWords ⌝ }
     ensures { λ _. ⌜ ((s : List ℕ) (P : Program) (R : Reckoning) (θ : Valuation) (offsets masks : List ℕ) (others stops : List ℤ) (cut : Bool)
-        → Landing s P R θ offsets masks (now (readers .entry)) others stops cut (now (target .entry)) (now (model .entry)) (now (waiting .entry))
-        → Landing s P R θ offsets masks (now (readers .entry)) others stops cut (now (target .entry)) (now (model .exit)) (now (waiting .exit))
+        → Landing s P R θ offsets masks (now (readers .entry)) others stops cut (now (aims .entry)) (now (model .entry)) (now (waiting .entry))
+        → Landing s P R θ offsets masks (now (readers .entry)) others stops cut (now (aims .entry)) (now (model .exit)) (now (waiting .exit))
         × (gap (variablesAt s maxVariables) (now (model .exit)) ≤ gap (variablesAt s maxVariables) (now (model .entry)))) ⌝ }
 {
-    for v in 0..Format::MAX_VARIABLES {
-        let goal = target[v];
-        place(readers, v, goal, model, waiting);
+    for v in 0..variables {
+        let aim = aims[v];
+        place(readers, v, aim, model, waiting);
     }
 }

@@ -28,13 +28,13 @@ fn line_length(count: usize) -> usize
     }
 }
 
-// The values become the targets, where the first `count` rules of the line, 256 at most, show that every model is at or after them; else nothing changes. Targets,
-// line and strides are advice, and may be any numbers.
+// The values of the variables become their targets, where the first `count` rules of the line, 256 at most, show that every model is at or after them; else nothing changes.
+// Targets, line and strides are advice, and may be any numbers.
 pub fn leap(
     file: &[u8],
     counts: Counts,
-    offsets: &[u16; Format::MAX_RULES],
-    masks: &[u32; Format::MAX_RULES],
+    offsets: &[u16],
+    masks: &[u32],
     readers: &[u64],
     model: &mut [i64; Format::MAX_VARIABLES],
     others: &[i64; Format::MAX_VARIABLES],
@@ -78,9 +78,9 @@ pub fn leap(
         strides,
         &mut aims,
     );
-    if !aims::arrived(&aims, target) {
+    if !aims::arrived(n, &aims, target) {
         return false;
     }
-    landing::land(readers, target, model, waiting);
+    landing::land(readers, n, &aims, model, waiting);
     true
 }

@@ -17,7 +17,8 @@ use program::Counts;
 use program::Given;
 use program::Variable;
 use run::demands;
-use tables::place_of;
+use tables::mask_in;
+use tables::place_in;
 
 // The aim of x lifted to what is given, but no further than the target; or the aim, where what is given does not come after it.
 fn lift_to(x: Variable, aim: i64, target: i64, given: Given) -> i64
@@ -76,8 +77,8 @@ fn next_aim(
 fn lift(
     file: &[u8],
     counts: Counts,
-    offsets: &[u16; Format::MAX_RULES],
-    masks: &[u32; Format::MAX_RULES],
+    offsets: &[u16],
+    masks: &[u32],
     i: usize,
     model: &[i64; Format::MAX_VARIABLES],
     others: &[i64; Format::MAX_VARIABLES],
@@ -97,8 +98,8 @@ fn lift(
     if i >= counts.rules {
         return false;
     }
-    let at = place_of(offsets, i);
-    let mask = masks[i];
+    let at = place_in(offsets, i);
+    let mask = mask_in(masks, i);
     let next = next_aim(
         file,
         at,
@@ -125,8 +126,8 @@ fn lift(
 fn pass(
     file: &[u8],
     counts: Counts,
-    offsets: &[u16; Format::MAX_RULES],
-    masks: &[u32; Format::MAX_RULES],
+    offsets: &[u16],
+    masks: &[u32],
     line: &[usize; Format::MAX_VARIABLES],
     count: usize,
     model: &[i64; Format::MAX_VARIABLES],
@@ -185,8 +186,8 @@ fn passes(count: usize) -> usize {
 pub fn lift_all(
     file: &[u8],
     counts: Counts,
-    offsets: &[u16; Format::MAX_RULES],
-    masks: &[u32; Format::MAX_RULES],
+    offsets: &[u16],
+    masks: &[u32],
     line: &[usize; Format::MAX_VARIABLES],
     count: usize,
     model: &[i64; Format::MAX_VARIABLES],

@@ -1,13 +1,10 @@
 -- The rule leaves the set; it is met, or its head is raised, or asks for more than its head's range has.
-use Prim.Native.Nat.{ℕ, _≤_}
-use mathlib.Core.Path.{_≡_, refl, sym, _∙_}
-use mathlib.Core.Bool.{true}
+use mathlib.Core.Path.{_≡_, sym, _∙_}
 use native.Mathlib.Omega.{arith}
 use mir.Syntax.{w64}
 use mir.Val.{toZ, ofZ}
 use borrow.Author.Tests.{not-true, not-false}
 use borrow.Author.Needs.{needs}
-use Rattle.words.specs.Bit.{has}
 use Rattle.run.proofs.StepLaws.{dropped-inside}
 use Rattle.run.proofs.SolveLaws.{run-small, run-field, no-lift, lift-on, lift-nearer}
 use Rattle.laps.proofs.LapLaws.{try-some, try-met, try-more, not-moved}
@@ -18,16 +15,16 @@ has-bit-requires : tie.Need-has-bit-requires
 has-bit-requires c κs = search needs
 
 returns : tie.Need-returns
-returns c = let p = c .before .before .before .before .before .before .pre in ((p .1 .1, p .1 .2), (omega arith, λ P R θ k. k))
+returns c = let p = c .before .before .before .before .before .before .before .before .pre in ((p .1 .1, p .1 .2), (omega arith, λ P R θ k. k))
 
 drop-bit-requires : tie.Need-drop-bit-requires
 drop-bit-requires c κs = search needs
 
 look-requires : tie.Need-look-requires
 look-requires c κs =
-    let p = c .before .before .before .before .before .before .before .before .before .pre in
+    let p = c .before .before .before .before .before .before .before .before .before .before .before .pre in
     let k = p .0 .run in
-    (p .1 .0, (try-some k _ (p .1 .0) (sym (c .before .before .before .before .has-bit .ensures) ∙ not-false _ (c .before .before .before .if1 .left)), run-small k))
+    (try-some k _ (p .1 .0) (sym (c .before .before .before .before .has-bit .ensures) ∙ not-false _ (c .before .before .before .if1 .left)), run-small k)
 
 enum-known-found : tie.Need-enum-known-found
 enum-known-found c = search needs
@@ -37,7 +34,7 @@ enum-told c = search needs
 
 returns-2 : tie.Need-returns-2
 returns-2 c =
-    let p = c .before .before .before .before .before .before .before .before .before .before .before .before .pre in
+    let p = c .before .before .before .before .before .before .before .before .before .before .before .before .before .before .pre in
     let d = c .before .before .before .before .drop-bit .ensures in (
       (p .1 .1, d .0 ∙ p .1 .2),
       (
@@ -48,22 +45,26 @@ returns-2 c =
 
 head-of-requires : tie.Need-head-of-requires
 head-of-requires c κs =
-    let p = c .before .before .before .before .before .before .before .before .before .before .before .before .before .pre in
-    (p .1 .0, try-some (p .0 .run) _ (p .1 .0) (sym (c .before .before .before .before .before .before .before .before .has-bit .ensures) ∙ not-false _ (c .before .before .before .before .before .before .before .if1 .left)))
+    let p = c .before .before .before .before .before .before .before .before .before .before .before .before .before .before .before .pre in
+    let h = c .before .before .before .before .before .before .before in
+    try-some (p .0 .run) _ (p .1 .0) (sym (h .before .has-bit .ensures) ∙ not-false _ (h .if1 .left))
 
 variable-requires : tie.Need-variable-requires
 variable-requires c κs =
-    let p = c .before .before .before .before .before .before .before .before .before .before .before .before .before .before .pre in
+    let p = c .before .before .before .before .before .before .before .before .before .before .before .before .before .before .before .before .pre in
     let k = p .0 .run in
     run-field k _ (try-more k _ (p .1 .0) (sym (c .before .before .before .before .before .before .before .before .before .has-bit .ensures) ∙ not-false _ (c .before .before .before .before .before .before .before .before .if1 .left)) _ (record { is = c .before .before .before .before .before .before .drop-bit .ensures .1 })
     (c .before .before .before .before .look .ensures) (c .before .before .found .given .1)) (c .head-of .ensures)
 
 raise-requires : tie.Need-raise-requires
-raise-requires c κs = search needs
+raise-requires c κs =
+    let d = c .before .before .before .before .before .before .before .before .before in
+    let p = d .before .before .before .before .before .before .before .before .before .before .pre in
+    (p .1 .1, d .drop-bit .ensures .0 ∙ p .1 .2)
 
 returns-3 : tie.Need-returns-3
 returns-3 c =
-    let p = c .before .before .before .before .before .before .before .before .before .before .before .before .before .before .before .before .before .before .before .pre in
+    let p = c .before .before .before .before .before .before .before .before .before .before .before .before .before .before .before .before .before .before .before .before .before .pre in
     let d = c .before .before .before .before .before .before .before .before .before .before .before .drop-bit .ensures in
     let n = c .before .before .before .before .before .before .before .found .given in
     let r = c .before .raise in
@@ -80,7 +81,7 @@ returns-3 c =
 
 returns-4 : tie.Need-returns-4
 returns-4 c =
-    let p = c .before .before .before .before .before .before .before .before .before .before .before .before .before .before .before .before .before .before .before .pre in
+    let p = c .before .before .before .before .before .before .before .before .before .before .before .before .before .before .before .before .before .before .before .before .before .pre in
     let d = c .before .before .before .before .before .before .before .before .before .before .before .drop-bit .ensures in
     let n = c .before .before .before .before .before .before .before .found .given in
     let r = c .before .raise in

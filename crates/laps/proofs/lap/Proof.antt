@@ -1,5 +1,5 @@
 -- Invariant: the run goes on.
-use Prim.Native.Nat.{ℕ, _-_, _≤_}
+use Prim.Native.Nat.{_-_, _≤_}
 use mathlib.Core.Path.{_≡_}
 use native.Mathlib.Omega.{arith}
 use lib.ListN.{length}
@@ -26,7 +26,7 @@ abbrev μ-loop : tie.MeasureT-loop
 μ-loop file offsets masks readers order from to model₀ others stops cut waiting₀ by₀ risen₀ raised₀ k₀ model waiting by risen raised k = to - k
 
 loop-holds : tie.Need-loop-holds Inv-loop μ-loop
-loop-holds c = let p = c .before .before .pre in (λ P R θ k. k, p .1 .0 .0, p .1 .0 .1, p .1 .1 .0, p .1 .1 .1, omega arith)
+loop-holds c = let p = c .before .before .before .before .before .pre in (λ P R θ k. k, p .1 .0 .0, p .1 .0 .1, p .1 .1 .0, p .1 .1 .1, omega arith)
 
 rule-at-requires : tie.Need-rule-at-requires Inv-loop μ-loop
 rule-at-requires c κs = search needs
@@ -34,7 +34,7 @@ rule-at-requires c κs = search needs
 attempt-requires : tie.Need-attempt-requires Inv-loop μ-loop
 attempt-requires c κs =
     let l = c .before .before .before .before .loop in
-    let p = c .before .before .before .before .before .before .before .pre .0 in
+    let p = c .before .before .before .before .before .before .before .before .before .before .pre .0 in
     (record { program = p .program; reckoning = p .reckoning; assigned = p .assigned; run = l .inv .0 _ _ _ (p .run) }, (c .before .before .rule-at .ensures, l .inv .1, l .inv .2))
 
 enum-told : tie.Need-enum-told Inv-loop μ-loop

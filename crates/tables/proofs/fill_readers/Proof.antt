@@ -22,27 +22,24 @@ abbrev μ-loop : tie.MeasureT-loop
 μ-loop file offsets masks readers₀ rules i₀ readers i = rules - i
 
 loop-holds : tie.Need-loop-holds Inv-loop μ-loop
-loop-holds c = let s = c .before .before in
+loop-holds c = let s = c .before .before .before .before in
     (omega arith, rules-few (s .args .file .now) (s .args .offsets .now) (s .args .counts) (s .pre .0) (s .pre .1 .0), refl, λ P x. readers-none P (s .args .masks .now) _ (s .pre .1 .1 .1))
 
-place-of-requires : tie.Need-place-of-requires Inv-loop μ-loop
-place-of-requires c κs = search needs
+place-in-requires : tie.Need-place-in-requires Inv-loop μ-loop
+place-in-requires c κs = search needs
 
-mul-mask : tie.Need-mul-mask Inv-loop μ-loop
-mul-mask c = search needs
-
-element-copy-out-mask : tie.Need-element-copy-out-mask Inv-loop μ-loop
-element-copy-out-mask c = search needs
+mask-in-requires : tie.Need-mask-in-requires Inv-loop μ-loop
+mask-in-requires c κs = search needs
 
 value-at-requires : tie.Need-value-at-requires Inv-loop μ-loop
 value-at-requires c κs =
-    let s = c .before .before .before .before .before .before .before in
-    rule-here (s .args .file .now) (s .args .offsets .now) (s .args .counts) (s .pre .0) (s .pre .1 .0) _ _ (c .before .before .before .loop-test .taken) (c .before .before .place-of .ensures) .inside
+    let s = c .before .before .before .before .before .before .before .before .before in
+    rule-here (s .args .file .now) (s .args .offsets .now) (s .args .counts) (s .pre .0) (s .pre .1 .0) _ _ (c .before .before .before .loop-test .taken) (c .before .before .place-in .ensures) .inside
 
 enter-rule-requires : tie.Need-enter-rule-requires Inv-loop μ-loop
 enter-rule-requires c κs =
-    let s = c .before .before .before .before .before .before .before .before in
-    let h = rule-here (s .args .file .now) (s .args .offsets .now) (s .args .counts) (s .pre .0) (s .pre .1 .0) _ _ (c .before .before .before .before .loop-test .taken) (c .before .before .before .place-of .ensures) in
+    let s = c .before .before .before .before .before .before .before .before .before .before in
+    let h = rule-here (s .args .file .now) (s .args .offsets .now) (s .args .counts) (s .pre .0) (s .pre .1 .0) _ _ (c .before .before .before .before .loop-test .taken) (c .before .before .before .place-in .ensures) in
     let l = c .before .before .before .before .before .loop in
     ((omega arith, standing-here h (c .value-at .ensures) .headed, few-here h (c .value-at .ensures)), λ j m. let d = standing-here h (c .value-at .ensures) .declared j m in omega (arith, d, l .inv .2, s .pre .1 .1 .0))
 
@@ -54,7 +51,7 @@ loop-less c = search needs
 
 loop-again : tie.Need-loop-again Inv-loop μ-loop
 loop-again c =
-    let s = c .before .before .before .before .before .before .before .before .before .before .before in
+    let s = c .before .before .before .before .before .before .before .before .before .before .before .before .before in
     let l = c .before .before .before .before .before .before .before .before .loop in
     let h = c .before .before .before .before .before .before .before .loop-test .taken in (
       omega arith,
@@ -62,7 +59,8 @@ loop-again c =
       c .before .before .enter-rule .ensures .0 ∙ l .inv .2,
       λ P x.
           let i : l .i < length (P .rules) = omega (arith, counts-of (s .pre .0) x .rules-are) in
-          readers-more P (l .i) _ (s .args .masks .now) _ _ x i (c .before .before .before .before .before .before .place-of .ensures ∙ s .pre .1 .0 P x (l .i) i) (c .before .before .before .value-at .ensures) (c .before .before .enter-rule .ensures .1) (l .inv .3 P x),
+          readers-more P (l .i) _ _ (s .args .masks .now) _ _ x i (c .before .before .before .before .before .before .place-in .ensures ∙ s .pre .1 .0 P x (l .i) i)
+          (c .before .before .before .before .before .mask-in .ensures) (c .before .before .before .value-at .ensures) (c .before .before .enter-rule .ensures .1) (l .inv .3 P x),
     )
 
 same-length : tie.Need-same-length Inv-loop μ-loop
@@ -70,7 +68,7 @@ same-length c = search needs
 
 returns : tie.Need-returns Inv-loop μ-loop
 returns c = let l = c .before .loop in
-    let s = c .before .before .before .before in
+    let s = c .before .before .before .before .before .before in
     (l .inv .2, λ P x. readers-all P (s .args .masks .now) _ (omega (arith, counts-of (s .pre .0) x .rules-are)) (l .inv .3 P x))
 
 pub fill-readers-spec : {M : Type 1} → statement M
@@ -80,9 +78,8 @@ fill-readers-spec =
     Inv-loop
     μ-loop
     loop-holds
-    place-of-requires
-    mul-mask
-    element-copy-out-mask
+    place-in-requires
+    mask-in-requires
     value-at-requires
     enter-rule-requires
     add-i

@@ -1,16 +1,14 @@
 -- One variable after the other, on both sides.
 use Prim.Native.Nat.{_-_, _≤_}
-use mathlib.Core.Path.{_≡_, ap, _∙_}
-use mathlib.Core.Bool.{true, false}
+use mathlib.Core.Path.{_≡_}
 use native.Mathlib.Omega.{arith}
 use borrow.Author.Needs.{needs}
 use mir.Syntax.{w64}
 use mir.Val.{toZ, ofZ}
 use lib.IntN.{pos}
-use lib.ListN.{length, getD, set, length-set}
-use Rattle.format.specs.Limits.{maxVariables}
+use lib.ListN.{length, getD}
 use Rattle.program.specs.Readings.{valued}
-use Rattle.sided.specs.Sides.{sidesLength, sidePlace}
+use Rattle.sided.specs.Sides.{sidesLength}
 use Rattle.ascent.specs.Level.{LevelSides}
 use Rattle.ascent.proofs.LevelLaws.{level-none, level-next, level-done}
 use Rattle.ascent.proofs.level.level_sides.Statement.{statement}

@@ -6,7 +6,7 @@ use lib.Signed.{leZ}
 use mir.Syntax.{w64}
 use mir.Val.{toZ, ofZ}
 use borrow.Author.Needs.{needs}
-use Rattle.ascent.specs.Looking.{sizeSide}
+use Rattle.sided.specs.Reached.{sizeSide}
 use Rattle.ascent.proofs.looking.size_side.Statement.{statement}
 use Rattle.ascent.proofs.looking.size_side.Tie as tie
 

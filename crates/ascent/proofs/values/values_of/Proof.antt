@@ -10,7 +10,7 @@ use Rattle.format.specs.Limits.{maxVariables}
 use Rattle.program.specs.Program.{variablesAt}
 use Rattle.reduct.specs.Filling.{Filled}
 use Rattle.reduct.proofs.Fills.{filled-none, filled-more, filled-done}
-use Rattle.ascent.specs.Ascending.{risen}
+use Rattle.sided.specs.Reached.{risen}
 use Rattle.ascent.proofs.ValueLaws.{risen-at}
 use Rattle.ascent.proofs.values.values_of.Statement.{statement}
 use Rattle.ascent.proofs.values.values_of.Tie as tie
@@ -30,8 +30,8 @@ cast-variable c = search needs
 variable-requires : tie.Need-variable-requires Inv-loop μ-loop
 variable-requires c κs = search needs
 
-is-from-above-requires : tie.Need-is-from-above-requires Inv-loop μ-loop
-is-from-above-requires c κs = search needs
+own-side-requires : tie.Need-own-side-requires Inv-loop μ-loop
+own-side-requires c κs = search needs
 
 cast-read : tie.Need-cast-read Inv-loop μ-loop
 cast-read c = search needs
@@ -59,7 +59,7 @@ loop-again c =
     let x = c .before .before .variable .ensures (a .n) (omega arith) in (
       omega arith,
       length-set (l .model) (l .v) (toZ w64 (ofZ w64 (c .read .result))) ∙ l .inv .1,
-      filled-more _ (omega arith) (l .inv .2) (r ∙ risen-at (variablesAt (a .file .now) (a .n)) (a .sides .now) (l .v) x (c .before .is-from-above .ensures) (c .read .ensures)),
+      filled-more _ (omega arith) (l .inv .2) (r ∙ risen-at (variablesAt (a .file .now) (a .n)) (a .sides .now) (l .v) x (c .before .own-side .ensures) (c .read .ensures)),
     )
 
 returns : tie.Need-returns Inv-loop μ-loop
@@ -74,7 +74,7 @@ values-of-spec =
     loop-holds
     cast-variable
     variable-requires
-    is-from-above-requires
+    own-side-requires
     cast-read
     read-requires
     mul-value

@@ -1,56 +1,42 @@
--- Small tables reach to the last of few rules, large ones to the last of the most.
+-- The ends are set over zeros, and the run ends in the bounds, which are written.
 use borrow.Author.Needs.{needs}
+use mathlib.Core.Path.{refl}
+use Rattle.format.specs.Limits.{maxVariables}
 use Rattle.reader.proofs.Published.{limited}
+use Rattle.reduct.proofs.Fills.{zeros}
+use Rattle.bounding.proofs.CallLaws.{others-whole, stops-whole, zero-past, ends-bounds, bounds-small, bounds-written}
 use Rattle.bounding.proofs.call.bound.Statement.{statement}
 use Rattle.bounding.proofs.call.bound.Tie as tie
 
-slice-aggregate-bound-in : tie.Need-slice-aggregate-bound-in
-slice-aggregate-bound-in c = search needs
+set-ends-requires : tie.Need-set-ends-requires
+set-ends-requires c κs = let l = limited (c .before .before .before .before .pre .0) in ((l .inside, l .few-variables), (refl, refl))
 
-slice-aggregate-bound-in-2 : tie.Need-slice-aggregate-bound-in-2
-slice-aggregate-bound-in-2 c = search needs
+run-requires : tie.Need-run-requires
+run-requires c κs =
+    let b = c .before .before .before .before .before .before .before .before in
+    let e = c .before .before .before .set-ends .ensures .1 in
+    let z = zeros maxVariables in
+    let o = others-whole (b .pre .0) (b .pre .1 .0) z (e .0) in
+    let s = stops-whole (b .pre .0) (b .pre .1 .0) z (e .1) in
+    (b .pre .0, (b .pre .1 .0, (o, (s, (zero-past (b .pre .0) (b .pre .1 .0) _ z, refl)))))
 
-bound-in-requires : tie.Need-bound-in-requires
-bound-in-requires c κs =
-    let p = c .before .before .before .before .before .before .before .pre in
-    let t = c .before .before .before .if1 .taken in
-    (p .0, ((t, t), (p .1 .0, p .1 .1)))
+write-values-requires : tie.Need-write-values-requires
+write-values-requires c κs =
+    let b = c .before .before .before .before .before .before .before .before .before .before .before in
+    let r = c .before .before .run in
+    let w = ends-bounds (b .pre .0) (b .pre .1 .0) _ (r .result) (r .ensures .1) in
+    ((limited (b .pre .0) .few-variables, b .pre .1 .1), bounds-small (b .pre .0) (b .pre .1 .0) _ w)
 
 same-length : tie.Need-same-length
 same-length c = search needs
 
 returns : tie.Need-returns
-returns c = search needs
-
-slice-aggregate-bound-in-3 : tie.Need-slice-aggregate-bound-in-3
-slice-aggregate-bound-in-3 c = search needs
-
-slice-aggregate-bound-in-4 : tie.Need-slice-aggregate-bound-in-4
-slice-aggregate-bound-in-4 c = search needs
-
-bound-in-requires-2 : tie.Need-bound-in-requires-2
-bound-in-requires-2 c κs =
-    let p = c .before .before .before .before .before .before .before .pre in
-    let t = limited (p .0) .few-rules in
-    (p .0, ((t, t), (p .1 .0, p .1 .1)))
-
-same-length-2 : tie.Need-same-length-2
-same-length-2 c = search needs
-
-returns-2 : tie.Need-returns-2
-returns-2 c = search needs
+returns c =
+    let b = c .before .before .before .before .before .before .before .before .before .before .before .before .before .before in
+    let r = c .before .before .before .before .before .run in
+    let w = ends-bounds (b .pre .0) (b .pre .1 .0) _ (r .result) (r .ensures .1) in
+    bounds-written (b .pre .0) _ w _ _ (c .before .before .write-values .ensures)
 
 pub bound-spec : {M : Type 1} → statement M
 bound-spec =
-    tie.close
-    (tie.spec
-    slice-aggregate-bound-in
-    slice-aggregate-bound-in-2
-    bound-in-requires
-    same-length
-    returns
-    slice-aggregate-bound-in-3
-    slice-aggregate-bound-in-4
-    bound-in-requires-2
-    same-length-2
-    returns-2)
+    tie.close (tie.spec set-ends-requires run-requires write-values-requires same-length returns)

@@ -11,7 +11,7 @@ mul-if1 : tie.Need-mul-if1
 mul-if1 c = let l = limited (c .before .before .before .before .pre) in omega (arith, l .few-variables)
 
 returns : tie.Need-returns
-returns c = let b = c .before .before .before .before .before in turned-down (wrong-length (b .args .file .now) (b .args .counts) (b .pre) (b .args .ranges .now) (b .args .buffer .now) (c .if1 .taken))
+returns c = let b = c .before .before .before .before .before in turned-down (wrong-length (b .pre) (b .args .ranges .now) (b .args .buffer .now) (c .if1 .taken))
 
 bound-ranges-requires : tie.Need-bound-ranges-requires
 bound-ranges-requires c κs = search needs

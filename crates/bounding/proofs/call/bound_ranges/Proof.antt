@@ -28,8 +28,9 @@ returns c =
     let highs = l .last .1 .1 .0 in
     let p = lows-are (a .ranges .now) (a .counts .variables) (b .pre .1) lows (zeros maxVariables) (l .ensures .1 .0) in
     let q = highs-are (a .ranges .now) (a .counts .variables) (b .pre .1) highs (zeros maxVariables) (l .ensures .1 .1) in
-    let f = fit-as (variablesAt (a .file .now) (a .counts .variables)) (a .counts .variables) false p q (not-true (c .before .all-fit .result) (c .if1 .taken)) (c .before .all-fit .ensures) in
-    turned-down (wrong-ranges (a .file .now) (a .counts) (b .pre .0) (a .ranges .now) (a .buffer .now) (b .pre .1) f)
+    let t = c .before .all-fit in
+    let f = fit-as (variablesAt (a .file .now) (a .counts .variables)) (a .counts .variables) false p q (not-true (t .result) (c .if1 .taken)) (t .ensures) in
+    turned-down (wrong-ranges (b .pre .0) (a .ranges .now) (a .buffer .now) (b .pre .1) f)
 
 mul-if2 : tie.Need-mul-if2
 mul-if2 c = search needs
@@ -43,8 +44,9 @@ returns-2 c =
     let highs = l .last .1 .1 .0 in
     let p = lows-are (a .ranges .now) (a .counts .variables) (b .pre .1) lows (zeros maxVariables) (l .ensures .1 .0) in
     let q = highs-are (a .ranges .now) (a .counts .variables) (b .pre .1) highs (zeros maxVariables) (l .ensures .1 .1) in
-    let f = fit-as (variablesAt (a .file .now) (a .counts .variables)) (a .counts .variables) true p q (not-false (c .before .before .all-fit .result) (c .before .if1 .left)) (c .before .before .all-fit .ensures) in
-    turned-down (wrong-buffer (a .file .now) (a .counts) (b .pre .0) (a .ranges .now) (a .buffer .now) (b .pre .1) f (c .if2 .taken))
+    let t = c .before .before .all-fit in
+    let f = fit-as (variablesAt (a .file .now) (a .counts .variables)) (a .counts .variables) true p q (not-false (t .result) (c .before .if1 .left)) (t .ensures) in
+    turned-down (wrong-buffer (b .pre .0) (a .ranges .now) (a .buffer .now) (b .pre .1) f (c .if2 .taken))
 
 bound-requires : tie.Need-bound-requires
 bound-requires c κs =
@@ -55,8 +57,9 @@ bound-requires c κs =
     let highs = l .last .1 .1 .0 in
     let p = lows-are (a .ranges .now) (a .counts .variables) (b .pre .1) lows (zeros maxVariables) (l .ensures .1 .0) in
     let q = highs-are (a .ranges .now) (a .counts .variables) (b .pre .1) highs (zeros maxVariables) (l .ensures .1 .1) in
-    let f = fit-as (variablesAt (a .file .now) (a .counts .variables)) (a .counts .variables) true p q (not-false (c .before .before .before .before .before .all-fit .result) (c .before .before .before .before .if1 .left)) (c .before .before .before .before .before .all-fit .ensures) in
-    (b .pre .0, (fits-lists p q (fits-file (a .file .now) (a .counts) (b .pre .0) (a .ranges .now) (a .buffer .now) (b .pre .1) f), omega arith))
+    let t = c .before .before .before .before .before .all-fit in
+    let f = fit-as (variablesAt (a .file .now) (a .counts .variables)) (a .counts .variables) true p q (not-false (t .result) (c .before .before .before .before .if1 .left)) (t .ensures) in
+    (b .pre .0, (fits-lists p q (fits-file (b .pre .0) (a .ranges .now) (a .buffer .now) (b .pre .1) f), omega arith))
 
 same-length : tie.Need-same-length
 same-length c = search needs
@@ -70,8 +73,10 @@ returns-3 c =
     let highs = l .last .1 .1 .0 in
     let p = lows-are (a .ranges .now) (a .counts .variables) (b .pre .1) lows (zeros maxVariables) (l .ensures .1 .0) in
     let q = highs-are (a .ranges .now) (a .counts .variables) (b .pre .1) highs (zeros maxVariables) (l .ensures .1 .1) in
-    let f = fit-as (variablesAt (a .file .now) (a .counts .variables)) (a .counts .variables) true p q (not-false (c .before .before .before .before .before .before .before .before .all-fit .result) (c .before .before .before .before .before .before .before .if1 .left)) (c .before .before .before .before .before .before .before .before .all-fit .ensures) in
-    right-call (a .file .now) (a .counts) (b .pre .0) (a .ranges .now) (a .buffer .now) (b .pre .1) f (omega arith) _ (written-lists p q (c .before .before .bound .ensures))
+    let t = c .before .before .before .before .before .before .before .before .all-fit in
+    let u = c .before .before .before .before .before .before .before .if1 .left in
+    let f = fit-as (variablesAt (a .file .now) (a .counts .variables)) (a .counts .variables) true p q (not-false (t .result) u) (t .ensures) in
+    right-call (b .pre .0) (a .ranges .now) (a .buffer .now) (b .pre .1) f (omega arith) _ (written-lists p q (c .before .before .bound .ensures))
 
 pub bound-ranges-spec : {M : Type 1} → statement M
 bound-ranges-spec =

@@ -19,11 +19,13 @@ enum-known-counts c = search needs
 
 bound-file-requires : tie.Need-bound-file-requires
 bound-file-requires c κs =
-    subst (λ (q : Reading). Reads (c .before .before .before .before .before .before .before .before .args .file .now) (answerOf q)) (c .before .before .counts .given .1) (c .before .before .before .before .read .ensures)
+    let s = c .before .before .before .before .before .before .before .before .args .file .now in
+    subst (λ (q : Reading). Reads s (answerOf q)) (c .before .before .counts .given .1) (c .before .before .before .before .read .ensures)
 
 returns : tie.Need-returns
 returns c =
-    turned-down (bad-file (subst (λ (q : Reading). Reads (c .before .before .before .before .before .before .before .args .file .now) (answerOf q)) (c .before .why .given .1) (c .before .before .before .read .ensures)))
+    let s = c .before .before .before .before .before .before .before .args .file .now in
+    turned-down (bad-file (subst (λ (q : Reading). Reads s (answerOf q)) (c .before .why .given .1) (c .before .before .before .read .ensures)))
 
 same-length : tie.Need-same-length
 same-length c = search needs

@@ -11,7 +11,7 @@ use Rattle.checker.proofs.call.check_constraints.Tie as tie
 first-unmet-constraint-requires : tie.Need-first-unmet-constraint-requires
 first-unmet-constraint-requires c κs =
     let b = c .before .before in
-    (b .pre .0, (b .pre .1 .0, small-in (b .args .file .now) (b .args .counts) (b .pre .0) (b .args .values .now) (b .pre .1 .1 .0)))
+    (b .pre .0, (b .pre .1 .1 .0, small-in (b .args .file .now) (b .args .counts) (b .pre .0) (b .args .values .now) (b .pre .1 .1 .1 .0)))
 
 enum-known-unmet : tie.Need-enum-known-unmet
 enum-known-unmet c = search needs
@@ -21,16 +21,19 @@ enum-told c = search needs
 
 compare-requires : tie.Need-compare-requires
 compare-requires c κs =
-    let b = c .before .before .before .before .before .before in
-    let u = c .before .before .before .first-unmet-constraint in (
+    let b = c .before .before .before .before .before .before .before in
+    let u = c .before .before .before .before .first-unmet-constraint in (
       b .pre .0,
       (
-        λ P x. record {
-          ranges = b .pre .1 .1 .0 P x;
-          rules = b .pre .1 .1 .1 .0 P x;
-          constraints = unmet-none (ConstraintMet P (valued (b .args .values .now))) (u .ensures P x) (c .before .enum-told .given .1);
-        },
-        b .pre .1 .1 .1 .1,
+        b .pre .1 .0,
+        (
+          λ P x. record {
+            ranges = b .pre .1 .1 .1 .0 P x;
+            rules = b .pre .1 .1 .1 .1 .0 P x;
+            constraints = unmet-none (ConstraintMet P (valued (b .args .values .now))) (u .ensures P x) (c .before .before .enum-told .given .1);
+          },
+          b .pre .1 .1 .1 .1 .1,
+        ),
       ),
     )
 
@@ -38,7 +41,7 @@ returns : tie.Need-returns
 returns c =
     let b = c .before .before .before .before .before .before in
     let u = c .before .before .before .first-unmet-constraint in
-    λ P x. constraint-unmet (b .pre .1 .1 .0 P x) (b .pre .1 .1 .1 .0 P x)
+    λ P x. constraint-unmet (b .pre .1 .1 .1 .0 P x) (b .pre .1 .1 .1 .1 .0 P x)
     (unmet-at (ConstraintMet P (valued (b .args .values .now))) (u .ensures P x) (c .before .unmet .given .1))
 
 same-length : tie.Need-same-length

@@ -11,20 +11,20 @@ use Rattle.comparison.proofs.comparing.compare.Tie as tie
 
 run-requires : tie.Need-run-requires
 run-requires c κs =
-    let b = c .before .before .before in
+    let b = c .before .before .before .before in
     let p = b .pre in (
       p .0,
       (
-        λ P x. p .1 .0 P x .ranges,
+        λ P x. p .1 .1 .0 P x .ranges,
         (
-          λ t P x. p .1 .0 P x .rules,
-          (starts-past (b .args .file .now) (b .args .counts) (p .0) (b .args .assigned .now) (p .1 .0) _ (zeros maxVariables), refl),
+          λ t P x. p .1 .1 .0 P x .rules,
+          (p .1 .0, (starts-past (b .args .file .now) (b .args .counts) (p .0) (b .args .assigned .now) (p .1 .1 .0) _ (zeros maxVariables), refl)),
         ),
       ),
     )
 
 short-set-requires : tie.Need-short-set-requires
-short-set-requires c κs = let f = limited (c .before .before .before .before .before .pre .0) in (f .inside, f .few-variables)
+short-set-requires c κs = let f = limited (c .before .before .before .before .before .before .pre .0) in (f .inside, f .few-variables)
 
 count-requires : tie.Need-count-requires
 count-requires c κs = search needs
@@ -33,8 +33,8 @@ returns : tie.Need-returns
 returns c =
     let z = c .before .before in
     let run = c .before .before .before .before .run in
-    let b = c .before .before .before .before .before .before .before .before in
-    none-short (b .args .file .now) (b .args .counts) (b .pre .0) (b .args .assigned .now) (b .pre .1 .0) (run .last .1 .1 .1 .1 .0) (run .result) (run .ensures .1)
+    let b = c .before .before .before .before .before .before .before .before .before in
+    none-short (b .args .file .now) (b .args .counts) (b .pre .0) (b .args .assigned .now) (b .pre .1 .1 .0) (run .last .1 .1 .1 .1 .1 .0) (run .result) (run .ensures .1)
     (b .args .report .now) (has (z .short-set .result .words)) (z .short-set .ensures) (sym (c .before .count .ensures) ∙ c .if1 .taken)
 
 asked-requires : tie.Need-asked-requires
@@ -44,10 +44,10 @@ in-parts-requires : tie.Need-in-parts-requires
 in-parts-requires c κs =
     let z = c .before .before .before in
     let run = c .before .before .before .before .before .run in
-    let b = c .before .before .before .before .before .before .before .before .before in
+    let b = c .before .before .before .before .before .before .before .before .before .before in
     let f = limited (b .pre .0) in (
       (f .inside, f .few-variables),
-      short-few (b .args .file .now) (b .args .counts) (b .pre .0) (b .args .assigned .now) (b .pre .1 .0) (run .last .1 .1 .1 .1 .0) (run .result) (run .ensures .1)
+      short-few (b .args .file .now) (b .args .counts) (b .pre .0) (b .args .assigned .now) (b .pre .1 .1 .0) (run .last .1 .1 .1 .1 .1 .0) (run .result) (run .ensures .1)
           (b .args .report .now) (has (z .short-set .result .words)) (z .short-set .ensures),
     )
 
@@ -57,10 +57,10 @@ show-requires c κs =
     let q = c .before .before .before .asked in
     let z = c .before .before .before .before .before .before in
     let run = c .before .before .before .before .before .before .before .before .run in
-    let b = c .before .before .before .before .before .before .before .before .before .before .before .before in (
-      shown-room (b .args .file .now) (b .args .counts) (b .pre .0) (b .args .assigned .now) (b .pre .1 .0) (run .last .1 .1 .1 .1 .0) (run .result) (run .ensures .1)
-          (b .args .report .now) (has (z .short-set .result .words)) (z .short-set .ensures) (t .result) (t .ensures) (has (q .result .most .words)) (has (q .result .least .words)) (q .ensures .0) (q .ensures .1) (b .pre .1 .1),
-      shown-small (b .args .file .now) (b .args .counts) (b .pre .0) (b .args .assigned .now) (b .pre .1 .0) (run .last .1 .1 .1 .1 .0) (run .result) (run .ensures .1)
+    let b = c .before .before .before .before .before .before .before .before .before .before .before .before .before in (
+      shown-room (b .args .file .now) (b .args .counts) (b .pre .0) (b .args .assigned .now) (b .pre .1 .1 .0) (run .last .1 .1 .1 .1 .1 .0) (run .result) (run .ensures .1)
+          (b .args .report .now) (has (z .short-set .result .words)) (z .short-set .ensures) (t .result) (t .ensures) (has (q .result .most .words)) (has (q .result .least .words)) (q .ensures .0) (q .ensures .1) (b .pre .1 .1 .1),
+      shown-small (b .args .file .now) (b .args .counts) (b .pre .0) (b .args .assigned .now) (b .pre .1 .1 .0) (run .last .1 .1 .1 .1 .1 .0) (run .result) (run .ensures .1)
           (b .args .report .now) (has (z .short-set .result .words)) (z .short-set .ensures) (t .result) (t .ensures) (has (q .result .most .words)) (has (q .result .least .words)) (q .ensures .0) (q .ensures .1),
     )
 
@@ -74,8 +74,8 @@ returns-2 c =
     let i = c .before .before .before .before .before .before .before in
     let z = c .before .before .before .before .before .before .before .before .before in
     let run = c .before .before .before .before .before .before .before .before .before .before .before .run in
-    let b = c .before .before .before .before .before .before .before .before .before .before .before .before .before .before .before in
-    some-short (b .args .file .now) (b .args .counts) (b .pre .0) (b .args .assigned .now) (b .pre .1 .0) (run .last .1 .1 .1 .1 .0) (run .result) (run .ensures .1)
+    let b = c .before .before .before .before .before .before .before .before .before .before .before .before .before .before .before .before in
+    some-short (b .args .file .now) (b .args .counts) (b .pre .0) (b .args .assigned .now) (b .pre .1 .1 .0) (run .last .1 .1 .1 .1 .1 .0) (run .result) (run .ensures .1)
     (b .args .report .now) (has (z .short-set .result .words)) (z .short-set .ensures) (t .result) (t .ensures) _ _
     (q .ensures .0) (q .ensures .1) (λ x. i .if1 .left (i .before .count .ensures ∙ x)) _ _ (c .before .before .show .ensures)
 

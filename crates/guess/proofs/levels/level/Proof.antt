@@ -10,7 +10,7 @@ use Rattle.guess.proofs.levels.level_all.Reads as level-all-reads
 use Rattle.guess.proofs.levels.part_all.Reads as part-all-reads
 
 part-all-requires : tie.Need-part-all-requires
-part-all-requires c κs = (c .before .before .before .before .pre .0 .0, (refl, values-none 256, refl, values-none 256))
+part-all-requires c κs = (c .before .before .before .before .before .before .pre .0 .0, (refl, values-none 256, refl, values-none 256))
 
 highest-level-requires : tie.Need-highest-level-requires
 highest-level-requires c κs = search needs

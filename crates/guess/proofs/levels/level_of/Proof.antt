@@ -5,7 +5,6 @@ use Rattle.guess.proofs.levels.level_of.Tie as tie
 use Rattle.guess.proofs.levels.level_of.Reads as reads
 use Rattle.guess.proofs.levels.level_of.Lts as lts
 use Rattle.guess.proofs.levels.level_at.Reads as level-at-reads
-use Rattle.tables.proofs.place_of.Reads as place-of-reads
 
 sub-result : tie.Need-sub-result
 sub-result c = search needs
@@ -13,19 +12,16 @@ sub-result c = search needs
 returns : tie.Need-returns
 returns c = search needs
 
-place-of-requires : tie.Need-place-of-requires
-place-of-requires c κs = search needs
+place-in-requires : tie.Need-place-in-requires
+place-in-requires c κs = search needs
 
-mul-level-at : tie.Need-mul-level-at
-mul-level-at c = search needs
-
-element-copy-out-level-at : tie.Need-element-copy-out-level-at
-element-copy-out-level-at c = search needs
+mask-in-requires : tie.Need-mask-in-requires
+mask-in-requires c κs = search needs
 
 level-at-requires : tie.Need-level-at-requires
 level-at-requires c κs =
-    let s = c .before .before .before .before in
-    (rw (c .before .place-of .ensures) (s .pre .0 .1 (s .args .i) (omega arith)), s .pre .1)
+    let s = c .before .before .before .before .before .before in
+    (rw (c .before .place-in .ensures) (s .pre .0 .1 (s .args .i) (omega arith)), s .pre .1)
 
 returns-2 : tie.Need-returns-2
 returns-2 c = search needs
@@ -36,8 +32,7 @@ level-of-spec =
     (tie.spec
     sub-result
     returns
-    place-of-requires
-    mul-level-at
-    element-copy-out-level-at
+    place-in-requires
+    mask-in-requires
     level-at-requires
     returns-2)

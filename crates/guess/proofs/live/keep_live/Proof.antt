@@ -1,9 +1,7 @@
-use Prim.Native.Nat.{ℕ, _+_, _-_, _*_, _<_, _≤_}
-use mathlib.Core.Path.{_≡_, refl, sym, ap, _∙_}
+use Prim.Native.Nat.{_-_, _≤_}
+use mathlib.Core.Path.{_≡_, refl}
 use native.Mathlib.Omega.{arith}
 use lib.ListN.{length}
-use Rattle.format.specs.Limits.{maxVariables, maxRules}
-use Rattle.words.specs.Bit.{wordCount}
 use Rattle.tables.specs.Tabled.{rowWords}
 use Rattle.program.specs.Evaluable.{Small}
 use Rattle.validity.proofs.ComponentLaws.{values-none}
@@ -15,7 +13,6 @@ use Rattle.guess.proofs.live.keep_live.Lts as lts
 use Rattle.guess.proofs.live.is_live.Reads as is-live-reads
 use Rattle.guess.proofs.live.enter.Reads as enter-reads
 use Rattle.guess.proofs.live.top_all.Reads as top-all-reads
-use Rattle.tables.proofs.place_of.Reads as place-of-reads
 
 abbrev Inv-loop : tie.InvT-loop
 Inv-loop file variables rules offsets masks holding model others live₀ tops i₀ live i = (length live ≡ rowWords) × Small tops × (i ≤ rules)
@@ -24,25 +21,22 @@ abbrev μ-loop : tie.MeasureT-loop
 μ-loop file variables rules offsets masks holding model others live₀ tops i₀ live i = rules - i
 
 top-all-requires : tie.Need-top-all-requires Inv-loop μ-loop
-top-all-requires c κs = (c .before .before .pre .0 .0, refl, values-none 256)
+top-all-requires c κs = (c .before .before .before .before .pre .0 .0, refl, values-none 256)
 
 loop-holds : tie.Need-loop-holds Inv-loop μ-loop
-loop-holds c = (c .before .before .before .pre .1 .1, c .top-all .ensures .1, omega arith)
+loop-holds c = (c .before .before .before .before .before .pre .1 .1, c .top-all .ensures .1, omega arith)
 
-place-of-requires : tie.Need-place-of-requires Inv-loop μ-loop
-place-of-requires c κs = search needs
+place-in-requires : tie.Need-place-in-requires Inv-loop μ-loop
+place-in-requires c κs = search needs
 
-mul-is-live : tie.Need-mul-is-live Inv-loop μ-loop
-mul-is-live c = search needs
-
-element-copy-out-is-live : tie.Need-element-copy-out-is-live Inv-loop μ-loop
-element-copy-out-is-live c = search needs
+mask-in-requires : tie.Need-mask-in-requires Inv-loop μ-loop
+mask-in-requires c κs = search needs
 
 is-live-requires : tie.Need-is-live-requires Inv-loop μ-loop
 is-live-requires c κs =
-    let p = c .before .before .before .before .before .before .before .before .pre in
+    let p = c .before .before .before .before .before .before .before .before .before .before .pre in
     let l = c .before .before .before .before .loop in
-    (rw (c .before .before .place-of .ensures) (p .0 .2 (l .i) (omega arith)), (l .inv .1, p .1 .0))
+    (rw (c .before .before .place-in .ensures) (p .0 .2 (l .i) (omega arith)), (l .inv .1, p .1 .0))
 
 enter-requires : tie.Need-enter-requires Inv-loop μ-loop
 enter-requires c κs = search needs
@@ -67,9 +61,8 @@ keep-live-spec =
     μ-loop
     top-all-requires
     loop-holds
-    place-of-requires
-    mul-is-live
-    element-copy-out-is-live
+    place-in-requires
+    mask-in-requires
     is-live-requires
     enter-requires
     add-i

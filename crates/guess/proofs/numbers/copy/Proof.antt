@@ -11,12 +11,16 @@ use Rattle.guess.proofs.numbers.copy.Tie as tie
 use Rattle.guess.proofs.numbers.copy.Reads as reads
 use Rattle.guess.proofs.numbers.copy.Lts as lts
 use Rattle.guess.proofs.numbers.put.Reads as put-reads
+use Rattle.sequence.proofs.listed.Reads as listed-reads
 
 abbrev Inv-loop : tie.InvT-loop
-Inv-loop values₀ from v₀ values v = (length values ≡ maxVariables) × Small values × (v ≤ maxVariables)
+Inv-loop values₀ from n many v₀ values v = (length values ≡ maxVariables) × Small values × (many ≤ maxVariables) × (v ≤ many)
 
 abbrev μ-loop : tie.MeasureT-loop
-μ-loop values₀ from v₀ values v = maxVariables - v
+μ-loop values₀ from n many v₀ values v = many - v
+
+listed-requires : tie.Need-listed-requires Inv-loop μ-loop
+listed-requires c κs = search needs
 
 loop-holds : tie.Need-loop-holds Inv-loop μ-loop
 loop-holds c = search needs
@@ -48,6 +52,7 @@ copy-spec =
     (tie.spec
     Inv-loop
     μ-loop
+    listed-requires
     loop-holds
     mul-put
     element-copy-out-put

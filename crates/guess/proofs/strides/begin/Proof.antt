@@ -15,10 +15,10 @@ use Rattle.guess.proofs.strides.clear.Reads as clear-reads
 use Rattle.sequence.proofs.walk.get.Reads as get-reads
 
 abbrev Inv-loop : tie.InvT-loop
-Inv-loop heads count strides₀ k₀ strides k = (length strides ≡ maxVariables) × Small strides × (k ≤ count)
+Inv-loop variables heads count strides₀ k₀ strides k = (length strides ≡ maxVariables) × Small strides × (k ≤ count)
 
 abbrev μ-loop : tie.MeasureT-loop
-μ-loop heads count strides₀ k₀ strides k = count - k
+μ-loop variables heads count strides₀ k₀ strides k = count - k
 
 clear-requires : tie.Need-clear-requires Inv-loop μ-loop
 clear-requires c κs = search needs

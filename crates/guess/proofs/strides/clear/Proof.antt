@@ -10,12 +10,16 @@ use Rattle.guess.proofs.strides.clear.Tie as tie
 use Rattle.guess.proofs.strides.clear.Reads as reads
 use Rattle.guess.proofs.strides.clear.Lts as lts
 use Rattle.guess.proofs.numbers.put.Reads as put-reads
+use Rattle.sequence.proofs.listed.Reads as listed-reads
 
 abbrev Inv-loop : tie.InvT-loop
-Inv-loop strides₀ v₀ strides v = (length strides ≡ maxVariables) × Small strides × (v ≤ maxVariables)
+Inv-loop strides₀ n many v₀ strides v = (length strides ≡ maxVariables) × Small strides × (many ≤ maxVariables) × (v ≤ many)
 
 abbrev μ-loop : tie.MeasureT-loop
-μ-loop strides₀ v₀ strides v = maxVariables - v
+μ-loop strides₀ n many v₀ strides v = many - v
+
+listed-requires : tie.Need-listed-requires Inv-loop μ-loop
+listed-requires c κs = search needs
 
 loop-holds : tie.Need-loop-holds Inv-loop μ-loop
 loop-holds c = search needs
@@ -37,4 +41,4 @@ returns c = search needs
 
 pub clear-spec : {M : Type 1} → statement M
 clear-spec =
-    tie.close (tie.spec Inv-loop μ-loop loop-holds put-requires add-v loop-less loop-again returns)
+    tie.close (tie.spec Inv-loop μ-loop listed-requires loop-holds put-requires add-v loop-less loop-again returns)

@@ -17,15 +17,19 @@ use Rattle.guess.proofs.strides.end.Tie as tie
 use Rattle.guess.proofs.strides.end.Reads as reads
 use Rattle.guess.proofs.strides.end.Lts as lts
 use Rattle.guess.proofs.strides.ended.Reads as ended-reads
+use Rattle.sequence.proofs.listed.Reads as listed-reads
 
 abbrev Inv-loop : tie.InvT-loop
-Inv-loop strides₀ kept v₀ strides v = (length strides ≡ maxVariables) × Small strides × (v ≤ maxVariables) × ((u : ℕ) → u < v → pos 1 ≤ℤ valued strides u)
+Inv-loop strides₀ n kept many v₀ strides v = (length strides ≡ maxVariables) × Small strides × ((many ≤ maxVariables) × (v ≤ many)) × ((u : ℕ) → u < v → pos 1 ≤ℤ valued strides u)
 
 abbrev μ-loop : tie.MeasureT-loop
-μ-loop strides₀ kept v₀ strides v = maxVariables - v
+μ-loop strides₀ n kept many v₀ strides v = many - v
+
+listed-requires : tie.Need-listed-requires Inv-loop μ-loop
+listed-requires c κs = search needs
 
 loop-holds : tie.Need-loop-holds Inv-loop μ-loop
-loop-holds c = (c .pre .0, c .pre .1, omega arith, λ u l. let f : ⊥ = omega arith in absurd f)
+loop-holds c = (c .before .pre .0, c .before .pre .1, search needs, λ u l. let f : ⊥ = omega arith in absurd f)
 
 mul-ended : tie.Need-mul-ended Inv-loop μ-loop
 mul-ended c = search needs
@@ -57,7 +61,7 @@ loop-again c =
     (search needs, rw z (set-small (l .strides) _ _ n (l .inv .1) (e .ensures .0)), omega arith, rw z (set-stride (l .strides) (l .v) _ n (e .ensures .1) (l .inv .3)))
 
 returns : tie.Need-returns Inv-loop μ-loop
-returns c = let i = c .before .loop .inv in ((i .0, i .1), λ u l. i .3 u (omega (arith, c .loop-test .left)))
+returns c = let i = c .before .loop .inv in ((i .0, i .1), λ u l m. i .3 u (omega (arith, c .loop-test .left, c .before .before .listed .ensures .1 u l m)))
 
 pub end-spec : {M : Type 1} → statement M
 end-spec =
@@ -65,6 +69,7 @@ end-spec =
     (tie.spec
     Inv-loop
     μ-loop
+    listed-requires
     loop-holds
     mul-ended
     element-copy-out-ended

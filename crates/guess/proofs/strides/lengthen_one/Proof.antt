@@ -6,22 +6,20 @@ use Rattle.guess.proofs.strides.lengthen_one.Reads as reads
 use Rattle.guess.proofs.strides.lengthen_one.Lts as lts
 use Rattle.guess.proofs.strides.lengthen_to.Reads as lengthen-to-reads
 use Rattle.guess.proofs.strides.stride_at.Reads as stride-at-reads
-use Rattle.tables.proofs.place_of.Reads as place-of-reads
 
 returns : tie.Need-returns
 returns c = search needs
 
-place-of-requires : tie.Need-place-of-requires
-place-of-requires c κs = search needs
+place-in-requires : tie.Need-place-in-requires
+place-in-requires c κs = search needs
 
-mul-stride-at : tie.Need-mul-stride-at
-mul-stride-at c = search needs
-
-element-copy-out-stride-at : tie.Need-element-copy-out-stride-at
-element-copy-out-stride-at c = search needs
+mask-in-requires : tie.Need-mask-in-requires
+mask-in-requires c κs = search needs
 
 stride-at-requires : tie.Need-stride-at-requires
-stride-at-requires c κs = rw (c .before .before .place-of .ensures) (c .before .before .before .before .before .pre .0 .1 (c .before .before .before .before .before .args .i) (omega arith))
+stride-at-requires c κs =
+    let s = c .before .before .before .before .before .before .before in
+    rw (c .before .before .place-in .ensures) (s .pre .0 .1 (s .args .i) (omega arith))
 
 lengthen-to-requires : tie.Need-lengthen-to-requires
 lengthen-to-requires c κs = search needs
@@ -34,9 +32,8 @@ lengthen-one-spec =
     tie.close
     (tie.spec
     returns
-    place-of-requires
-    mul-stride-at
-    element-copy-out-stride-at
+    place-in-requires
+    mask-in-requires
     stride-at-requires
     lengthen-to-requires
     returns-2)

@@ -10,12 +10,16 @@ use Rattle.guess.proofs.strides.longest.Tie as tie
 use Rattle.guess.proofs.strides.longest.Reads as reads
 use Rattle.guess.proofs.strides.longest.Lts as lts
 use Rattle.bodies.proofs.numbers.extreme.Reads as extreme-reads
+use Rattle.sequence.proofs.listed.Reads as listed-reads
 
 abbrev Inv-loop : tie.InvT-loop
-Inv-loop strides most₀ v₀ most v = v ≤ maxVariables
+Inv-loop strides n many most₀ v₀ most v = (many ≤ maxVariables) × (v ≤ many)
 
 abbrev μ-loop : tie.MeasureT-loop
-μ-loop strides most₀ v₀ most v = maxVariables - v
+μ-loop strides n many most₀ v₀ most v = many - v
+
+listed-requires : tie.Need-listed-requires Inv-loop μ-loop
+listed-requires c κs = search needs
 
 loop-holds : tie.Need-loop-holds Inv-loop μ-loop
 loop-holds c = search needs
@@ -47,6 +51,7 @@ longest-spec =
     (tie.spec
     Inv-loop
     μ-loop
+    listed-requires
     loop-holds
     mul-extreme
     element-copy-out-extreme

@@ -9,19 +9,16 @@ use Rattle.guess.proofs.targets.lower_at.Reads as lower-at-reads
 returns : tie.Need-returns
 returns c = search needs
 
-place-of-requires : tie.Need-place-of-requires
-place-of-requires c κs = search needs
+place-in-requires : tie.Need-place-in-requires
+place-in-requires c κs = search needs
 
-mul-lower-at : tie.Need-mul-lower-at
-mul-lower-at c = search needs
-
-element-copy-out-lower-at : tie.Need-element-copy-out-lower-at
-element-copy-out-lower-at c = search needs
+mask-in-requires : tie.Need-mask-in-requires
+mask-in-requires c κs = search needs
 
 lower-at-requires : tie.Need-lower-at-requires
 lower-at-requires c κs =
-    let p = c .before .before .before .before .before .pre in
-    (rw (c .before .before .place-of .ensures) (p .0 .1 (c .before .before .before .before .before .args .i) (omega arith)), (p .1 .0, p .1 .1))
+    let s = c .before .before .before .before .before .before .before in
+    (rw (c .before .before .place-in .ensures) (s .pre .0 .1 (s .args .i) (omega arith)), (s .pre .1 .0, s .pre .1 .1))
 
 returns-2 : tie.Need-returns-2
 returns-2 c = search needs
@@ -31,8 +28,7 @@ lower-rule-spec =
     tie.close
     (tie.spec
     returns
-    place-of-requires
-    mul-lower-at
-    element-copy-out-lower-at
+    place-in-requires
+    mask-in-requires
     lower-at-requires
     returns-2)

@@ -16,22 +16,22 @@ copy-requires c κs = search needs
 
 highest-requires : tie.Need-highest-requires
 highest-requires c κs =
-    let p = c .before .before .before .before .before .before .pre in
+    let p = c .before .before .before .before .before .before .before .before .pre in
     (some-small (p .1 .0) .0, c .before .before .copy .ensures .1)
 
 returns : tie.Need-returns
 returns c =
-    let p = c .before .before .before .before .before .before .before .before .pre in
+    let p = c .before .before .before .before .before .before .before .before .before .before .pre in
     ((p .1 .1 .0 .0, p .1 .1 .0 .1), (c .before .before .before .before .copy .ensures, kept-still))
 
 draw-in-requires : tie.Need-draw-in-requires
 draw-in-requires c κs =
-    let p = c .before .before .before .before .before .before .before .before .before .before .pre in
+    let p = c .before .before .before .before .before .before .before .before .before .before .before .before .pre in
     ((limited (p .0) .inside, some-small (p .1 .0) .0), c .before .before .before .before .before .before .copy .ensures)
 
 leap-to-requires : tie.Need-leap-to-requires
 leap-to-requires c κs =
-    let p = c .before .before .before .before .before .before .before .before .before .before .before .before .before .before .pre in
+    let p = c .before .before .before .before .before .before .before .before .before .before .before .before .before .before .before .before .pre in
     (p .0, (p .1 .0, (p .1 .1 .0, c .before .before .before .draw-in .ensures)))
 
 returns-2 : tie.Need-returns-2

@@ -24,12 +24,12 @@ abbrev μ-loop : tie.MeasureT-loop
 
 loop-holds : tie.Need-loop-holds Inv-loop μ-loop
 loop-holds c =
-    let p = c .before .before .pre in
+    let p = c .before .before .before .before .pre in
     (kept-still, p .1 .1 .0 .0, p .1 .1 .0 .1, p .1 .1 .1 .0, p .1 .1 .1 .1)
 
 leap-by-requires : tie.Need-leap-by-requires Inv-loop μ-loop
 leap-by-requires c κs =
-    let p = c .before .before .before .before .before .before .before .pre in
+    let p = c .before .before .before .before .before .before .before .before .before .pre in
     let i = c .before .before .before .before .loop .inv in
     (p .0, (kept-some (i .0) (p .1 .0), ((i .1, i .2, p .1 .1 .0 .2), (i .3, i .4))))
 

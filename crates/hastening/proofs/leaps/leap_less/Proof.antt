@@ -18,13 +18,13 @@ copy-requires c κs = (refl, values-none 256)
 
 level-requires : tie.Need-level-requires
 level-requires c κs =
-    let p = c .before .before .before .before .before .before .before .pre in
+    let p = c .before .before .before .before .before .before .before .before .before .pre in
     let t = some-stand (p .1 .0) _ (p .0) in
     ((limited (p .0) .inside, t .0, t .1, p .1 .1 .0 .2), (some-small (p .1 .0) .1, p .1 .1 .1))
 
 leap-to-requires : tie.Need-leap-to-requires
 leap-to-requires c κs =
-    let p = c .before .before .before .before .before .before .before .before .before .before .before .pre in
+    let p = c .before .before .before .before .before .before .before .before .before .before .before .before .before .pre in
     (p .0, (p .1 .0, (p .1 .1 .0, c .before .before .before .level .ensures)))
 
 returns : tie.Need-returns
@@ -32,7 +32,7 @@ returns c = search needs
 
 leap-by-doubles-requires : tie.Need-leap-by-doubles-requires
 leap-by-doubles-requires c κs =
-    let p = c .before .before .before .before .before .before .before .before .before .before .before .before .before .before .before .before .before .pre in
+    let p = c .before .before .before .before .before .before .before .before .before .before .before .before .before .before .before .before .before .before .before .pre in
     let l = c .before .before .before .before .before .leap-to .ensures in
     (p .0, (kept-some (l .1 .1) (p .1 .0), ((l .0 .0, l .0 .1, p .1 .1 .0 .2), l .1 .0)))
 

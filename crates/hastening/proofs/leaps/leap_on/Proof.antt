@@ -13,12 +13,12 @@ use Rattle.hastening.proofs.leaps.leap_to.Reads as leap-to-reads
 
 open-requires : tie.Need-open-requires
 open-requires c κs =
-    let p = c .before .before .before .before .pre in
+    let p = c .before .before .before .before .before .before .pre in
     (limited (p .0) .inside, p .1 .1 .1 .0, p .1 .1 .1 .1)
 
 leap-to-requires : tie.Need-leap-to-requires
 leap-to-requires c κs =
-    let p = c .before .before .before .before .before .before .before .before .pre in
+    let p = c .before .before .before .before .before .before .before .before .before .before .pre in
     (p .0, (p .1 .0, (p .1 .1 .0, c .before .before .before .«open» .ensures)))
 
 returns : tie.Need-returns
@@ -26,7 +26,7 @@ returns c = search needs
 
 highest-requires : tie.Need-highest-requires
 highest-requires c κs =
-    let p = c .before .before .before .before .before .before .before .before .before .before .before .before .pre in
+    let p = c .before .before .before .before .before .before .before .before .before .before .before .before .before .before .pre in
     let l = c .before .before .before .leap-to .ensures in
     (some-small (kept-some (l .1 .1) (p .1 .0)) .0, l .1 .0 .1)
 
@@ -35,7 +35,7 @@ returns-2 c = search needs
 
 leap-less-requires : tie.Need-leap-less-requires
 leap-less-requires c κs =
-    let p = c .before .before .before .before .before .before .before .before .before .before .before .before .before .before .before .before .before .pre in
+    let p = c .before .before .before .before .before .before .before .before .before .before .before .before .before .before .before .before .before .before .before .pre in
     let l = c .before .before .before .before .before .before .before .before .leap-to .ensures in
     (p .0, (kept-some (l .1 .1) (p .1 .0), ((l .0 .0, l .0 .1, p .1 .1 .0 .2), l .1 .0)))
 

@@ -1,6 +1,5 @@
 -- The line of the risen variables, with their strides, and targets for them.
 use mathlib.Core.Path.{refl}
-use native.Mathlib.Omega.{arith}
 use borrow.Author.Needs.{needs}
 use Rattle.validity.proofs.ComponentLaws.{values-none}
 use Rattle.hastening.proofs.KeptLaws.{some-stand}
@@ -12,13 +11,13 @@ gather-requires c κs = search needs
 
 lengthen-requires : tie.Need-lengthen-requires
 lengthen-requires c κs =
-    let p = c .before .before .before .before .before .before .before .before .pre in
+    let p = c .before .before .before .before .before .before .before .before .before .before .pre in
     let t = some-stand (p .1 .0) _ (p .0) in
     ((t .0, t .1, c .before .before .before .gather .ensures .2), (refl, values-none 256))
 
 leap-on-requires : tie.Need-leap-on-requires
 leap-on-requires c κs =
-    let p = c .before .before .before .before .before .before .before .before .before .before .before .before .before .before .before .pre in
+    let p = c .before .before .before .before .before .before .before .before .before .before .before .before .before .before .before .before .before .pre in
     (p .0, (p .1 .0, ((p .1 .1 .0, p .1 .1 .1, c .before .before .before .before .before .before .before .before .before .before .gather .ensures .2), (refl, values-none 256))))
 
 returns : tie.Need-returns

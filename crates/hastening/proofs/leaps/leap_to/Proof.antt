@@ -10,23 +10,23 @@ use Rattle.hastening.proofs.leaps.leap_if.Reads as leap-if-reads
 
 lower-requires : tie.Need-lower-requires
 lower-requires c κs =
-    let p = c .before .before .before .before .pre in
+    let p = c .before .before .before .before .before .before .pre in
     let t = some-stand (p .1 .0) _ (p .0) in
     ((t .0, t .1, p .1 .1 .0 .2), (some-small (p .1 .0), (p .1 .1 .1 .0, p .1 .1 .1 .1)))
 
 highest-requires : tie.Need-highest-requires
 highest-requires c κs =
-    let p = c .before .before .before .before .before .before .before .pre in
+    let p = c .before .before .before .before .before .before .before .before .before .pre in
     (some-small (p .1 .0) .0, c .before .before .lower .ensures .1)
 
 returns : tie.Need-returns
 returns c =
-    let p = c .before .before .before .before .before .before .before .before .before .pre in
+    let p = c .before .before .before .before .before .before .before .before .before .before .before .pre in
     ((p .1 .1 .0 .0, p .1 .1 .0 .1), (c .before .before .before .before .lower .ensures, kept-still))
 
 leap-if-requires : tie.Need-leap-if-requires
 leap-if-requires c κs =
-    let p = c .before .before .before .before .before .before .before .before .before .before .before .before .pre in
+    let p = c .before .before .before .before .before .before .before .before .before .before .before .before .before .before .pre in
     (p .0, (p .1 .0, (p .1 .1 .0 .0, c .before .before .before .before .before .before .before .lower .ensures .0, p .1 .1 .0 .1)))
 
 returns-2 : tie.Need-returns-2

@@ -1,5 +1,5 @@
 -- Invariant: the run goes on.
-use Prim.Native.Nat.{ℕ, _-_, _≤_}
+use Prim.Native.Nat.{_-_, _≤_}
 use mathlib.Core.Path.{_≡_, subst}
 use native.Mathlib.Omega.{arith}
 use lib.ListN.{length}
@@ -20,7 +20,7 @@ abbrev μ-loop : tie.MeasureT-loop
 μ-loop file counts offsets masks readers model₀ others stops cut waiting₀ order ends list lasts parts by₀ start₀ from₀ p₀ model waiting by start from p = parts - p
 
 loop-holds : tie.Need-loop-holds Inv-loop μ-loop
-loop-holds c = let p = c .before .before .pre .1 .1 in (kept-still, p .0, p .1, search needs, omega arith)
+loop-holds c = let p = c .before .before .before .before .before .pre .1 .1 in (kept-still, p .0, p .1, search needs, omega arith)
 
 noted-requires : tie.Need-noted-requires Inv-loop μ-loop
 noted-requires c κs = search needs
@@ -30,7 +30,7 @@ noted-requires-2 c κs = search needs
 
 settle-part-requires : tie.Need-settle-part-requires Inv-loop μ-loop
 settle-part-requires c κs =
-    let p = c .before .before .before .before .before .before .before .before .before .pre in
+    let p = c .before .before .before .before .before .before .before .before .before .before .before .before .pre in
     let i = c .before .before .before .before .before .before .loop .inv in
     (p .0, (kept-some (i .0) (p .1 .0), (i .1, i .2, i .3)))
 

@@ -14,13 +14,13 @@ add-laps : tie.Need-add-laps
 add-laps c = search needs
 
 returns : tie.Need-returns
-returns c = let p = c .before .before .before .pre in (p .1 .1, kept-still)
+returns c = let p = c .before .before .before .before .before .pre in (p .1 .1, kept-still)
 
 places-requires : tie.Need-places-requires
 places-requires c κs = search needs
 
 leap-risen-requires : tie.Need-leap-risen-requires
-leap-risen-requires c κs = let p = c .before .before .before .before .before .before .before .pre in (p .0, (p .1 .0, (p .1 .1 .0, p .1 .1 .1)))
+leap-risen-requires c κs = let p = c .before .before .before .before .before .before .before .before .before .pre in (p .0, (p .1 .0, (p .1 .1 .0, p .1 .1 .1)))
 
 clear-requires : tie.Need-clear-requires
 clear-requires c κs = search needs

@@ -1,13 +1,10 @@
 -- Invariant: the run goes on.
-use Prim.Native.Nat.{ℕ, _≤_}
-use mathlib.Core.Path.{_≡_, sym, subst}
-use native.Mathlib.Omega.{arith}
+use mathlib.Core.Path.{_≡_, subst}
 use lib.ListN.{length}
 use borrow.Author.Needs.{needs}
 use Rattle.format.specs.Limits.{maxVariables}
 use Rattle.words.specs.Bit.{wordCount}
 use Rattle.tables.specs.Tabled.{rowWords}
-use Rattle.laps.specs.declared.Lapped.{Lapped}
 use Rattle.hastening.specs.Kept.{RunKept, RunLapped}
 use Rattle.hastening.proofs.KeptLaws.{kept-still, kept-then, kept-some, kept-on, lapped-on, kept-lapped}
 use Rattle.hastening.proofs.parts.settle_part.Statement.{statement}
@@ -22,11 +19,11 @@ abbrev μ-loop : tie.MeasureT-loop
 μ-loop file counts offsets masks readers model₀ others stops cut waiting₀ order start end list from to by₀ risen₀ pace₀ left₀ model waiting by risen pace left = left
 
 loop-holds : tie.Need-loop-holds Inv-loop μ-loop
-loop-holds c = let p = c .before .before .pre .1 .1 in (kept-still, p .0, p .1, p .2, search needs)
+loop-holds c = let p = c .before .before .before .before .before .pre .1 .1 in (kept-still, p .0, p .1, p .2, search needs)
 
 lap-requires : tie.Need-lap-requires Inv-loop μ-loop
 lap-requires c κs =
-    let p = c .before .before .before .before .before .before .before .before .pre in
+    let p = c .before .before .before .before .before .before .before .before .before .before .before .pre in
     let i = c .before .before .before .before .before .loop .inv in
     (kept-some (i .0) (p .1 .0), ((i .1, i .2), (i .3, i .4)))
 
@@ -50,7 +47,7 @@ returns-2 c =
 
 pause-requires : tie.Need-pause-requires Inv-loop μ-loop
 pause-requires c κs =
-    let p = c .before .before .before .before .before .before .before .before .before .before .before .before .before .before .before .before .before .pre in
+    let p = c .before .before .before .before .before .before .before .before .before .before .before .before .before .before .before .before .before .before .before .before .pre in
     let i = c .before .before .before .before .before .before .before .before .before .before .before .before .before .before .loop .inv in
     let l = c .before .before .before .before .before .before .before .before .lap .ensures in
     (p .0, (kept-some (kept-then (i .0) (lapped-on (record { after = l .1 .1 .1; nearer = l .1 .1 .0 }) (c .before .before .before .before .before .before .lapped .given .1))) (p .1 .0), (l .0 .0, l .0 .1, l .1 .0 .1)))

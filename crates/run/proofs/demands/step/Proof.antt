@@ -26,7 +26,7 @@ abbrev μ-loop : tie.MeasureT-loop
 μ-loop file offsets masks model others stops cut waiting₀ waiting = sizeBelow (has waiting) maxRules
 
 loop-holds : tie.Need-loop-holds Inv-loop μ-loop
-loop-holds c = (c .before .pre .1 .1, λ j e. e, λ P R θ k a o. o)
+loop-holds c = (c .before .before .before .pre .1 .1, λ j e. e, λ P R θ k a o. o)
 
 take-lowest-requires : tie.Need-take-lowest-requires Inv-loop μ-loop
 take-lowest-requires c κs = c .before .loop .inv .0
@@ -47,10 +47,10 @@ returns c =
 look-requires : tie.Need-look-requires Inv-loop μ-loop
 look-requires c κs =
     let l = c .before .before .before .before .before .loop in
-    let s = c .before .before .before .before .before .before .before in
+    let s = c .before .before .before .before .before .before .before .before .before in
     let t = c .before .before .before .take-lowest in
     let k = takes-at (has (l .waiting)) (has (t .last .0)) (t .ensures .1) (c .before .i .given .1) in
-    (k .lowest .below, (taken-stands k (s .pre .0) (l .inv .1), s .pre .1 .0))
+    (taken-stands k (s .pre .0) (l .inv .1), s .pre .1 .0)
 
 enum-known-found : tie.Need-enum-known-found Inv-loop μ-loop
 enum-known-found c = search needs
@@ -58,7 +58,7 @@ enum-known-found c = search needs
 returns-2 : tie.Need-returns-2 Inv-loop μ-loop
 returns-2 c =
     let l = c .before .before .before .before .before .before .before .before .before .loop in
-    let s = c .before .before .before .before .before .before .before .before .before .before .before in
+    let s = c .before .before .before .before .before .before .before .before .before .before .before .before .before in
     let t = c .before .before .before .before .before .before .before .take-lowest in
     let k = takes-at (has (l .waiting)) (has (t .last .0)) (t .ensures .1) (c .before .before .before .before .before .i .given .1) in
     let f = c .before .found .given in
@@ -85,7 +85,7 @@ loop-less c =
 loop-again : tie.Need-loop-again Inv-loop μ-loop
 loop-again c =
     let l = c .before .before .before .before .before .before .before .before .loop in
-    let s = c .before .before .before .before .before .before .before .before .before .before in
+    let s = c .before .before .before .before .before .before .before .before .before .before .before .before in
     let t = c .before .before .before .before .before .before .take-lowest in
     let k = takes-at (has (l .waiting)) (has (t .last .0)) (t .ensures .1) (c .before .before .before .before .i .given .1) in (
       t .ensures .0,

@@ -1,9 +1,9 @@
 -- Invariant: the first t words have taken in those from `start` on.
-use Prim.Native.Nat.{ℕ, _+_, _-_, _≤_}
+use Prim.Native.Nat.{_-_, _≤_}
 use mathlib.Core.Path.{_≡_, refl, sym, _∙_}
 use native.Mathlib.Nat.{zero-add}
 use native.Mathlib.Omega.{arith}
-use lib.ListN.{length, getD}
+use lib.ListN.{length}
 use borrow.Author.Needs.{needs}
 use Rattle.words.proofs.Joins.{Taken, taken-none, taken-more}
 use Rattle.tables.specs.Tabled.{rowWords}

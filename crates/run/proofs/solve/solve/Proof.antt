@@ -12,7 +12,7 @@ use Rattle.meaning.specs.Reduct.{Reckoning}
 use Rattle.meaning.proofs.Steps.{gap}
 use Rattle.tables.specs.Tabled.{rowWords}
 use Rattle.run.specs.Running.{Running}
-use Rattle.run.proofs.SolveLaws.{run-ready, run-small, run-stepped, run-ended, run-done, run-among, run-rule, run-field, no-lift, lift-on, lift-nearer}
+use Rattle.run.proofs.SolveLaws.{run-ready, run-small, run-stepped, run-ended, run-done, run-rule, run-field, no-lift, lift-on, lift-nearer}
 use Rattle.run.proofs.solve.solve.Statement.{statement}
 use Rattle.run.proofs.solve.solve.Tie as tie
 
@@ -25,12 +25,12 @@ abbrev μ-loop : tie.MeasureT-loop
 μ-loop file offsets masks readers model₀ others stops cut waiting₀ model waiting = gap (variablesAt file maxVariables) model
 
 loop-holds : tie.Need-loop-holds Inv-loop μ-loop
-loop-holds c = let p = c .before .before .pre in (λ P R θ k. k, p .1 .0, p .1 .1)
+loop-holds c = let p = c .before .before .before .before .pre in (λ P R θ k. k, p .1 .0, p .1 .1)
 
 step-requires : tie.Need-step-requires Inv-loop μ-loop
 step-requires c κs =
     let i = c .before .before .loop .inv in
-    let k = i .0 _ _ _ (c .before .before .before .before .before .pre .0 .run) in
+    let k = i .0 _ _ _ (c .before .before .before .before .before .before .before .pre .0 .run) in
     (run-ready k, (run-small k, i .2))
 
 enum-known-next : tie.Need-enum-known-next Inv-loop μ-loop
@@ -48,15 +48,15 @@ returns c =
 head-of-requires : tie.Need-head-of-requires Inv-loop μ-loop
 head-of-requires c κs =
     let l = c .before .before .before .before .before .before .loop in
-    let k = l .inv .0 _ _ _ (c .before .before .before .before .before .before .before .before .before .pre .0 .run) in
+    let k = l .inv .0 _ _ _ (c .before .before .before .before .before .before .before .before .before .before .before .pre .0 .run) in
     let d = c .before .before .before .step .ensures in
     let x = run-stepped k _ (d .1 .1) (c .before .next .given .1) in
-    (run-among k _ x, run-rule k _ x)
+    run-rule k _ x
 
 variable-requires : tie.Need-variable-requires Inv-loop μ-loop
 variable-requires c κs =
     let l = c .before .before .before .before .before .before .before .loop in
-    let k = l .inv .0 _ _ _ (c .before .before .before .before .before .before .before .before .before .before .pre .0 .run) in
+    let k = l .inv .0 _ _ _ (c .before .before .before .before .before .before .before .before .before .before .before .before .pre .0 .run) in
     let d = c .before .before .before .before .step .ensures in
     let n = c .before .before .next .given in
     let x = run-stepped k _ (d .1 .1) (n .1) in
@@ -85,7 +85,7 @@ returns-2 c =
 loop-less : tie.Need-loop-less Inv-loop μ-loop
 loop-less c =
     let l = c .before .before .before .before .before .before .before .before .before .before .before .before .loop in
-    let k = l .inv .0 _ _ _ (c .before .before .before .before .before .before .before .before .before .before .before .before .before .before .before .pre .0 .run) in
+    let k = l .inv .0 _ _ _ (c .before .before .before .before .before .before .before .before .before .before .before .before .before .before .before .before .before .pre .0 .run) in
     let d = c .before .before .before .before .before .before .before .before .before .step .ensures in
     let n = c .before .before .before .before .before .before .before .next .given in
     let x = run-stepped k _ (d .1 .1) (n .1) in

@@ -1,11 +1,8 @@
-use Prim.Native.Nat.{ℕ, _+_, _-_, _*_, _<_, _≤_}
-use mathlib.Core.Path.{_≡_, refl, sym, ap, _∙_}
+use Prim.Native.Nat.{_-_, _≤_}
+use mathlib.Core.Path.{_≡_, ap, _∙_}
 use native.Mathlib.Omega.{arith}
 use lib.ListN.{length}
-use Rattle.format.specs.Limits.{maxVariables, maxRules}
-use Rattle.words.specs.Bit.{wordCount}
 use Rattle.program.specs.Fields.{valueAt}
-use Rattle.reach.specs.Rows.{rowsLength}
 use Rattle.run.proofs.RunLaws.{lies, here-headed, here-evaluable}
 use borrow.Author.Needs.{needs}
 use Rattle.sequence.proofs.links.link.Statement.{statement}
@@ -15,10 +12,9 @@ use Rattle.sequence.proofs.links.link.Lts as lts
 use Rattle.parts.proofs.places.value_at.Reads as value-at-reads
 use Rattle.sequence.proofs.links.link_rule.Reads as link-rule-reads
 use Rattle.sequence.proofs.links.mask_of.Reads as mask-of-reads
-use Rattle.tables.proofs.place_of.Reads as place-of-reads
 
 abbrev Inv-loop : tie.InvT-loop
-Inv-loop file rules offsets masks live turned rows₀ i₀ rows i = (length rows ≡ rowsLength) × (i ≤ rules)
+Inv-loop file rules offsets masks live turned rows₀ i₀ rows i = (length rows ≡ length rows₀) × (i ≤ rules)
 
 abbrev μ-loop : tie.MeasureT-loop
 μ-loop file rules offsets masks live turned rows₀ i₀ rows i = rules - i
@@ -29,19 +25,19 @@ loop-holds c = search needs
 mask-of-requires : tie.Need-mask-of-requires Inv-loop μ-loop
 mask-of-requires c κs = search needs
 
-place-of-requires : tie.Need-place-of-requires Inv-loop μ-loop
-place-of-requires c κs = search needs
+place-in-requires : tie.Need-place-in-requires Inv-loop μ-loop
+place-in-requires c κs = search needs
 
 value-at-requires : tie.Need-value-at-requires Inv-loop μ-loop
-value-at-requires c κs = rw (c .place-of .ensures) (lies (c .before .before .before .before .before .pre .0 .1 (c .before .before .before .loop .i) (omega arith) .here) .inside)
+value-at-requires c κs = rw (c .place-in .ensures) (lies (c .before .before .before .before .before .before .before .before .pre .1 (c .before .before .before .loop .i) (omega arith) .here) .inside)
 
 link-rule-requires : tie.Need-link-rule-requires Inv-loop μ-loop
 link-rule-requires c κs =
     let l = c .before .before .before .before .before in
-    let p = l .before .before in
-    let h = p .pre .0 .1 (l .loop .i) (omega arith) .here in
-    let q = c .before .value-at .ensures ∙ ap (valueAt (p .args .file .now)) (c .before .before .place-of .ensures) in
-    ((here-headed h q, here-evaluable h q .few), l .loop .inv .0)
+    let p = l .before .before .before .before .before in
+    let h = p .pre .1 (l .loop .i) (omega arith) .here in
+    let q = c .before .value-at .ensures ∙ ap (valueAt (p .args .file .now)) (c .before .before .place-in .ensures) in
+    (here-headed h q, here-evaluable h q .few)
 
 add-i : tie.Need-add-i Inv-loop μ-loop
 add-i c = search needs
@@ -51,6 +47,9 @@ loop-less c = search needs
 
 loop-again : tie.Need-loop-again Inv-loop μ-loop
 loop-again c = search needs
+
+same-length : tie.Need-same-length Inv-loop μ-loop
+same-length c = search needs
 
 returns : tie.Need-returns Inv-loop μ-loop
 returns c = search needs
@@ -63,10 +62,11 @@ link-spec =
     μ-loop
     loop-holds
     mask-of-requires
-    place-of-requires
+    place-in-requires
     value-at-requires
     link-rule-requires
     add-i
     loop-less
     loop-again
+    same-length
     returns)

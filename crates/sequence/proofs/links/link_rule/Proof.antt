@@ -1,10 +1,6 @@
-use Prim.Native.Nat.{ℕ, _+_, _-_, _*_, _<_, _≤_}
-use mathlib.Core.Path.{_≡_, refl, sym, ap, _∙_}
-use native.Mathlib.Omega.{arith}
+use Prim.Native.Nat.{_-_, _≤_}
+use mathlib.Core.Path.{_≡_}
 use lib.ListN.{length}
-use Rattle.format.specs.Limits.{maxVariables, maxRules}
-use Rattle.words.specs.Bit.{wordCount}
-use Rattle.reach.specs.Rows.{rowsLength}
 use borrow.Author.Needs.{needs}
 use Rattle.sequence.proofs.links.link_rule.Statement.{statement}
 use Rattle.sequence.proofs.links.link_rule.Tie as tie
@@ -15,7 +11,7 @@ use Rattle.parts.proofs.rules.positions.Reads as positions-reads
 use Rattle.sequence.proofs.links.link_position.Reads as link-position-reads
 
 abbrev Inv-loop : tie.InvT-loop
-Inv-loop value mask turned rows₀ rule n j₀ rows j = (length rows ≡ rowsLength) × (j ≤ n)
+Inv-loop value mask turned rows₀ rule n j₀ rows j = (length rows ≡ length rows₀) × (j ≤ n)
 
 abbrev μ-loop : tie.MeasureT-loop
 μ-loop value mask turned rows₀ rule n j₀ rows j = n - j
@@ -41,6 +37,9 @@ loop-less c = search needs
 loop-again : tie.Need-loop-again Inv-loop μ-loop
 loop-again c = search needs
 
+same-length : tie.Need-same-length Inv-loop μ-loop
+same-length c = search needs
+
 returns : tie.Need-returns Inv-loop μ-loop
 returns c = search needs
 
@@ -57,4 +56,5 @@ link-rule-spec =
     add-j
     loop-less
     loop-again
+    same-length
     returns)

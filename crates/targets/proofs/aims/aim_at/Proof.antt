@@ -1,4 +1,4 @@
--- Past the last variable the value stays; another is the variable's first aim.
+-- The first aim of the variable that was read.
 use mathlib.Core.Path.{_≡_, ap, _∙_}
 use native.Mathlib.Omega.{arith}
 use mir.Syntax.{w64}
@@ -7,10 +7,9 @@ use lib.IntN.{ℤ, pos, natAbs}
 use lib.ListN.{getD}
 use borrow.Author.Needs.{needs}
 use Rattle.program.specs.Program.{variablesAt}
-use Rattle.reader.proofs.Published.{variables-length}
 use Rattle.steady.specs.Strides.{strideBy}
 use Rattle.steady.proofs.Machine.{stride-own}
-use Rattle.targets.proofs.AimLaws.{past-aim, aim-variable}
+use Rattle.targets.proofs.AimLaws.{aim-variable}
 use Rattle.targets.proofs.aims.aim_at.Statement.{statement}
 use Rattle.targets.proofs.aims.aim_at.Tie as tie
 
@@ -38,13 +37,6 @@ mul-number c = search needs
 element-copy-out-number : tie.Need-element-copy-out-number
 element-copy-out-number c = search needs
 
-returns : tie.Need-returns
-returns c =
-    let a = c .before .before .before .before .before .before .args in
-    let z : toZ w64 (ofZ w64 (getD (a .model .now) (a .v) (pos 0))) ≡ getD (a .model .now) (a .v) (pos 0) = search needs in
-    z ∙ past-aim (variablesAt (a .file .now) (a .variables)) (a .cut) (a .strides .now) (a .stops .now) (a .model .now) (a .target .now) (a .v)
-    (omega (arith, variables-length (a .file .now) (a .variables)))
-
 cast-variable : tie.Need-cast-variable
 cast-variable c = search needs
 
@@ -56,16 +48,16 @@ stride-by-requires c κs = search needs
 
 first-aim-requires : tie.Need-first-aim-requires
 first-aim-requires c κs =
-    let s = c .before .before .before .before .before .before .before .before in
+    let s = c .before .before .before .before .before .before .before in
     let a = s .args in
     let z : toZ w64 (ofZ w64 (getD (a .model .now) (a .v) (pos 0))) ≡ getD (a .model .now) (a .v) (pos 0) = search needs in
     let y : toZ w64 (ofZ w64 (c .stride-by .result)) ≡ c .stride-by .result = search needs in
     let o = stride-own _ (y ∙ c .stride-by .ensures) in
     (rw z (s .pre .1 .1 (a .v)), o .0, o .1)
 
-returns-2 : tie.Need-returns-2
-returns-2 c =
-    let a = c .before .before .before .before .before .before .before .before .before .args in
+returns : tie.Need-returns
+returns c =
+    let a = c .before .before .before .before .before .before .before .before .args in
     let z : toZ w64 (ofZ w64 (getD (a .model .now) (a .v) (pos 0))) ≡ getD (a .model .now) (a .v) (pos 0) = search needs in
     let s : toZ w64 (ofZ w64 (getD (a .stops .now) (a .v) (pos 0))) ≡ getD (a .stops .now) (a .v) (pos 0) = search needs in
     let t : toZ w64 (ofZ w64 (getD (a .target .now) (a .v) (pos 0))) ≡ getD (a .target .now) (a .v) (pos 0) = search needs in
@@ -88,9 +80,8 @@ aim-at-spec =
     element-copy-out-goal
     mul-number
     element-copy-out-number
-    returns
     cast-variable
     variable-requires
     stride-by-requires
     first-aim-requires
-    returns-2)
+    returns)

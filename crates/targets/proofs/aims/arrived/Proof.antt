@@ -9,17 +9,15 @@ use lib.IntN.{pos}
 use lib.ListN.{getD}
 use borrow.Author.Needs.{needs}
 use borrow.Author.Count.{below-more}
-use Rattle.format.specs.Limits.{maxVariables}
 use Rattle.program.specs.Readings.{valued}
-use Rattle.targets.proofs.AimLaws.{same-valued}
 use Rattle.targets.proofs.aims.arrived.Statement.{statement}
 use Rattle.targets.proofs.aims.arrived.Tie as tie
 
 abbrev Inv-loop : tie.InvT-loop
-Inv-loop aims target v₀ v = (v ≤ maxVariables) × ((u : ℕ) → u < v → valued aims u ≡ valued target u)
+Inv-loop variables aims target v₀ v = (v ≤ variables) × ((u : ℕ) → u < v → valued aims u ≡ valued target u)
 
 abbrev μ-loop : tie.MeasureT-loop
-μ-loop aims target v₀ v = maxVariables - v
+μ-loop variables aims target v₀ v = variables - v
 
 loop-holds : tie.Need-loop-holds Inv-loop μ-loop
 loop-holds c = (omega arith, λ u l. absurd (omega arith))
@@ -54,10 +52,7 @@ loop-again c =
     (omega arith, below-more _ (l .v) (l .inv .1) (sym p ∙ ap (toZ w64) (c .if1 .left) ∙ q))
 
 returns-2 : tie.Need-returns-2 Inv-loop μ-loop
-returns-2 c = λ e.
-    let a = c .before .before .args in
-    let p = c .before .before .pre in
-    same-valued maxVariables (a .aims .now) (a .target .now) (p .0) (p .1) (λ v l. c .before .loop .inv .1 v (omega arith))
+returns-2 c = λ e v l. c .before .loop .inv .1 v (omega arith)
 
 pub arrived-spec : {M : Type 1} → statement M
 arrived-spec =

@@ -16,10 +16,10 @@ use Rattle.targets.proofs.aims.draw_back.Tie as tie
 
 abbrev Inv-loop : tie.InvT-loop
 Inv-loop file variables model stops cut target strides aims₀ v₀ aims v =
-    (v ≤ maxVariables) × (length aims ≡ maxVariables) × Filled (firstAims (variablesAt file variables) cut strides stops model target) v aims₀ aims
+    (v ≤ variables) × (length aims ≡ maxVariables) × Filled (firstAims (variablesAt file variables) cut strides stops model target) v aims₀ aims
 
 abbrev μ-loop : tie.MeasureT-loop
-μ-loop file variables model stops cut target strides aims₀ v₀ aims v = maxVariables - v
+μ-loop file variables model stops cut target strides aims₀ v₀ aims v = variables - v
 
 loop-holds : tie.Need-loop-holds Inv-loop μ-loop
 loop-holds c = (omega arith, c .before .pre .1 .0, filled-none _ _)

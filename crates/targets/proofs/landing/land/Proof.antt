@@ -1,4 +1,4 @@
--- One variable after the other becomes its target.
+-- One variable after the other becomes its aim.
 use Prim.Native.Nat.{ℕ, _-_, _≤_}
 use mathlib.Core.Path.{_≡_}
 use mathlib.Core.Bool.{Bool}
@@ -21,23 +21,23 @@ use Rattle.targets.proofs.landing.land.Statement.{statement}
 use Rattle.targets.proofs.landing.land.Tie as tie
 
 abbrev Inv-loop : tie.InvT-loop
-Inv-loop readers target model₀ waiting₀ v₀ model waiting v =
-    (v ≤ maxVariables) × (length model ≡ maxVariables) × (length waiting ≡ rowWords)
+Inv-loop readers variables aims model₀ waiting₀ v₀ model waiting v =
+    (v ≤ variables) × (length model ≡ maxVariables) × (length waiting ≡ rowWords)
     × ((s : List ℕ) (P : Program) (R : Reckoning) (θ : Valuation) (offsets masks : List ℕ) (others stops : List ℤ) (cut : Bool)
-    → Landing s P R θ offsets masks readers others stops cut target model₀ waiting₀ → Landing s P R θ offsets masks readers others stops cut target model waiting
+    → Landing s P R θ offsets masks readers others stops cut aims model₀ waiting₀ → Landing s P R θ offsets masks readers others stops cut aims model waiting
     × (gap (variablesAt s maxVariables) model ≤ gap (variablesAt s maxVariables) model₀))
 
 abbrev μ-loop : tie.MeasureT-loop
-μ-loop readers target model₀ waiting₀ v₀ model waiting v = maxVariables - v
+μ-loop readers variables aims model₀ waiting₀ v₀ model waiting v = variables - v
 
 loop-holds : tie.Need-loop-holds Inv-loop μ-loop
-loop-holds c = let p = c .before .pre in (omega arith, p .0, p .1, λ s P R θ offsets masks others stops cut k. (k, omega arith))
+loop-holds c = let p = c .before .pre in (omega arith, p .0 .1, p .1, λ s P R θ offsets masks others stops cut k. (k, omega arith))
 
-mul-goal : tie.Need-mul-goal Inv-loop μ-loop
-mul-goal c = search needs
+mul-aim : tie.Need-mul-aim Inv-loop μ-loop
+mul-aim c = search needs
 
-element-copy-out-goal : tie.Need-element-copy-out-goal Inv-loop μ-loop
-element-copy-out-goal c = search needs
+element-copy-out-aim : tie.Need-element-copy-out-aim Inv-loop μ-loop
+element-copy-out-aim c = search needs
 
 place-requires : tie.Need-place-requires Inv-loop μ-loop
 place-requires c κs = search needs
@@ -53,7 +53,7 @@ loop-again c =
     let a = c .before .before .before .before .before .before .before .args in
     let l = c .before .before .before .before .before .loop in
     let p = c .place in
-    let t : toZ w64 (ofZ w64 (getD (a .target .now) (l .v) (pos 0))) ≡ getD (a .target .now) (l .v) (pos 0) = search needs in (
+    let t : toZ w64 (ofZ w64 (getD (a .aims .now) (l .v) (pos 0))) ≡ getD (a .aims .now) (l .v) (pos 0) = search needs in (
       omega arith,
       p .ensures .0,
       p .ensures .1 .0,
@@ -74,8 +74,8 @@ land-spec =
     Inv-loop
     μ-loop
     loop-holds
-    mul-goal
-    element-copy-out-goal
+    mul-aim
+    element-copy-out-aim
     place-requires
     add-v
     loop-less

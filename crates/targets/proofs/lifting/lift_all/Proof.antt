@@ -20,11 +20,11 @@ passes-requires : tie.Need-passes-requires Inv-loop μ-loop
 passes-requires c κs = search needs
 
 loop-holds : tie.Need-loop-holds Inv-loop μ-loop
-loop-holds c = (c .before .before .pre .1 .1 .0, λ P R θ A₀ k. k)
+loop-holds c = (c .before .before .before .before .pre .1 .1 .0, λ P R θ A₀ k. k)
 
 pass-requires : tie.Need-pass-requires Inv-loop μ-loop
 pass-requires c κs =
-    let p = c .before .before .before .before .before .pre in
+    let p = c .before .before .before .before .before .before .before .pre in
     let l = c .before .before .loop in
     (p .0, (some-aims (p .1 .0) _ (l .inv .1), (l .inv .0, p .1 .1 .1)))
 

@@ -19,7 +19,7 @@ abbrev μ-loop : tie.MeasureT-loop
 μ-loop file counts offsets masks line count model others stops cut target strides aims₀ some₀ k₀ aims some k = count - k
 
 loop-holds : tie.Need-loop-holds Inv-loop μ-loop
-loop-holds c = (omega arith, c .before .pre .1 .1 .0, λ P R θ A₀ k. k)
+loop-holds c = (omega arith, c .before .before .before .pre .1 .1 .0, λ P R θ A₀ k. k)
 
 mul-i : tie.Need-mul-i Inv-loop μ-loop
 mul-i c = search needs
@@ -29,7 +29,7 @@ element-copy-out-i c = search needs
 
 lift-requires : tie.Need-lift-requires Inv-loop μ-loop
 lift-requires c κs =
-    let p = c .before .before .before .before .before .pre in
+    let p = c .before .before .before .before .before .before .before .pre in
     let l = c .before .before .before .loop in
     (p .0, (some-aims (p .1 .0) _ (l .inv .2), l .inv .1))
 
