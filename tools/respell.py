@@ -16,6 +16,7 @@ import sys
 
 DECLARED = re.compile(r"(?m)^( *)(?:\| *)?((?:abbrev |unfoldable |pub |data |record )*)([^\s(){}.;,@\"«»|:]+)((?: \{[^{}\n]*\}| \([^()\n]*\))*) : ")
 TOKEN = re.compile(r"[^\s(){}.;,@\"«»\[\]\\|`]+")
+LIBRARIES = re.compile(r"(?m)^(?:ghost )?use (?!Rattle\.(?!std\b|core\b))\S+?\.\{([^}]*)\}")
 LIBRARY = {"length", "take", "drop", "set", "map", "append", "get_or", "sum", "reverse", "filter"}
 PAGES = ["README.md", "docs/DECISIONS.md", "docs/LANDINGS.md", "docs/TRUST.md"]
 # Names of tactics and other words of antt's own.
@@ -107,7 +108,9 @@ def main(argv):
     for p in texts(root):
         with open(p, encoding="utf-8") as f:
             text = f.read()
-        out = TOKEN.sub(lambda m: new.get(m[0], m[0]), text)
+        # A name that the file imports from a library is the library's.
+        theirs = {n.strip().split(" as ")[0] for m in LIBRARIES.finditer(text) for n in m[1].split(",")}
+        out = TOKEN.sub(lambda m: new.get(m[0], m[0]) if m[0] not in theirs else m[0], text)
         if out != text:
             changed += 1
             if not check:

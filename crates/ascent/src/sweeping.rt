@@ -38,7 +38,7 @@ impl Sweeps {
 
     // The constant of the code is that of the specification.
     pub fn quoted()
-        ensures* { do ⌜ (← (⟦Sweeps::MOST⟧).entry) ≡ most_sweeps ⌝ }
+        ensures { Sweeps.MOST ≡ most_sweeps }
     {}
 }
 

@@ -2,7 +2,7 @@
 use Prim.Native.Nat.{ℕ, zero, suc, ◌+◌, ◌-◌, ◌*◌, ◌^◌, ◌<◌, ◌≤◌}
 use mathlib.Core.Path.{◌≡◌, refl, sym, ap, ◌∙◌, subst}
 use mathlib.Core.List.{List}
-use mathlib.Core.Bool.{Bool, true, false, not, cond, ◌&&◌, ◌||◌, or_false, and-false}
+use mathlib.Core.Bool.{Bool, true, false, not, cond, ◌&&◌, ◌||◌, or-false, and-false}
 use native.Mathlib.Nat.{mul-le-mul, lt_of_le_of_lt}
 use native.Mathlib.Numerals.{add-one}
 use native.Mathlib.Omega.{arith}
@@ -97,7 +97,7 @@ picked_small false a b h k = h
 
 -- the second of two is taken where the machine's test holds
 pub extreme_is : (most : Bool) (a b : ℤ) {t : Bool} → ((most && lt_z a b) || (not most && lt_z b a)) ≡ t → cond t b a ≡ extreme most a b
-extreme_is true a b e = ap (λ (s : Bool). cond s b a) (sym e ∙ or_false (lt_z a b))
+extreme_is true a b e = ap (λ (s : Bool). cond s b a) (sym e ∙ or-false (lt_z a b))
 extreme_is false a b e = ap (λ (s : Bool). cond s b a) (sym e)
 
 -- the position before i, and i

@@ -1,7 +1,7 @@
 -- Values by their size: what fits, and what the tests of a literal say.
 use Prim.Native.Nat.{ℕ, suc, ◌+◌, ◌*◌, ◌^◌, ◌<◌}
 use mathlib.Core.Path.{◌≡◌, refl, sym, ap, ◌∙◌, subst}
-use mathlib.Core.Bool.{Bool, true, false, not, cond, ◌&&◌, ◌||◌, and_true}
+use mathlib.Core.Bool.{Bool, true, false, not, cond, ◌&&◌, ◌||◌, and-true}
 use native.Mathlib.Nat.{zero-add}
 use native.Mathlib.Omega.{arith}
 use lib.Dec.{T, eqb}
@@ -45,6 +45,6 @@ literal_is t a = go (eqb t.op 1) (eqb t.op 2) refl refl
     go : (one two : Bool) → eqb t.op 1 ≡ one → eqb t.op 2 ≡ two
         → ((not one || not (lt_z a n)) && (not two || lt_z a n)) ≡ cond one (le_z n a) (cond two (lt_z a n) true)
     go true true e f = let z : ⊥ = omega (arith, eqb-true t.op 1 e, eqb-true t.op 2 f) in absurd z
-    go true false e f = and_true (not (lt_z a n)) ∙ least_is n a
+    go true false e f = and-true (not (lt_z a n)) ∙ least_is n a
     go false true e f = refl
     go false false e f = refl

@@ -1,4 +1,6 @@
 // A body read in two valuations: position i in `first` where bit i of `kept` is set, and in `second` else.
+#![tactic(auto)]
+
 ghost use Rattle.std.specs.Prelude.{◌≡◌, ◌+◌, ◌-◌, ◌*◌, ◌/◌, ◌<◌, ◌≤◌, length, nat_abs, ◌+ℤ◌, ◌*ℤ◌};
 ghost use Rattle.format.specs.Limits.{max_terms, max_number, max_coefficient};
 ghost use Rattle.program.specs.Tables.{any_below};

@@ -38,8 +38,8 @@ impl Asks {
 
     // The constants of the code are those of the specification.
     pub fn quoted()
-        ensures* do_value { do ⌜ (← (⟦Asks::RANGE⟧).entry) ≡ range_bytes ⌝ }
-        ensures* do_value_2 { do ⌜ (← (⟦Asks::BYTES⟧).entry) ≡ least_bytes ⌝ }
+        ensures range { Asks.RANGE ≡ range_bytes }
+        ensures bytes { Asks.BYTES ≡ least_bytes }
     {}
 }
 

@@ -1,2 +1,4 @@
 // The call bounds.
+#![tactic(auto)]
+
 pub mod call;

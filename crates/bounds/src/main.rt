@@ -1,4 +1,6 @@
 // Reads standard input to its end, a file with lent ranges, and prints how far each founded variable can still be lifted, or the line of a refusal.
+#![tactic(auto)]
+
 use libc::{STDIN_FILENO, STDOUT_FILENO};
 use listing::Listing;
 

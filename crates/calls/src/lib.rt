@@ -1,4 +1,6 @@
 // Whether a call is turned down, by its file and the lengths of its assignment and its lent buffer.
+#![tactic(auto)]
+
 ghost use Rattle.std.specs.Prelude.{◌≡◌, List, ℕ, ◌≤◌, length};
 ghost use Rattle.format.specs.Limits.{max_variables};
 ghost use Rattle.program.specs.Reading.{AcceptedAs};

@@ -1,4 +1,6 @@
 // The cases of the table of `samples`.
+#![tactic(auto)]
+
 ghost use Rattle.std.specs.Prelude.{◌≤◌, length};
 
 use guarding::patterned;

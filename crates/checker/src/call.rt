@@ -35,7 +35,7 @@ impl Asks {
 
     // The constant of the code is that of the specification.
     pub fn quoted()
-        ensures* { do ⌜ (← (⟦Asks::BYTES⟧).entry) ≡ check_bytes ⌝ }
+        ensures { Asks.BYTES ≡ check_bytes }
     {}
 }
 

@@ -1,4 +1,6 @@
 // The check of an assignment.
+#![tactic(auto)]
+
 pub mod call;
 pub mod constraints;
 pub mod rules;

@@ -1,3 +1,5 @@
 // Stable or unfounded: the least model compared with the assignment, and the report.
+#![tactic(auto)]
+
 pub mod comparing;
 pub mod reporting;

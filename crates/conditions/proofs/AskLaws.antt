@@ -1,7 +1,7 @@
 -- What is asked by one position more, and by one rule more.
 use Prim.Native.Nat.{ℕ, ◌+◌}
 use mathlib.Core.Path.{◌≡◌, sym, ap, ap₂, ◌∙◌}
-use mathlib.Core.Bool.{Bool, true, false, ◌||◌, ◌&&◌, or_false, or_assoc}
+use mathlib.Core.Bool.{Bool, true, false, ◌||◌, ◌&&◌, or-false, or_assoc}
 use mathlib.Core.List.{List}
 use lib.Dec.{eqb}
 use lib.ListN.{length}
@@ -58,8 +58,8 @@ module _ (vs : List Variable) (set : ℕ → Bool) (r : Rule) where
   pub outside_asks : (old : Asked) {b : Bool} → b ≡ set r.head → b ≡ false → AsksMore old old (asked_into vs set r)
   unfolding asked_into
   outside_asks old e f = record {
-    most = λ v. sym (or_false (has old.most.words v)) ∙ ap (λ (c : Bool). has old.most.words v || (c && asked_by vs set asks_most r v)) (sym f ∙ e);
-    least = λ v. sym (or_false (has old.least.words v)) ∙ ap (λ (c : Bool). has old.least.words v || (c && asked_by vs set asks_least r v)) (sym f ∙ e);
+    most = λ v. sym (or-false (has old.most.words v)) ∙ ap (λ (c : Bool). has old.most.words v || (c && asked_by vs set asks_most r v)) (sym f ∙ e);
+    least = λ v. sym (or-false (has old.least.words v)) ∙ ap (λ (c : Bool). has old.least.words v || (c && asked_by vs set asks_least r v)) (sym f ∙ e);
   }
 
 -- one after the other
@@ -68,7 +68,7 @@ module _ (p : ℕ → Asking) where
   grown_none old = record { most = none (has old.most.words) asks_most; least = none (has old.least.words) asks_least }
     where
       none : (h : ℕ → Bool) (asks : Direction → Bool → Bool) (v : ℕ) → h v ≡ (h v || any_below 0 (λ i. p i asks v))
-      none h asks v = sym (ap (λ (b : Bool). h v || b) (sym (any_none (λ i. p i asks v))) ∙ or_false (h v))
+      none h asks v = sym (ap (λ (b : Bool). h v || b) (sym (any_none (λ i. p i asks v))) ∙ or-false (h v))
 
   pub grown_more : (n : ℕ) {old all new : Asked} → AsksMore old all (λ asks v. any_below n (λ i. p i asks v)) → AsksMore all new (p n)
       → AsksMore old new (λ asks v. any_below (n + 1) (λ i. p i asks v))

@@ -1,7 +1,7 @@
 -- Sets that take in a variable where a test holds.
 use Prim.Native.Nat.{ℕ, ◌+◌, ◌<◌}
 use mathlib.Core.Path.{◌≡◌, sym, ap, ap₂, ◌∙◌}
-use mathlib.Core.Bool.{Bool, true, false, ◌||◌, ◌&&◌, or_false, or_comm, and_true, and-false}
+use mathlib.Core.Bool.{Bool, true, false, ◌||◌, ◌&&◌, or-false, or_comm, and-true, and-false}
 use native.Mathlib.Decide.{ℕ_discrete, dec_lt}
 use native.Mathlib.Omega.{arith}
 use lib.Dec.{eqb, ltb}
@@ -13,7 +13,7 @@ module _ {b : Bool} (x : ℕ) (old : ℕ → Bool) where
   with_one e h v = h v ∙ or_comm (eqb v x) (old v) ∙ ap₂ (λ (s t : Bool). old v || (s && t)) (sym e) (eqb_swap v x)
 
   pub with_none : b ≡ false → (v : ℕ) → old v ≡ (old v || (b && eqb x v))
-  with_none e v = sym (ap (λ (s : Bool). old v || (s && eqb x v)) e ∙ or_false (old v))
+  with_none e v = sym (ap (λ (s : Bool). old v || (s && eqb x v)) e ∙ or-false (old v))
 
 -- the members below a bound, one more at a time
 module _ (p : ℕ → Bool) where
@@ -30,8 +30,8 @@ module _ (p : ℕ → Bool) where
 
       go : Dec (n ≡ v) → ((ltb v n && p v) || (p n && eqb n v)) ≡ (ltb v (n + 1) && p v)
       go (yes q) =
-          ap₂ (λ (s t : Bool). (s && p v) || (p n && t)) (le-ltb v n (omega arith)) (eq-eqb n v q) ∙ and_true (p n) ∙ ap p q
+          ap₂ (λ (s t : Bool). (s && p v) || (p n && t)) (le-ltb v n (omega arith)) (eq-eqb n v q) ∙ and-true (p n) ∙ ap p q
           ∙ sym (ap (λ (s : Bool). s && p v) (lt-ltb v (n + 1) (omega arith)))
       go (no f) =
           ap₂ (λ (s t : Bool). (s && p v) || (p n && t)) (less (dec_lt v n) f) (ne_eqb n v f)
-          ∙ ap (λ (s : Bool). (ltb v (n + 1) && p v) || s) (and-false (p n)) ∙ or_false (ltb v (n + 1) && p v)
+          ∙ ap (λ (s : Bool). (ltb v (n + 1) && p v) || s) (and-false (p n)) ∙ or-false (ltb v (n + 1) && p v)

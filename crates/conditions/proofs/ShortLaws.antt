@@ -1,7 +1,7 @@
 -- The founded variables whose value in the model comes before their assigned one, one variable after the other.
 use Prim.Native.Nat.{ℕ, ◌≤◌}
 use mathlib.Core.Path.{◌≡◌, refl, sym, ap, ap₂, ◌∙◌}
-use mathlib.Core.Bool.{Bool, true, false, not, cond, ◌||◌, ◌&&◌, and_true, and-false}
+use mathlib.Core.Bool.{Bool, true, false, not, cond, ◌||◌, ◌&&◌, and-true, and-false}
 use mathlib.Core.List.{List}
 use native.Mathlib.Omega.{arith}
 use lib.Dec.{ltb}
@@ -74,7 +74,7 @@ module _ (s : List ℕ) (n : ℕ) (set : ℕ → Bool) (none : any_below n (λ v
       go false q = rw (get_or-eq_default (variables_at s n) no_variable {n = v} (omega (arith, variables_length s n, ltb-false v n q)))
 
   pub whole_below : (v : ℕ) → set v ≡ from_below_in (variables_at s n) set v
-  whole_below v = sym (ap (λ (b : Bool). set v && not b) (not_above v) ∙ and_true (set v))
+  whole_below v = sym (ap (λ (b : Bool). set v && not b) (not_above v) ∙ and-true (set v))
 
   pub none_above : {r : ℕ → Bool} → ((v : ℕ) → r v ≡ false) → (v : ℕ) → r v ≡ from_above_in (variables_at s n) set v
   none_above h v = h v ∙ sym (ap (λ (b : Bool). set v && b) (not_above v) ∙ and-false (set v))

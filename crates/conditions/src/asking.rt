@@ -14,7 +14,7 @@ use program::Direction;
 use sets::Set;
 
 // The variables with a condition 'at most', and those with one 'at least'.
-#[derive(Drop)]
+#[derive(Clone, Copy)]
 pub struct Asked {
     pub most: Set,
     pub least: Set,

@@ -38,7 +38,7 @@ pub fn short_set(
 }
 
 // A set in two parts: the variables that are not founded from above, and those that are.
-#[derive(Drop)]
+#[derive(Clone, Copy)]
 pub struct Parts {
     pub below: Set,
     pub above: Set,

@@ -1,10 +1,12 @@
 // Trees: a node reads its children, and each child is again a node.
+#![tactic(auto)]
+
 ghost use Rattle.std.specs.Prelude.{◌≡◌, ◌≤◌, length, drop};
 ghost use Rattle.trees.specs.Tree.{inner_bytes, several, tree_in, max_levels, max_children};
 ghost use Rattle.descent.specs.Ends.{Ends};
 
 // Where a tree ends, if it is one.
-#[derive(Drop)]
+#[derive(Clone, Copy)]
 pub enum End {
     Malformed,
     At(usize),
@@ -22,8 +24,8 @@ impl Limits {
 
     // The limits of the code are those of the specification.
     pub fn quoted()
-        ensures* do_value { do ⌜ (← (⟦Limits::LEVELS⟧).entry) ≡ max_levels ⌝ }
-        ensures* do_value_2 { do ⌜ (← (⟦Limits::CHILDREN⟧).entry) ≡ max_children ⌝ }
+        ensures levels { Limits.LEVELS ≡ max_levels }
+        ensures children { Limits.CHILDREN ≡ max_children }
     {}
 }
 

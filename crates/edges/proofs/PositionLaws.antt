@@ -2,7 +2,7 @@
 use Prim.Native.Nat.{ℕ, ◌+◌}
 use mathlib.Core.Path.{◌≡◌, refl, sym, ap, ap₂, ◌∙◌, subst}
 use mathlib.Core.List.{List}
-use mathlib.Core.Bool.{Bool, true, false, ◌||◌, ◌&&◌, or_false, or_comm, or_assoc}
+use mathlib.Core.Bool.{Bool, true, false, ◌||◌, ◌&&◌, or-false, or_comm, or_assoc}
 use lib.ListN.{length}
 use lib.Dec.{eqb}
 use Rattle.reach.specs.Rows.{Marked, MarkedWhere}
@@ -37,7 +37,7 @@ grown_as {r} {r'} q g = subst (Grown r r') q g
 module _ (p : ℕ → ℕ → ℕ → Bool) where
   pub grown_none : (r : ℕ → ℕ → Bool) → Grown r r (λ a b. any_below 0 (λ i. p i a b))
   unfolding any_below
-  grown_none r = record { is = λ a b ha hb. sym (or_false (r a b)) }
+  grown_none r = record { is = λ a b ha hb. sym (or-false (r a b)) }
 
   pub grown_more : (n : ℕ) {r r' r'' : ℕ → ℕ → Bool} → Grown r r' (λ a b. any_below n (λ i. p i a b)) → Grown r' r'' (p n)
       → Grown r r'' (λ a b. any_below (n + 1) (λ i. p i a b))
@@ -79,9 +79,9 @@ module _ (vs : List Variable) (r : Rule) where
     draws_none t e = record { is = λ a b ha hb. go a b (eqb r.head a) (eqb (body_variable r i) b) }
       where
         go : (a b : ℕ) (x y : Bool) → t a b ≡ (t a b || (x && (y && draws_edge vs r i)))
-        go a b true true = sym (ap (λ (z : Bool). t a b || z) e ∙ or_false (t a b))
-        go a b true false = sym (or_false (t a b))
-        go a b false y = sym (or_false (t a b))
+        go a b true true = sym (ap (λ (z : Bool). t a b || z) e ∙ or-false (t a b))
+        go a b true false = sym (or-false (t a b))
+        go a b false y = sym (or-false (t a b))
 
     -- a position that draws one
     pub draws_one : {t t' : ℕ → ℕ → Bool} (h x : ℕ) → draws_edge vs r i ≡ true

@@ -1,4 +1,6 @@
 // One rule that is not idle: the edges that it draws, from its head to each kept or mixed body variable, and whether it offends.
+#![tactic(auto)]
+
 ghost use Rattle.std.specs.Prelude.{◌≡◌, ◌≢◌, ℕ, ◌+◌, ◌*◌, ◌<◌, ◌≤◌, length};
 ghost use Rattle.format.specs.Limits.{max_variables};
 ghost use Rattle.program.specs.Program.{rule_of, variable_in, variables_at};

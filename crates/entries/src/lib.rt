@@ -1,4 +1,6 @@
 // The lines of the report's entries.
+#![tactic(auto)]
+
 ghost use Rattle.std.specs.Prelude.{◌++◌, ◌+◌, ◌*◌, ◌≤◌, nat_abs, length};
 ghost use Rattle.verdict.specs.Demands.{variable_at, mark_at, number_at};
 ghost use Rattle.text.specs.Decimal.{decimal, number};

@@ -1,4 +1,6 @@
 // Whether nothing is wrong with a body, at one quick look. Where it says no, what is wrong is still to be found.
+#![tactic(auto)]
+
 ghost use Rattle.std.specs.Prelude.{◌≡◌, true, ◌*◌, ◌<◌, ◌≤◌, length};
 ghost use Rattle.words.specs.Bit.{word_count};
 ghost use Rattle.program.specs.Program.{terms_of, variables_at};

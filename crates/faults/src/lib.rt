@@ -1,4 +1,6 @@
 // What is wrong with the terms of a body.
+#![tactic(auto)]
+
 ghost use Rattle.std.specs.Prelude.{◌≡◌, ◌||◌, false, ◌*◌, ◌+◌, ◌/◌, ◌≤◌, leb, length};
 ghost use Rattle.program.specs.Program.{terms_of, variables_at};
 ghost use Rattle.faults.specs.Faults.{TermFaults, FaultsBelow, faults_number, checked_number};

@@ -1,7 +1,7 @@
 -- The leaves of a tree as the terms of one body: a variable that is not declared, and a variable twice.
 use Prim.Native.Nat.{ℕ, zero, suc}
 use mathlib.Core.Path.{◌≡◌, refl, sym, ap, ap₂, ◌∙◌}
-use mathlib.Core.Bool.{Bool, false, ◌||◌, or_false, or_comm, or_assoc}
+use mathlib.Core.Bool.{Bool, false, ◌||◌, or-false, or_comm, or_assoc}
 use mathlib.Core.List.{List, [], ◌∷◌, map}
 use lib.Dec.{eqb, leb}
 use lib.ListN.{length, length-map, get_or}
@@ -17,7 +17,7 @@ use Rattle.flat.specs.Flat.{any_in, twice_with}
 -- the first number by itself
 pub any_first : (n : ℕ) (p : ℕ → Bool) → any_below (suc n) p ≡ (p 0 || any_below n (λ i. p (suc i)))
 unfolding any_below
-any_first zero p = sym (or_false (p 0))
+any_first zero p = sym (or-false (p 0))
 any_first (suc n) p = ap (λ (b : Bool). b || p (suc n)) (any_first n p) ∙ or_assoc (p 0) (any_below n (λ i. p (suc i))) (p (suc n))
 
 -- of each element of a list, by its place and along the list
@@ -61,7 +61,7 @@ twice-along p [] = refl
 twice-along p (x ∷ xs) =
     ap (λ (b : Bool). p x || b) (twice-along (λ y. eqb y x || p y) xs
     ∙ any_same (length xs) (Again (λ y. eqb y x || p y) xs) (λ i. Again p (x ∷ xs) (suc i)) (λ i h. again_more p x xs i))
-    ∙ ap (λ (b : Bool). b || any_below (length xs) (λ i. Again p (x ∷ xs) (suc i))) (sym (or_false (p x)))
+    ∙ ap (λ (b : Bool). b || any_below (length xs) (λ i. Again p (x ∷ xs) (suc i))) (sym (or-false (p x)))
     ∙ sym (any_first (length xs) (Again p (x ∷ xs)))
 
 pub twice_leaf : (xs : List ℕ) → twice_with (λ x. false) xs ≡ any_term (map (node_term 1) xs) (λ i t. repeated_term (map (node_term 1) xs) i)

@@ -1,4 +1,6 @@
 // Reads a nested file from standard input to its end and writes its plain file, or the line of its refusal.
+#![tactic(auto)]
+
 use format::Format;
 use libc::{STDIN_FILENO, STDOUT_FILENO};
 

@@ -1,4 +1,6 @@
 // The call flatten.
+#![tactic(auto)]
+
 ghost use Rattle.std.specs.Prelude.{◌≡◌, ℕ, ◌+◌, ◌≤◌, length, take};
 ghost use Rattle.program.specs.Fields.{place};
 ghost use Rattle.program.specs.Components.{Valid};

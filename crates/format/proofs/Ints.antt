@@ -124,7 +124,7 @@ number_is h l k m =
 pub read_written : (z : ℤ) → nat_abs z < 32768 → signed (of_z w16 z / 256) (of_z w16 z % 256) ≡ z
 read_written z h =
     let e : big (of_z w16 z / 256) (of_z w16 z % 256) ≡ of_z w16 z = omega arith in
-    ap (to_z w16) e ∙ to_z-of_z (record { sfits = lt_of_le_of_lt (mag_le z) h })
+    ap (to_z w16) e ∙ to_z-of_z {w = w16} (record { sfits = lt_of_le_of_lt (mag_le z) h })
 
 -- and read and written back
 pub written_read : (high low : ℕ) → high < 256 → low < 256 → bytes_of (signed high low) ≡ high ∷ low ∷ []

@@ -1,4 +1,6 @@
 // The limits of the rule file's format, and its numbers of two bytes.
+#![tactic(auto)]
+
 ghost use Rattle.std.specs.Prelude.{◌≡◌, ◌+◌, ◌*◌, ◌/◌, ◌%◌, ◌<◌, length, pos, nat_abs};
 ghost use Rattle.std.specs.Int.{w16};
 ghost use Rattle.std.proofs.Common.{of_z};
@@ -35,14 +37,14 @@ impl Format {
 
     // The limits of the code are those of the specification.
     pub fn quoted()
-        ensures* do_value { do ⌜ (← (⟦Format::MAX_FILE⟧).entry) ≡ max_file ⌝ }
-        ensures* do_value_2 { do ⌜ (← (⟦Format::MAX_VARIABLES⟧).entry) ≡ max_variables ⌝ }
-        ensures* do_value_3 { do ⌜ (← (⟦Format::MAX_RULES⟧).entry) ≡ max_rules ⌝ }
-        ensures* do_value_4 { do ⌜ (← (⟦Format::MAX_CONSTRAINTS⟧).entry) ≡ max_constraints ⌝ }
-        ensures* do_value_5 { do ⌜ (← (⟦Format::MAX_TERMS⟧).entry) ≡ max_terms ⌝ }
-        ensures* do_value_6 { do ⌜ (← (⟦Format::MAX_NUMBER⟧).entry) ≡ pos max_number ⌝ }
-        ensures* do_value_7 { do ⌜ (← (⟦Format::MAX_COEFFICIENT⟧).entry) ≡ pos max_coefficient ⌝ }
-        ensures* do_value_8 { do ⌜ (← (⟦Format::MAX_DIVISOR⟧).entry) ≡ pos max_divisor ⌝ }
+        ensures max_file { Format.MAX_FILE ≡ max_file }
+        ensures max_variables { Format.MAX_VARIABLES ≡ max_variables }
+        ensures max_rules { Format.MAX_RULES ≡ max_rules }
+        ensures max_constraints { Format.MAX_CONSTRAINTS ≡ max_constraints }
+        ensures max_terms { Format.MAX_TERMS ≡ max_terms }
+        ensures max_number { Format.MAX_NUMBER ≡ pos max_number }
+        ensures max_coefficient { Format.MAX_COEFFICIENT ≡ pos max_coefficient }
+        ensures max_divisor { Format.MAX_DIVISOR ≡ pos max_divisor }
     {}
 }
 

@@ -1,5 +1,7 @@
 // The C interface: the calls, each with its answer packed in a number, or a bool where there is nothing more to say. include/founded.h declares them and
 // takes the answers apart.
+#![tactic(auto)]
+
 ghost use Rattle.std.specs.Prelude.{◌≡◌, true};
 ghost use Rattle.walks.specs.Walk.{Round};
 ghost use Rattle.reach.specs.Rows.{row_has};

@@ -1,4 +1,6 @@
 // Prints what a call wrote into a part of a larger room, and whether every other byte of the room is as it was; of a room of words the latter.
+#![tactic(auto)]
+
 ghost use Rattle.std.specs.Prelude.{◌≤◌, length};
 
 use libc::STDOUT_FILENO;

@@ -1,4 +1,6 @@
 // Targets for the values on the way to the least model, and the rules that are to show them. They are advice: crate targets checks them.
+#![tactic(auto)]
+
 pub mod levels;
 pub mod line;
 pub mod live;

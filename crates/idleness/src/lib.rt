@@ -1,4 +1,6 @@
 // Whether a rule is idle: it gives nothing, or no more than its head's starting end, whatever values its variables have in their ranges.
+#![tactic(auto)]
+
 ghost use Rattle.std.specs.Prelude.{◌≡◌, ◌≢◌, ℕ, ◌<◌, ◌≤◌, nat_abs, length, set};
 ghost use Rattle.format.specs.Limits.{max_variables, max_number};
 ghost use Rattle.program.specs.Program.{rule_of, variables_at};

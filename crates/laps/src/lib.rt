@@ -1,4 +1,6 @@
 // Rules looked at in any order, and those that raised a head last.
+#![tactic(auto)]
+
 ghost use Rattle.std.specs.Prelude.{◌≡◌, ◌≤◌, ◌<◌, length};
 ghost use Rattle.format.specs.Limits.{max_variables, max_rules};
 ghost use Rattle.words.specs.Bit.{word_count};

@@ -27,7 +27,7 @@ impl Asks {
 
     // The constant of the code is that of the specification.
     pub fn quoted()
-        ensures* { do ⌜ (← (⟦Asks::BYTES⟧).entry) ≡ least_bytes ⌝ }
+        ensures { Asks.BYTES ≡ least_bytes }
     {}
 }
 

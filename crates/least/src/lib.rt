@@ -1,3 +1,5 @@
 // The call least.
+#![tactic(auto)]
+
 pub mod call;
 pub mod writing;

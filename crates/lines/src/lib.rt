@@ -1,4 +1,6 @@
 // The text of an answer: its first line, and the lines of the report's entries.
+#![tactic(auto)]
+
 ghost use Rattle.std.specs.Prelude.{◌++◌, ◌+◌, ◌*◌, ◌≤◌, length};
 ghost use Rattle.verdict.specs.Checks.{unfounded, answer_of};
 ghost use Rattle.text.specs.Decimal.{decimal};

@@ -2,7 +2,7 @@
 use Prim.Native.Nat.{ℕ, zero, suc, ◌+◌}
 use mathlib.Core.Path.{◌≡◌, sym, ap, ap₂, ◌∙◌, subst}
 use mathlib.Core.List.{List, [], ◌∷◌, ◌++◌}
-use mathlib.Core.Bool.{Bool, ◌||◌, or_false, or_assoc}
+use mathlib.Core.Bool.{Bool, ◌||◌, or-false, or_assoc}
 use native.Mathlib.Nat.{add-zero, add-suc}
 use lib.ListN.{length, length-append, get_or-append}
 use lib.Seq.{get_or-append-add}
@@ -17,7 +17,7 @@ use Rattle.linking.specs.Drawing.{drawn_by}
 -- the numbers below m, then n more
 any_sum : (m n : ℕ) (p : ℕ → Bool) → any_below (m + n) p ≡ (any_below m p || any_below n (λ i. p (m + i)))
 unfolding any_below
-any_sum m zero p = ap (λ (k : ℕ). any_below k p) (add-zero m) ∙ sym (or_false (any_below m p))
+any_sum m zero p = ap (λ (k : ℕ). any_below k p) (add-zero m) ∙ sym (or-false (any_below m p))
 any_sum m (suc n) p =
     ap (λ (k : ℕ). any_below k p) (add-suc m n) ∙ ap (λ (t : Bool). t || p (m + n)) (any_sum m n p) ∙ or_assoc (any_below m p) (any_below n (λ i. p (m + i))) (p (m + n))
 
@@ -33,7 +33,7 @@ module _ (vs : List Variable) where
 
   pub drawn_none : (t : ℕ → ℕ → Bool) → Grown t t (drawn_by vs [])
   unfolding drawn_by any_below
-  drawn_none t = record { is = λ a b ha hb. sym (or_false (t a b)) }
+  drawn_none t = record { is = λ a b ha hb. sym (or-false (t a b)) }
 
   pub drawn_one : {t t' : ℕ → ℕ → Bool} (r : Rule) → Grown t t' (draws_by vs r) → Grown t t' (drawn_by vs (r ∷ []))
   unfolding drawn_by any_below

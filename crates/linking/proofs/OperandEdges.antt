@@ -1,7 +1,7 @@
 -- The edges of a node's rule: an operand is kept exactly where it is of the head's kind, and none is mixed.
 use Prim.Native.Nat.{ℕ, ◌<◌}
 use mathlib.Core.Path.{◌≡◌, refl, sym, ap, ap₂, ◌∙◌, subst}
-use mathlib.Core.Bool.{Bool, true, false, ◌||◌, or_false, or_true}
+use mathlib.Core.Bool.{Bool, true, false, ◌||◌, or-false, or-true}
 use mathlib.Core.List.{List}
 use native.Mathlib.Omega.{arith}
 use borrow.Author.Tests.{eqb-true, eq-eqb, ne_eqb}
@@ -29,14 +29,14 @@ from_below kind = go (eqb kind 2) refl
   where
     go : (b : Bool) → eqb kind 2 ≡ b → kind_kept 1 kind ≡ eqb 1 kind
     go true e = let q = eqb-true kind 2 e in rw (e, ne_eqb 1 kind (λ d. omega arith))
-    go false e = rw e (or_false (eqb kind 1) ∙ eqb_swap kind 1)
+    go false e = rw e (or-false (eqb kind 1) ∙ eqb_swap kind 1)
 
 from_above_is : (kind : ℕ) → kind_kept 2 kind ≡ eqb 2 kind
 unfolding kind_kept
 from_above_is kind = go (eqb kind 2) refl
   where
     go : (b : Bool) → eqb kind 2 ≡ b → kind_kept 2 kind ≡ eqb 2 kind
-    go true e = rw (e, ← eqb_swap kind 2, e) (or_true (eqb kind 1))
+    go true e = rw (e, ← eqb_swap kind 2, e) (or-true (eqb kind 1))
     go false e = rw (e, ← eqb_swap kind 2, e)
 
 own_kind : (head kind : ℕ) → (eqb head 1 || eqb head 2) ≡ true → kind_kept head kind ≡ eqb head kind
@@ -66,7 +66,7 @@ operand-draws {vs} {r} k i l =
     let inside : i < length k.operands = omega (arith, ap (λ (q : Rule). length q.terms) k.is, length-map k.operands (node_term k.form)) in
     let keeps = subst (λ (q : Rule). kept vs q i ≡ eqb (variable_in vs q.head).kind (variable_in vs (body_variable q i)).kind) (sym k.is)
     (node_draws byte vs k.head k.operands (subst (λ (h : ℕ). is_founded (variable_in vs h) ≡ true) head p.head_founded) i inside) in
-    ap₂ (λ (a b : Bool). a || b) keeps mixed ∙ or_false _
+    ap₂ (λ (a b : Bool). a || b) keeps mixed ∙ or-false _
 
 -- what the code reads: h and v are the head's variable and the operand's
 module _ {vs : List Variable} {r : Rule} (k : NodeValue vs r) (i : ℕ) (l : i < length r.terms) {h v : Variable} (head : h ≡ variable_in vs r.head) (own : v ≡ variable_in vs (body_variable r i)) where

@@ -1,4 +1,6 @@
 // Whether the plain file of a nested file is valid: the edges of its old rules and of those of its trees.
+#![tactic(auto)]
+
 ghost use Rattle.std.specs.Prelude.{◌≡◌, [], ◌∷◌, ℕ, ◌+◌, ◌<◌, ◌≤◌, length, drop};
 ghost use Rattle.format.specs.Limits.{max_variables};
 ghost use Rattle.program.specs.Program.{rule_of, variables_at};

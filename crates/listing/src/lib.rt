@@ -1,4 +1,6 @@
 // What the program `bounds` writes: a line for the bound of each founded variable, or the line of a refusal.
+#![tactic(auto)]
+
 ghost use Rattle.std.specs.Prelude.{◌≡◌, ℕ, ◌+◌, ◌*◌, ◌<◌, ◌≤◌, nat_abs, length};
 ghost use Rattle.format.specs.Limits.{max_variables};
 ghost use Rattle.program.specs.Program.{variable_in, variables_at};
@@ -33,9 +35,9 @@ impl Listing {
 
     // The constants of the code are those of the specification.
     pub fn quoted()
-        ensures* do_value { do ⌜ (← (⟦Listing::MAX_INPUT⟧).entry) ≡ max_input ⌝ }
-        ensures* do_value_2 { do ⌜ (← (⟦Listing::BUFFER⟧).entry) ≡ buffer_bytes ⌝ }
-        ensures* do_value_3 { do ⌜ (← (⟦Listing::ROOM⟧).entry) ≡ room ⌝ }
+        ensures max_input { Listing.MAX_INPUT ≡ max_input }
+        ensures buffer { Listing.BUFFER ≡ buffer_bytes }
+        ensures room { Listing.ROOM ≡ room }
     {}
 }
 

@@ -3,7 +3,7 @@
 use Prim.Native.Nat.{ℕ}
 use mathlib.Core.Path.{◌≡◌, refl, sym, ap, ap₂, ◌∙◌, subst}
 use mathlib.Core.Logic.{◌↔◌}
-use mathlib.Core.Bool.{Bool, true, false, not, cond, ◌||◌, ◌&&◌, or_true, and_true, and-false}
+use mathlib.Core.Bool.{Bool, true, false, not, cond, ◌||◌, ◌&&◌, or-true, and-true, and-false}
 use lib.Dec.{T, eqb}
 use lib.IntN.{ℤ, neg_ℤ}
 use lib.Signed.{le_z}
@@ -60,7 +60,7 @@ module _ (x : Variable) where
   mirrored_below = by_kind (λ y t. from_above y ≡ false) (λ e. refl) (λ e. e)
 
   pub mirrored_founded : is_founded (mirrored x) ≡ is_founded x
-  mirrored_founded = by_kind (λ y t. is_founded y ≡ is_founded x) (λ e. sym (ap (λ (b : Bool). eqb x.kind 1 || b) e ∙ or_true (eqb x.kind 1))) (λ e. refl)
+  mirrored_founded = by_kind (λ y t. is_founded y ≡ is_founded x) (λ e. sym (ap (λ (b : Bool). eqb x.kind 1 || b) e ∙ or-true (eqb x.kind 1))) (λ e. refl)
 
   pub mirrored_order : (a b : ℤ) → not_past (mirrored x) (ahead x a) (ahead x b) ≡ not_past x a b
   unfolding not_past
@@ -72,7 +72,7 @@ module _ (x : Variable) where
       (λ e. ap₂ ◌&&◌ (negated_order x.high a) (negated_order a x.low) ∙ and_swap (le_z a x.high) (le_z x.low a)) (λ e. refl)
     where
       and_swap : (p q : Bool) → (p && q) ≡ (q && p)
-      and_swap true q = sym (and_true q)
+      and_swap true q = sym (and-true q)
       and_swap false q = sym (and-false q)
 
   pub mirrored_start : start (mirrored x) ≡ ahead x (start x)

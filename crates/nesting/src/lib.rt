@@ -1,4 +1,6 @@
 // Reads the trees of a nested file, which stand after its plain part.
+#![tactic(auto)]
+
 ghost use Rattle.std.specs.Prelude.{◌≡◌, ◌+◌, ◌*◌, ◌≤◌, length, take};
 ghost use Rattle.format.specs.Limits.{max_file};
 ghost use Rattle.program.specs.Program.{variables_at};

@@ -1,4 +1,6 @@
 // The rules of a tree's nodes, in the bytes of a plain file.
+#![tactic(auto)]
+
 ghost use Rattle.std.specs.Prelude.{◌≡◌, [], ◌∷◌, ◌+◌, ◌*◌, ◌<◌, ◌≤◌, pos, length, drop, get_or};
 ghost use Rattle.format.specs.Limits.{max_variables};
 ghost use Rattle.format.specs.Numbers.{bytes_of};
@@ -12,7 +14,7 @@ use rewriting::writing::put;
 use skipping::skip;
 
 // An inner node, or a root: its form and head, where its children begin, how many there are, and the first number that is free for them.
-#[derive(Drop)]
+#[derive(Clone, Copy)]
 pub struct Inner {
     pub form: u8,
     pub head: u8,

@@ -1,4 +1,6 @@
 // The nodes of trees, as they stand in their bytes: two bytes a node.
+#![tactic(auto)]
+
 ghost use Rattle.std.specs.Prelude.{◌≡◌, false, ◌*◌, ◌≤◌, leb, length, drop};
 ghost use Rattle.format.specs.Limits.{max_file};
 ghost use Rattle.flat.specs.Flat.{OneTree, inners_in, leaves_in, any_in, twice_with, size_in, flat_size};

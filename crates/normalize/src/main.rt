@@ -1,4 +1,6 @@
 // Reads a rule file from standard input to its end and writes it in its normal form, or the line of its refusal.
+#![tactic(auto)]
+
 use format::Format;
 use libc::{STDIN_FILENO, STDOUT_FILENO};
 

@@ -1,4 +1,6 @@
 // The word and the numbers of each answer, and how they are packed.
+#![tactic(auto)]
+
 ghost use Rattle.std.specs.Prelude.{◌≡◌};
 ghost use Rattle.program.specs.Reading as read;
 ghost use Rattle.meaning.specs.Calls.{denial_number, denial_place};
@@ -18,7 +20,7 @@ use search::Beginning;
 use verdict::Verdict;
 
 // An answer's word and its numbers, 0 where there is none.
-#[derive(Drop)]
+#[derive(Clone, Copy)]
 pub struct Parts {
     pub word: usize,
     pub first: usize,

@@ -1,8 +1,10 @@
 // A line of the table of `samples` taken apart: a word, which is told by its first letter, a name and a colon, and a case, whose bytes are put
 // after those of the beginning.
+#![tactic(auto)]
+
 ghost use Rattle.std.specs.Prelude.{◌≡◌, ◌≤◌, ◌<◌, length};
 
-use bytes::scan::find;
+use pieces::find;
 use pieces::{WRONG, appended, decimal};
 
 // The part of the room that a call is lent starts here.

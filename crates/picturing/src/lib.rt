@@ -1,4 +1,6 @@
 // The sets of a search and its components, printed for `samples`.
+#![tactic(auto)]
+
 ghost use Rattle.std.specs.Prelude.{◌≤◌, length};
 
 use telling::{say, text};

@@ -1,10 +1,24 @@
 // The bytes that a text stands for: pieces with commas between them, each byte three characters, and a piece's bytes so many times.
-ghost use Rattle.std.specs.Prelude.{◌≤◌};
+#![tactic(auto)]
 
-use bytes::scan::find;
+ghost use Rattle.std.specs.Prelude.{◌≤◌, length};
 
 // More than any room has: the answer for a text that is wrong.
 pub const WRONG: usize = 1000000;
+
+// The place of the first byte x from `from` on and below `to`, and `to` where there is none.
+pub fn find(text: &[u8], from: usize, to: usize, x: u8) -> usize
+    requires ordered { from ≤ to }
+    requires inside { to ≤ length text.now }
+    ensures { (from ≤ result) × (result ≤ to) }
+{
+    for i in from..to {
+        if text[i] == x {
+            return i;
+        }
+    }
+    to
+}
 
 // What a hexadecimal digit stands for, and 256 for any other character.
 fn digit(x: u8) -> usize

@@ -1,4 +1,6 @@
 // The plain part of a nested file: the fields before its first tree.
+#![tactic(auto)]
+
 ghost use Rattle.plainpart.specs.PlainPart.{FirstTree, Plains};
 
 use fields::answers::Scanned;

@@ -8,7 +8,7 @@ ghost use Rattle.positions.specs.Kinds.{direction_of, plain_kind, kind_in, kept_
 use program::{Term, Variable};
 
 // Of a term whose number is not negative, and of one whose number is; 0 where none is kept.
-#[derive(Drop)]
+#[derive(Clone, Copy)]
 pub struct Kinds {
     pub up: u32,
     pub down: u32,

@@ -1,4 +1,6 @@
 // The positions of a rule's body: the variable there, and which way it pushes.
+#![tactic(auto)]
+
 ghost use Rattle.std.specs.Prelude.{◌<◌, length};
 ghost use Rattle.program.specs.Program.{rule_of, variables_at};
 ghost use Rattle.parts.specs.Values.{Standing};
@@ -11,7 +13,7 @@ pub mod directions;
 pub mod kinds;
 
 // What the positions of a rule have in common: its form, its head and the variable of its head.
-#[derive(Drop)]
+#[derive(Clone, Copy)]
 pub struct Opened {
     pub form: u8,
     pub head: u8,

@@ -1,4 +1,6 @@
 // The printing program: reads standard input to its end and prints the text for it.
+#![tactic(auto)]
+
 use libc::{STDIN_FILENO, STDOUT_FILENO};
 use printing::Printing;
 

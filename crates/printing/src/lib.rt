@@ -1,4 +1,6 @@
 // The printing program's text: the answer of the check, and its report's entries, in lines.
+#![tactic(auto)]
+
 ghost use Rattle.std.specs.Prelude.{◌≡◌};
 ghost use Rattle.printing.specs.Prints.{max_input, report_bytes, room, Told, Printed};
 
@@ -22,9 +24,9 @@ impl Printing {
 
     // The constants of the code are those of the specification.
     pub fn quoted()
-        ensures* do_value { do ⌜ (← (⟦Printing::MAX_INPUT⟧).entry) ≡ max_input ⌝ }
-        ensures* do_value_2 { do ⌜ (← (⟦Printing::REPORT⟧).entry) ≡ report_bytes ⌝ }
-        ensures* do_value_3 { do ⌜ (← (⟦Printing::ROOM⟧).entry) ≡ room ⌝ }
+        ensures max_input { Printing.MAX_INPUT ≡ max_input }
+        ensures report { Printing.REPORT ≡ report_bytes }
+        ensures room { Printing.ROOM ≡ room }
     {}
 }
 

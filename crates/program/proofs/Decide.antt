@@ -3,7 +3,7 @@ use Prim.Native.Nat.{ℕ, ◌+◌, ◌<◌, ◌≤◌}
 use mathlib.Core.Path.{◌≡◌}
 use mathlib.Core.Logic.{◌⊎◌, inl, inr}
 use mathlib.Core.List.{List}
-use mathlib.Core.Bool.{Bool, true, false, not, ◌||◌, ◌&&◌, or_true}
+use mathlib.Core.Bool.{Bool, true, false, not, ◌||◌, ◌&&◌, or-true}
 use native.Mathlib.Omega.{arith}
 use lib.ListN.{length}
 use lib.Dec.{eqb, leb}
@@ -81,7 +81,7 @@ module _ (P : Program) (b : ℕ) (heads : HeadsBelow P b) where
   share_tested : (x y : ℕ) → Share P x y → share_test P b x y ≡ true
   unfolding share_test
   share_tested x y (inl e) = rw (eq-eqb x y e)
-  share_tested x y (inr w) = rw (reaches_test x y w.0, reaches_test y x w.1) (or_true (eqb x y))
+  share_tested x y (inr w) = rw (reaches_test x y w.0, reaches_test y x w.1) (or-true (eqb x y))
 
 -- for the rules of a program that meets no refusal
 module _ {P : Program} (promises : Promises P) (b : ℕ) (heads : HeadsBelow P b) (i : ℕ) where

@@ -1,4 +1,6 @@
 // The program that a rule file means, and what reading a file answers. The definitions stand in specs/, the laws about them in proofs/.
+#![tactic(auto)]
+
 ghost use Rattle.std.specs.Prelude.{◌≡◌, ◌<◌};
 ghost use Rattle.format.specs.Limits.{max_file};
 ghost use Rattle.program.specs.Reading.{number_of, counted};
@@ -9,7 +11,7 @@ pub mod directions;
 pub mod ranges;
 
 // Why a file is turned down.
-#[derive(Drop)]
+#[derive(Clone, Copy)]
 pub enum Refusal {
     FileTooLong,
     CutShort,
@@ -48,7 +50,7 @@ pub fn number_of(why: Refusal) -> usize
 }
 
 // How many variables, rules and constraints a file has.
-#[derive(Drop)]
+#[derive(Clone, Copy)]
 pub struct Counts {
     pub variables: usize,
     pub rules: usize,
@@ -93,7 +95,7 @@ impl Counts {
 }
 
 // A variable: its kind (0 standard, 1 founded, 2 founded from above) and its range.
-#[derive(Drop)]
+#[derive(Clone, Copy)]
 pub struct Variable {
     pub kind: u8,
     pub low: i64,
@@ -101,7 +103,7 @@ pub struct Variable {
 }
 
 // A term: op 0 is a plain one, op 1 says variable ≥ number, op 2 variable < number; op 3 carries a divisor and names no variable.
-#[derive(Drop)]
+#[derive(Clone, Copy)]
 pub struct Term {
     pub variable: u8,
     pub op: u8,
@@ -116,7 +118,7 @@ pub enum Reading {
 }
 
 // Which way a position of a rule's body pushes.
-#[derive(Drop)]
+#[derive(Clone, Copy)]
 pub enum Direction {
     Rising,
     Falling,

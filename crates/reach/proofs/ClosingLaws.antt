@@ -1,7 +1,7 @@
 -- A row that takes in the rows of its variables, and rows closed one after the other.
 use mathlib.Core.Path.{◌≡◌, refl, sym, ap, ap₂, ◌∙◌, subst}
 use mathlib.Core.Logic.{⊎_elim}
-use mathlib.Core.Bool.{Bool, true, false, ◌||◌, ◌&&◌, not, or_false, or_true, and-false, true≢false}
+use mathlib.Core.Bool.{Bool, true, false, ◌||◌, ◌&&◌, not, or-false, or-true, and-false, true≢false}
 use mathlib.Core.List.{List, [], ◌∷◌}
 use Prim.Native.Nat.{ℕ, zero, suc, ◌+◌, ◌-◌, ◌*◌, ◌/◌, ◌%◌, ◌^◌, ◌≤◌, ◌<◌, min}
 use native.Mathlib.Nat.{mod-lt, pow-suc}
@@ -160,7 +160,7 @@ module _ {r r' : ℕ → ℕ → Bool} {n x : ℕ} {left : ℕ → Bool} (few : 
       kept j hj p = row_x j hj ∙ or_left (r' x j) (r' m j) p
 
       others : (a b : ℕ) → eqb a x ≡ false → b < max_variables → r'' a b ≡ r a b
-      others a b f hb = joins.is a b hb ∙ ap (λ (y : Bool). r' a b || (y && r' m b)) f ∙ or_false (r' a b) ∙ t.others a b f hb
+      others a b f hb = joins.is a b hb ∙ ap (λ (y : Bool). r' a b || (y && r' m b)) f ∙ or-false (r' a b) ∙ t.others a b f hb
 
       sound : (j : ℕ) → j < max_variables → r'' x j ≡ true → ReachedIn r n x j
       sound j hj p = ⊎_elim (λ q. t.sound j hj q) (λ q. reached_on (t.sound m (omega arith) member) hm (row_reached m j hj q))
@@ -172,7 +172,7 @@ module _ {r r' : ℕ → ℕ → Bool} {n x : ℕ} {left : ℕ → Bool} (few : 
           go : (b : Bool) → eqb i m ≡ b → r'' x j ≡ true
           go true e =
               let q = row_kept m j hj (rw (eqb-true i m e) at p) in
-              row_x j hj ∙ ap (λ (y : Bool). r' x j || y) q ∙ or_true (r' x j)
+              row_x j hj ∙ ap (λ (y : Bool). r' x j || y) q ∙ or-true (r' x j)
           go false e = kept j hj (t.taken i j hi hj (sym (drops i ∙ ap (λ (y : Bool). not y && left i) e) ∙ f) p)
 
   -- none of its variables is left
@@ -240,7 +240,7 @@ module _ {r r₁ r₂ : ℕ → ℕ → Bool} {n x : ℕ} {p : ℕ → Bool} (fe
       parts false z f = (refl, f)
 
       earlier : (y : ℕ) → (p y || eqb y x) ≡ true → eqb y x ≡ false → p y ≡ true
-      earlier y e f = sym (ap (λ (b : Bool). p y || b) f ∙ or_false (p y)) ∙ e
+      earlier y e f = sym (ap (λ (b : Bool). p y || b) f ∙ or-false (p y)) ∙ e
 
       sound : (y j : ℕ) → j < max_variables → r₂ y j ≡ true → (p y || eqb y x) ≡ true → (b : Bool) → eqb y x ≡ b → ReachedIn r n y j
       sound y j hj h e true q = let w = d.sound y j q hj h in backs w.1 hj w.2
@@ -269,10 +269,10 @@ module _ (p : ℕ → Bool) where
     where
       go : Dec (a ≡ x) → Dec (a < from) → Dec (a < x) → ((ltb a from && p a) || eqb a x) ≡ (ltb a (x + 1) && p a)
       go (yes e) d d' =
-          ap (λ (b : Bool). (ltb a from && p a) || b) (eq-eqb a x e) ∙ or_true (ltb a from && p a)
+          ap (λ (b : Bool). (ltb a from && p a) || b) (eq-eqb a x e) ∙ or-true (ltb a from && p a)
           ∙ sym (ap₂ ◌&&◌ (lt-ltb a (x + 1) (omega arith)) (ap p e ∙ l.member))
       go (no f) (yes h) d' =
-          ap₂ (λ (b b' : Bool). (b && p a) || b') (lt-ltb a from h) (ne_eqb a x f) ∙ or_false (p a)
+          ap₂ (λ (b b' : Bool). (b && p a) || b') (lt-ltb a from h) (ne_eqb a x f) ∙ or-false (p a)
           ∙ sym (ap (λ (b : Bool). b && p a) (lt-ltb a (x + 1) (omega (arith, l.above))))
       go (no f) (no g) (yes h) =
           ap₂ (λ (b b' : Bool). (b && p a) || b') (le-ltb a from (omega arith)) (ne_eqb a x f)

@@ -1,7 +1,7 @@
 -- Laws of rows: what each row has after words of the list are stored.
 use mathlib.Core.Path.{◌≡◌, refl, sym, ap, ap₂, ◌∙◌}
 use mathlib.Core.Logic.{◌≢◌}
-use mathlib.Core.Bool.{Bool, true, false, ◌||◌, ◌&&◌, or_false}
+use mathlib.Core.Bool.{Bool, true, false, ◌||◌, ◌&&◌, or-false}
 use mathlib.Core.List.{List}
 use Prim.Native.Nat.{ℕ, ◌+◌, ◌*◌, ◌/◌, ◌%◌, ◌^◌, ◌≤◌, ◌<◌}
 use native.Mathlib.Decide.{ℕ_discrete, dec_lt}
@@ -47,7 +47,7 @@ row_all vs ws i k t l g s = record { is = λ a b hb. go a b hb (ℕ_discrete a i
         ∙ ap₂ (λ (x : ℕ) (y : Bool). row_has vs x b || (y && row_has vs k b)) (sym e) (sym (eq-eqb a i e))
     go a b hb (no f) =
         ap (λ (w : ℕ). bit w (b % word_bits)) (other a b hb f (dec_lt a i))
-        ∙ sym (or_false (row_has vs a b)) ∙ ap (λ (y : Bool). row_has vs a b || (y && row_has vs k b)) (sym (ne_eqb a i f))
+        ∙ sym (or-false (row_has vs a b)) ∙ ap (λ (y : Bool). row_has vs a b || (y && row_has vs k b)) (sym (ne_eqb a i f))
 
 -- the number of v of row i where all rows are one set
 abbrev flat : ℕ → ℕ → ℕ

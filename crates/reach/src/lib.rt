@@ -1,4 +1,6 @@
 // A set for each variable, as rows of lent words, and what is reached over edges, round by round.
+#![tactic(auto)]
+
 ghost use Rattle.std.specs.Prelude.{◌≡◌, true, ◌&&◌, ℕ, ◌+◌, ◌*◌, ◌<◌, ◌≤◌, eqb, length};
 ghost use Rattle.format.specs.Limits.{max_variables};
 ghost use Rattle.words.specs.Bit.{word_count, has, one_if};
@@ -20,7 +22,7 @@ impl Rows {
 
     // The constant of the code is that of the specification.
     pub fn quoted()
-        ensures* { do ⌜ (← (⟦Rows::LENGTH⟧).entry) ≡ rows_length ⌝ }
+        ensures { Rows.LENGTH ≡ rows_length }
     {}
 }
 

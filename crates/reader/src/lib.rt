@@ -1,4 +1,6 @@
 // Reads a rule file: `read` answers for every slice of bytes.
+#![tactic(auto)]
+
 ghost use Rattle.std.specs.Prelude.{true};
 ghost use Rattle.program.specs.Reading.{Reads, answer_of};
 ghost use Rattle.fields.specs.Scanning.{Counted};

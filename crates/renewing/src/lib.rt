@@ -1,4 +1,6 @@
 // What the program `normalize` writes: the normal form of its input, or the line of a refusal.
+#![tactic(auto)]
+
 ghost use Rattle.std.specs.Prelude.{◌≤◌, length};
 ghost use Rattle.renewing.specs.Renews.{room, Renewed};
 

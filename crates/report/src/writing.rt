@@ -26,10 +26,10 @@ impl Mark {
 
     // The marks of the code are those of the specification.
     pub fn quoted()
-        ensures* do_value { do ⌜ (← (⟦Mark::BOUND⟧).entry) ≡ bound ⌝ }
-        ensures* do_value_2 { do ⌜ (← (⟦Mark::BOUND_ABOVE⟧).entry) ≡ bound_above ⌝ }
-        ensures* do_value_3 { do ⌜ (← (⟦Mark::AT_MOST⟧).entry) ≡ at_most ⌝ }
-        ensures* do_value_4 { do ⌜ (← (⟦Mark::AT_LEAST⟧).entry) ≡ at_least ⌝ }
+        ensures bound { Mark.BOUND ≡ bound }
+        ensures bound_above { Mark.BOUND_ABOVE ≡ bound_above }
+        ensures at_most { Mark.AT_MOST ≡ at_most }
+        ensures at_least { Mark.AT_LEAST ≡ at_least }
     {}
 }
 

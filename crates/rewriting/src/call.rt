@@ -24,7 +24,7 @@ impl Fields {
 
     // The constant of the code is that of the specification.
     pub fn quoted()
-        ensures* { do ⌜ (← (⟦Fields::MOST⟧).entry) ≡ max_fields ⌝ }
+        ensures { Fields.MOST ≡ max_fields }
     {}
 }
 

@@ -1,3 +1,5 @@
 // The call normalize.
+#![tactic(auto)]
+
 pub mod call;
 pub mod writing;

@@ -1,4 +1,6 @@
 // The run to the least model: what rules demand of their heads, and the raises.
+#![tactic(auto)]
+
 ghost use Rattle.std.specs.Prelude.{◌≡◌};
 ghost use Rattle.run.specs.Running.{free_bit};
 
@@ -14,7 +16,7 @@ impl Masks {
 
     // The constant of the code is that of the specification.
     pub fn quoted()
-        ensures* { do ⌜ (← (⟦Masks::FREE⟧).entry) ≡ free_bit ⌝ }
+        ensures { Masks.FREE ≡ free_bit }
     {}
 }
 

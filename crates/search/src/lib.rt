@@ -1,5 +1,7 @@
 // A search of the components of a file, begun: the sets before the first round. `reach::step` does a round, `sharing::components` reads the
 // components off the sets after the last.
+#![tactic(auto)]
+
 ghost use Rattle.std.specs.Prelude.{◌≤◌, length};
 ghost use Rattle.fields.specs.Scanning.{Counted};
 ghost use Rattle.search.specs.BeginCall.{BeginCall, answer_of};

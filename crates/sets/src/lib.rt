@@ -1,4 +1,6 @@
 // A set of variables: one bit for each number.
+#![tactic(auto)]
+
 ghost use Rattle.std.specs.Prelude.{◌≡◌, ◌||◌, false, ℕ, eqb};
 ghost use Rattle.format.specs.Limits.{max_variables};
 ghost use Rattle.words.specs.Bit.{word_count, has, count_from, NextIs};
@@ -6,7 +8,7 @@ ghost use Rattle.words.specs.Bit.{word_count, has, count_from, NextIs};
 use words::{Found, Words, next_bit};
 
 // The words' bits are the numbers in order, the lowest bit first.
-#[derive(Drop)]
+#[derive(Clone, Copy)]
 pub struct Set {
     pub words: [u64; Set::WORDS],
 }
@@ -17,7 +19,7 @@ impl Set {
 
     // The constant of the code is that of the specification.
     pub fn quoted()
-        ensures* { do ⌜ (← (⟦Set::WORDS⟧).entry) ≡ word_count ⌝ }
+        ensures { Set.WORDS ≡ word_count }
     {}
 
     // The set that has nothing.

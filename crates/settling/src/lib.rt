@@ -1,4 +1,6 @@
 // From values on the way to the least model: components in order, laps and leaps, and then whatever still waits.
+#![tactic(auto)]
+
 ghost use Rattle.std.specs.Prelude.{◌≡◌, false, ℕ, ◌*◌, ◌≤◌, length};
 ghost use Rattle.format.specs.Limits.{max_variables};
 ghost use Rattle.words.specs.Bit.{has};

@@ -2,7 +2,7 @@
 use Prim.Native.Nat.{ℕ, zero, suc, ◌<◌, ◌≤◌}
 use mathlib.Core.Path.{◌≡◌, refl, sym, ◌∙◌, subst}
 use mathlib.Core.Logic.{◌↔◌, ◌⊎◌, inl, inr}
-use mathlib.Core.Bool.{Bool, true, false, ◌||◌, ◌&&◌, or_true, true≢false}
+use mathlib.Core.Bool.{Bool, true, false, ◌||◌, ◌&&◌, or-true, true≢false}
 use native.Mathlib.Nat.{not-suc-le-zero}
 use native.Mathlib.Numerals.{add-one}
 use native.Mathlib.Omega.{arith}
@@ -33,7 +33,7 @@ module _ (t : ℕ → ℕ → Bool) (x y : ℕ) where
   pub shares_tested : SharesIn t x y → share_in t x y ≡ true
   unfolding share_in
   shares_tested (inl e) = sym (share_same t x y e)
-  shares_tested (inr r) = rw (r.0, r.1) (or_true (eqb x y))
+  shares_tested (inr r) = rw (r.0, r.1) (or-true (eqb x y))
 
 -- ---- there is one first variable
 

@@ -1,4 +1,6 @@
 // What sets say of components: whether two variables share one, and the first variable of each.
+#![tactic(auto)]
+
 ghost use Rattle.std.specs.Prelude.{◌≡◌, ◌+◌, ◌*◌, ◌<◌, ◌≤◌, length};
 ghost use Rattle.format.specs.Limits.{max_variables};
 ghost use Rattle.words.specs.Bit.{word_count};

@@ -1,4 +1,6 @@
 // A line's case: its head printed before it is tried, and its answer after.
+#![tactic(auto)]
+
 ghost use Rattle.std.specs.Prelude.{◌≤◌, length};
 
 use guarding::{guarded, guarded_file};

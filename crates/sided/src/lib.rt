@@ -1,4 +1,6 @@
 // A body read in values that stand twice: for each variable first what rising positions read of it, then what falling ones do.
+#![tactic(auto)]
+
 ghost use Rattle.std.specs.Prelude.{◌≡◌, Bool, not, cond, ℕ, ◌+◌, ◌-◌, ◌*◌, ◌/◌, ◌<◌, ◌≤◌, eqb, pos, nat_abs, ◌+ℤ◌, ◌*ℤ◌, length, set};
 ghost use Rattle.std.specs.Int.Signed.{lt_z};
 ghost use Rattle.format.specs.Limits.{max_terms, max_number, max_coefficient};
@@ -22,7 +24,7 @@ impl Sides {
 
     // The constant of the code is that of the specification.
     pub fn quoted()
-        ensures* { do ⌜ (← (⟦Sides::LENGTH⟧).entry) ≡ sides_length ⌝ }
+        ensures { Sides.LENGTH ≡ sides_length }
     {}
 }
 

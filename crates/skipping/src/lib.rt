@@ -1,4 +1,6 @@
 // Trees skipped, as they stand in their bytes.
+#![tactic(auto)]
+
 ghost use Rattle.std.specs.Prelude.{◌≤◌, length, drop};
 ghost use Rattle.flat.specs.Flat.{Stand};
 ghost use Rattle.skipping.specs.Skipping.{Skips};

@@ -1,4 +1,6 @@
 // The least model: sweeps over the rules as they stand, and where these do not settle it, components in order, laps and leaps.
+#![tactic(auto)]
+
 ghost use Rattle.std.specs.Prelude.{◌≡◌, true, ℕ, ◌<◌, ◌≤◌, length};
 ghost use Rattle.format.specs.Limits.{max_variables};
 ghost use Rattle.program.specs.Program.{Program};

@@ -1,7 +1,7 @@
 -- The tables and the fields of a tree's added variables, filled from the last inner node to the first.
 use Prim.Native.Nat.{ℕ, ◌+◌, ◌-◌, ◌*◌, ◌/◌, ◌<◌, ◌≤◌}
 use mathlib.Core.Path.{◌≡◌, refl, sym, ap, ap₂, subst, ◌∙◌}
-use mathlib.Core.Bool.{Bool, true, false, not, ◌||◌, or_true}
+use mathlib.Core.Bool.{Bool, true, false, not, ◌||◌, or-true}
 use mathlib.Core.List.{List, ◌∷◌, ◌++◌}
 use native.Mathlib.Omega.{arith}
 use borrow.Author.Tests.{ltb-true, ltb-false}
@@ -192,7 +192,7 @@ module _ {s : List ℕ} {next kind : ℕ} {lows highs : List ℤ} {records : Lis
               go : (p : Bool) → beyond max_number (node_value s node lows') ≡ p → (q : Bool) → beyond max_number (node_value s node highs') ≡ q → (p || q) ≡ true
                   → false ≡ not (any_beyond (values_in (valued lows) next (drop 2 s)) || any_beyond (values_in (valued highs) next (drop 2 s)))
               go true e q f t = rw (all_of (valued lows) (held_far at n two ne k.lows_held low_is room e))
-              go false e true f t = rw (all_of (valued highs) (held_far at n two ne k.highs_held high_is room f), or_true)
+              go false e true f t = rw (all_of (valued highs) (held_far at n two ne k.highs_held high_is room f), or-true)
               go false e false f t = let z : ◌≡◌ {A = ℕ} 0 1 = cc in absurd (omega arith)
 
           -- the node is entered, or the walk stops

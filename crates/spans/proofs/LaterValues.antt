@@ -1,7 +1,7 @@
 -- The values of a tree's inner nodes, from a place of its bytes on.
 use Prim.Native.Nat.{ℕ, zero, suc, ◌+◌, ◌*◌, ◌<◌, ◌≤◌}
 use mathlib.Core.Path.{◌≡◌, refl, ap, subst, ◌∙◌}
-use mathlib.Core.Bool.{Bool, true, false, cond, or_true}
+use mathlib.Core.Bool.{Bool, true, false, cond, or-true}
 use mathlib.Core.List.{List, [], ◌∷◌, map}
 use native.Mathlib.Numerals.{add-one}
 use native.Mathlib.Omega.{arith}
@@ -50,7 +50,7 @@ module _ (a : Valuation) (n : ℕ) (s : List ℕ) (at : ℕ) (h : at + 1 < lengt
 
 beyond_rest : (z : ℤ) (zs : List ℤ) → any_beyond zs ≡ true → any_beyond (z ∷ zs) ≡ true
 unfolding any_beyond
-beyond_rest z zs e = rw (e, or_true)
+beyond_rest z zs e = rw (e, or-true)
 
 module _ (s : List ℕ) where
   pub inners_later : (j at : ℕ) → at + 2 * j ≤ length s → inners_in (drop (at + 2 * j) s) ≤ inners_in (drop at s)

@@ -1,4 +1,6 @@
 // The ranges of a tree's added variables: each node's values with all leaves at their lows and with all at their highs.
+#![tactic(auto)]
+
 ghost use Rattle.std.specs.Prelude.{◌≡◌, true, not, ◌||◌, List, ◌++◌, ◌+◌, ◌*◌, ◌≤◌, ◌<◌, nat_abs, length, drop};
 ghost use Rattle.format.specs.Limits.{max_variables, max_number};
 ghost use Rattle.program.specs.Readings.{valued};
@@ -26,7 +28,7 @@ impl Records {
 
     // The constant of the code is that of the specification.
     pub fn quoted()
-        ensures* { do ⌜ (← (⟦Records::LENGTH⟧).entry) ≡ records_length ⌝ }
+        ensures { Records.LENGTH ≡ records_length }
     {}
 }
 

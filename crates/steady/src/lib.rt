@@ -1,5 +1,7 @@
 // What a rule is estimated to give on the way from present values to aims: position i of its body is read in `first`, and its aim in `aims`, where bit i of `kept` is
 // set, and both in `second` else.
+#![tactic(auto)]
+
 ghost use Rattle.std.specs.Prelude.{◌≡◌, ◌≤◌, pos, nat_abs, ◌≤ℤ◌, length};
 ghost use Rattle.format.specs.Limits.{max_number};
 ghost use Rattle.program.specs.Program.{rule_of, terms_of};

@@ -1,5 +1,7 @@
 // The search of a file's components by the calls of the C interface, for `samples`: it is begun in a part of a larger room of words, stepped through and
 // read off, and what the words and bytes say is printed each time.
+#![tactic(auto)]
+
 ghost use Rattle.std.specs.Prelude.{◌+◌, ◌*◌, ◌≤◌, length};
 
 use founded::{founded_begin, founded_components, founded_step};

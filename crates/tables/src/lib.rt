@@ -1,4 +1,6 @@
 // The tables of a run: where each rule stands and which of its positions are kept; and which rules read a variable.
+#![tactic(auto)]
+
 ghost use Rattle.std.specs.Prelude.{◌≡◌, ◌&&◌, false, ℕ, ◌*◌, ◌<◌, ◌≤◌, eqb, length, get_or};
 ghost use Rattle.format.specs.Limits.{max_file, max_rules, max_terms};
 ghost use Rattle.words.specs.Bit.{has, bit};
@@ -38,10 +40,10 @@ impl Tables {
 
     // The constants of the code are those of the specification.
     pub fn quoted()
-        ensures* do_value { do ⌜ (← (⟦Tables::ROW⟧).entry) ≡ row_words ⌝ }
-        ensures* do_value_2 { do ⌜ (← (⟦Tables::READERS⟧).entry) ≡ readers_words ⌝ }
-        ensures* do_value_3 { do ⌜ (← (⟦Tables::NARROW⟧).entry) ≡ narrow_variables ⌝ }
-        ensures* do_value_4 { do ⌜ (← (⟦Tables::MIDDLE⟧).entry) ≡ middle_variables ⌝ }
+        ensures row { Tables.ROW ≡ row_words }
+        ensures readers { Tables.READERS ≡ readers_words }
+        ensures narrow { Tables.NARROW ≡ narrow_variables }
+        ensures middle { Tables.MIDDLE ≡ middle_variables }
     {}
 }
 

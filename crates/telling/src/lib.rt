@@ -1,4 +1,6 @@
 // Reads the table, and prints an answer's word and numbers, and the text of the printing program.
+#![tactic(auto)]
+
 ghost use Rattle.std.specs.Prelude.{◌≡◌, length};
 ghost use Rattle.io.specs.Counts.{IsPrefixLen};
 

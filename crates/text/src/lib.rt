@@ -1,5 +1,7 @@
 // Text appended to a lent output. `at` is how many bytes the text has so far; each function answers how many it then has. A byte that the output
 // has no room for is left out, and counted all the same. The bounds on `at` keep the sums from wrapping; each function leaves room for its callees.
+#![tactic(auto)]
+
 ghost use Rattle.std.specs.Prelude.{[], ◌∷◌, ◌+◌, ◌≤◌, nat_abs, length};
 ghost use Rattle.text.specs.Decimal.{decimal, number};
 ghost use Rattle.text.specs.Output.{Appends};

@@ -1,4 +1,6 @@
 // A field of tag 5: its tree, and the refusals 18, 5, 9 and 11.
+#![tactic(auto)]
+
 ghost use Rattle.std.specs.Prelude.{◌≡◌, ◌||◌, ◌+◌, ◌*◌, ◌≤◌, ltb, length};
 ghost use Rattle.format.specs.Limits.{max_file, max_variables, max_rules};
 ghost use Rattle.program.specs.Program.{variables_at, rule};

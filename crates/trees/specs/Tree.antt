@@ -39,27 +39,32 @@ largest f (x ∷ xs) = let n = largest f xs in cond (leb n (f x)) (f x) n
 -- ---- of a tree
 
 unfoldable pub levels : (l : ℕ) → Tree l → ℕ
+levels zero x' = elim x' [ ]
 levels (suc l) (leaf x) = 1
 levels (suc l) (inner form ts) = 1 + largest (levels l) ts
 
 -- the variables of its leaves, in their order
 unfoldable pub leaves : (l : ℕ) → Tree l → List ℕ
+leaves zero x' = elim x' [ ]
 leaves (suc l) (leaf x) = x ∷ []
 leaves (suc l) (inner form ts) = joined (leaves l) ts
 
 -- how many inner nodes it has, the root included
 unfoldable pub inners : (l : ℕ) → Tree l → ℕ
+inners zero x' = elim x' [ ]
 inners (suc l) (leaf x) = 0
 inners (suc l) (inner form ts) = 1 + total (inners l) ts
 
 -- how many besides the root
 unfoldable pub besides : (l : ℕ) → Tree l → ℕ
+besides zero x' = elim x' [ ]
 besides (suc l) (leaf x) = 0
 besides (suc l) (inner form ts) = total (inners l) ts
 
 -- ---- its bytes
 
 unfoldable pub tree_bytes : (l : ℕ) → Tree l → List ℕ
+tree_bytes zero x' = elim x' [ ]
 tree_bytes (suc l) (leaf x) = 0 ∷ x ∷ []
 tree_bytes (suc l) (inner form ts) = form ∷ length ts ∷ joined (tree_bytes l) ts
 
@@ -69,6 +74,7 @@ inner_bytes form n = (leb 1 form && leb form 3) && (leb 1 n && leb n max_childre
 
 -- every inner node of a tree has such bytes
 unfoldable pub Formed : (l : ℕ) → Tree l → Type 0
+Formed zero x' = elim x' [ ]
 Formed (suc l) (leaf x) = Unit {0}
 Formed (suc l) (inner form ts) = T (inner_bytes form (length ts)) × All (Formed l) ts
 

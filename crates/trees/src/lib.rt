@@ -1,1 +1,2 @@
 // Trees: their bytes, leaves, inner nodes and levels. No code.
+#![tactic(auto)]

@@ -1,4 +1,6 @@
 // Makes the call for a line's case: those of the C interface by their exported functions, and those that print.
+#![tactic(auto)]
+
 ghost use Rattle.std.specs.Prelude.{◌≤◌, length};
 
 use founded::{

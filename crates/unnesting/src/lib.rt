@@ -1,4 +1,6 @@
 // What the program `flatten` writes: the plain file of its input, or the line of a refusal.
+#![tactic(auto)]
+
 ghost use Rattle.std.specs.Prelude.{◌≤◌, length};
 ghost use Rattle.unnesting.specs.Unnests.{room, Unnested};
 

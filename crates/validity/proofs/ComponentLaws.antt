@@ -3,7 +3,7 @@ use Prim.Native.Nat.{ℕ, zero, suc, ◌+◌, ◌-◌, ◌*◌, ◌/◌, ◌%◌
 use mathlib.Core.Path.{◌≡◌, refl, sym, ap, ap₂, ◌∙◌, subst}
 use mathlib.Core.Logic.{◌↔◌, ◌⊎◌, inl, inr}
 use mathlib.Core.List.{List}
-use mathlib.Core.Bool.{Bool, true, false, not, ◌||◌, ◌&&◌, or_true}
+use mathlib.Core.Bool.{Bool, true, false, not, ◌||◌, ◌&&◌, or-true}
 use native.Mathlib.Omega.{arith}
 use lib.ListN.{length, get_or, replicate}
 use lib.Dec.{eqb}
@@ -139,7 +139,7 @@ module _ {P : Program} (promises : Promises P) where
       (ap₂ ◌&&◌ (ap not acts)
       (ap₂ ◌&&◌ (eq-eqb r.head r.head refl)
       (below_some (length r.terms) _ j h
-      (ap₂ ◌&&◌ (eq-eqb (body_variable r j) (body_variable r j) refl) (ap (λ (b : Bool). kept P.variables r j || b) m ∙ or_true (kept P.variables r j))))))
+      (ap₂ ◌&&◌ (eq-eqb (body_variable r j) (body_variable r j) refl) (ap (λ (b : Bool). kept P.variables r j || b) m ∙ or-true (kept P.variables r j))))))
 
   -- edges of which the rows that meet p are closed, those of the variables of mixed positions among them
   module _ {r t : ℕ → ℕ → Bool} {p : ℕ → Bool} (few : length P.variables ≤ max_variables)

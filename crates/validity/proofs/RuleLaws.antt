@@ -2,7 +2,7 @@
 use Prim.Native.Nat.{ℕ, ◌+◌, ◌*◌, ◌<◌, ◌≤◌}
 use mathlib.Core.Path.{◌≡◌, refl, sym, ap, ◌∙◌}
 use mathlib.Core.List.{List}
-use mathlib.Core.Bool.{Bool, true, false, not, ◌||◌, ◌&&◌, or_false, or_comm}
+use mathlib.Core.Bool.{Bool, true, false, not, ◌||◌, ◌&&◌, or-false, or_comm}
 use native.Mathlib.Omega.{arith}
 use lib.Dec.{eqb}
 use lib.ListN.{length}
@@ -155,7 +155,7 @@ module _ {s : List ℕ} {k : Counts} (c : Counted s k) where
 module _ (vs : List Variable) (r : Rule) where
   -- an idle one draws nothing, another what its positions draw
   pub idle_draws : (t : ℕ → ℕ → Bool) {f : Bool} → f ≡ is_idle vs r → f ≡ true → Grown t t (draws_by vs r)
-  idle_draws t e h = record { is = λ a b ha hb. rw (sym e ∙ h) (sym (or_false (t a b))) }
+  idle_draws t e h = record { is = λ a b ha hb. rw (sym e ∙ h) (sym (or-false (t a b))) }
 
   pub acting_draws : {t t' : ℕ → ℕ → Bool} {f : Bool} → f ≡ is_idle vs r → f ≡ false → Grown t t' (draws_in vs r) → Grown t t' (draws_by vs r)
   acting_draws e h g = record { is = λ a b ha hb. rw (sym e ∙ h) (g.is a b ha hb) }
@@ -174,7 +174,7 @@ module _ (vs : List Variable) (r : Rule) where
 
   -- the set of the variables of mixed positions: as it was where the rule does not act, and with one more where it does
   pub none_acts : (b : Bool) {f : Bool} → f ≡ acts_mixed vs r → f ≡ false → (v : ℕ) → b ≡ (b || acts_on vs r v)
-  none_acts b e h v = rw (sym e ∙ h) (sym (or_false b))
+  none_acts b e h v = rw (sym e ∙ h) (sym (or-false b))
 
   pub one_acts : (b : Bool) {f b' : Bool} {x : ℕ} → f ≡ acts_mixed vs r → f ≡ true → x ≡ body_variable r 0 → (v : ℕ) → b' ≡ (eqb v x || b)
       → b' ≡ (b || acts_on vs r v)

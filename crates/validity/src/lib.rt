@@ -1,4 +1,6 @@
 // Whether a file is valid: no rule that is not idle has a mixed variable in its head's component.
+#![tactic(auto)]
+
 pub mod rules;
 
 ghost use Rattle.std.specs.Prelude.{◌≡◌, ◌⊎◌, true, ℕ, ◌<◌, length};

@@ -1,4 +1,6 @@
 // What the check answers, and the mission's three demands. The definitions stand in specs/, the laws about them in proofs/.
+#![tactic(auto)]
+
 use meaning::Denied;
 
 // What the call check answers.

@@ -1,4 +1,6 @@
 // Sets of numbers of any size, on lent words: the lowest bit of the first word is number 0.
+#![tactic(auto)]
+
 ghost use Rattle.std.specs.Prelude.{◌≡◌, ◌||◌, ◌&&◌, not, ℕ, ◌*◌, ◌/◌, ◌≤◌, ◌<◌, eqb, ltb, length};
 ghost use Rattle.words.specs.Bit.{word_bits, most_words, has, NextIs};
 
@@ -11,7 +13,7 @@ impl Words {
 
     // The constant of the code is that of the specification.
     pub fn quoted()
-        ensures* { do ⌜ (← (⟦Words::BITS⟧).entry) ≡ word_bits ⌝ }
+        ensures { Words.BITS ≡ word_bits }
     {}
 }
 

@@ -1,0 +1,36 @@
+-- Invariant: of the variables before v those that are founded have their stops.
+use Prim.Native.Nat.{◌-◌}
+use mathlib.Core.Path.{◌≡◌, refl, sym, ap, ◌∙◌}
+use mathlib.Core.Logic.{⊎_elim}
+use mathlib.Core.Bool.{true≢false}
+use native.Mathlib.Omega.{arith}
+use lib.IntN.{ℤ, pos}
+use lib.ListN.{get_or}
+use mir.Syntax.{w64}
+use mir.Val.{to_z, of_z}
+use borrow.Author.Rules.{rules}
+use Rattle.program.specs.Program.{variables_at}
+use Rattle.program.specs.Variables.{is_founded}
+use Rattle.program.proofs.Tests.{is_true}
+use Rattle.ascent.proofs.ClimbLaws.{arrived_more}
+use Rattle.ascent.proofs.sweeping.have_arrived.Goals as goal
+
+pub loop-v-init : goal.loop-v-init
+loop-v-init c = (omega arith, λ w l. absurd (omega arith))
+
+pub returns-then-is_founded : goal.returns-then-is_founded
+returns-then-is_founded c = λ t. absurd (true≢false (sym t))
+
+pub loop-v-preserved : goal.loop-v-preserved
+loop-v-preserved c = let b : ℤ = get_or c.args.stops.now c.loop-v.v (pos 0) in
+    let r : to_z w64 (of_z w64 c.read-has.result) ≡ c.read-has.result = search rules in
+    let y : to_z w64 (of_z w64 b) ≡ b = search rules in
+    (
+      omega arith,
+      arrived_more (variables_at c.args.file.now c.args.n) c.args.stops.now c.args.sides.now c.loop-v.invariant.1 (c.variable-x.ensures c.args.n (omega arith)) c.is_from_above.ensures c.read-has.ensures refl
+          (⊎_elim (λ w t. absurd (true≢false (sym (w.1.ensures ∙ is_true (is_founded c.variable-x.result) t) ∙ w.2.left)))
+          (λ w t. sym r ∙ ap (to_z w64) w.left ∙ y) c.else-has-stop.branch),
+    )
+
+pub returns : goal.returns
+returns c = λ t v l. c.loop-v.invariant.1 v (omega (arith, l, c.loop-v-test.false))

@@ -1,0 +1,29 @@
+-- Invariant: every literal before position i holds.
+use mathlib.Core.Path.{◌≡◌, refl, sym, ap, ap₂, ◌∙◌}
+use mathlib.Core.Bool.{◌&&◌}
+use Prim.Native.Nat.{◌<◌, ◌-◌}
+use native.Mathlib.Omega.{arith}
+use lib.ListN.{length}
+use Rattle.program.specs.Program.{terms_of}
+use Rattle.program.specs.Evaluate.{all_hold}
+use Rattle.program.proofs.Bodies.{terms_length}
+use Rattle.bodies.proofs.Loops.{hold_none, hold_more, hold_fails}
+use borrow.Author.Tests.{not-true, not-false}
+use Rattle.bodies.proofs.all_hold.Goals as goal
+
+pub loop-i-init : goal.loop-i-init
+loop-i-init c = (omega arith, refl, hold_none _ _)
+
+pub is_met-requires : goal.is_met-requires
+is_met-requires c = (omega arith, omega arith)
+
+pub returns-then-not-is_met : goal.returns-then-not-is_met
+returns-then-not-is_met c = let l : c.loop-i.i < length (terms_of c.args.body.now) = omega (arith, terms_length c.args.body.now) in
+    sym (hold_fails _ _ c.loop-i.i _ l (sym c.is_met.ensures ∙ not-true _ c.if-not-is_met.true-raw))
+
+pub loop-i-preserved : goal.loop-i-preserved
+loop-i-preserved c = (omega arith, refl, ap₂ ◌&&◌ c.loop-i.invariant.2 (sym (not-false _ c.if-not-is_met.false-raw) ∙ c.is_met.ensures) ∙ hold_more _ _ _)
+
+pub returns : goal.returns
+returns c = let e : c.loop-i.i ≡ length (terms_of c.args.body.now) = omega (arith, terms_length c.args.body.now) in
+    c.loop-i.invariant.2 ∙ ap (all_hold _ _) e

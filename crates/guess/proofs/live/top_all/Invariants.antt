@@ -1,0 +1,9 @@
+use Prim.Native.Nat.{◌-◌, ◌≤◌}
+use mathlib.Core.Path.{◌≡◌}
+use lib.ListN.{length}
+use Rattle.format.specs.Limits.{max_variables}
+use Rattle.program.specs.Evaluable.{Small}
+use Rattle.guess.proofs.live.top_all.Given as goal
+
+abbrev pub invariant-loop-v : goal.invariant-loop-v
+invariant-loop-v l = (length l.tops ≡ max_variables) × Small l.tops × (l.v ≤ l.variables)

@@ -1,0 +1,14 @@
+-- Marked entries of the two sets.
+use native.Mathlib.Omega.{arith}
+use Rattle.words.specs.Bit.{has}
+use Rattle.program.specs.Readings.{valued}
+use Rattle.report.specs.Report.{bound, bound_above}
+use Rattle.report.proofs.Entries.{marked_count}
+use Rattle.report.proofs.WritingLaws.{marked_begun}
+use Rattle.report.proofs.writing.write_bounds.Goals as goal
+
+pub write_marked-requires : goal.write_marked-requires
+write_marked-requires c = record { values_in_bounds = rw marked_count (omega (arith, c.requires.max_variables_in_bounds)); small = c.requires.small }
+
+pub returns : goal.returns
+returns c = marked_begun (has c.args.below.words) (has c.args.above.words) bound bound_above (valued c.args.values.now) c.args.report.now c.write_marked.new.0 c.write_marked.ensures

@@ -1,0 +1,12 @@
+-- The value at the place is that of the rule.
+use Rattle.run.proofs.RunLaws.{head_lies, here_evaluable, here_headed, here_as}
+use Rattle.run.proofs.demands.demand.Goals as goal
+
+pub value_at-requires : goal.value_at-requires
+value_at-requires c = (head_lies c.requires.some_rule.here).0
+
+pub gives-requires : goal.gives-requires
+gives-requires c = record { evaluable = here_evaluable c.requires.some_rule.here c.value_at.ensures; rule_header_in_bounds = here_headed c.requires.some_rule.here c.value_at.ensures; small = c.requires.small }
+
+pub returns : goal.returns
+returns c = λ P i h. here_as h c.value_at.ensures c.args.mask c.args.model.now c.args.others.now c.gives.ensures

@@ -1,0 +1,12 @@
+-- One variable after the other, each with its first aim.
+use mathlib.Core.Path.{◌≡◌}
+use Prim.Native.Nat.{◌-◌, ◌≤◌}
+use lib.ListN.{length}
+use Rattle.format.specs.Limits.{max_variables}
+use Rattle.program.specs.Program.{variables_at}
+use Rattle.reduct.specs.Filling.{Filled}
+use Rattle.targets.specs.Aims.{first_aims}
+use Rattle.targets.proofs.aims.draw_back.Given as goal
+
+abbrev pub invariant-loop-v : goal.invariant-loop-v
+invariant-loop-v l = (l.v ≤ l.variables) × (length l.aims ≡ max_variables) × Filled (first_aims (variables_at l.file l.variables) l.cut l.strides l.stops l.model l.target) l.v l.initial.aims l.aims
