@@ -46,8 +46,6 @@ module _ {A : Type 0} where
   without x (y ∷ ys) (inl e) = ys
   without x (y ∷ ys) (inr m) = y ∷ without x ys m
   without x [] x'' = elim x'' [ ]
-  without x [] x''
-  x''
 
   total_without : (w : A → ℕ) (x : A) (xs : List A) (m : Among x xs) → total w xs ≡ w x + total w (without x xs m)
   unfolding total without
