@@ -1,17 +1,10 @@
--- src/call.rt:41:5
 use mathlib.Core.Path.{sym}
 use native.Mathlib.Omega.{arith}
 use lib.Seq.{length-take-le}
 use Rattle.program.proofs.Unique.{reads_accepts}
 use Rattle.reader.proofs.Published.{limited}
 use Rattle.rewriting.proofs.Preparing.{fields_few, fields_inside, prepared, copied}
-use borrow.Author.Rules.{rules}
 use Rattle.rewriting.proofs.call.prepare.Goals as goal
-
-pub put-requires : goal.put-requires
-put-requires c = search rules
-
--- src/call.rt:42:9
 
 pub order_fields-fields-requires : goal.order_fields-fields-requires
 order_fields-fields-requires c = let l = limited c.requires.accepted_as in (
@@ -22,31 +15,21 @@ order_fields-fields-requires c = let l = limited c.requires.accepted_as in (
       ),
     )
 
--- src/call.rt:44:29
-
 pub slice_bounds-sort-end : goal.slice_bounds-sort-end
 slice_bounds-sort-end c = let k = fields_few c.requires.accepted_as c.order_fields-fields.ensures.ordered_file in
     omega (arith, c.order_fields-fields.ensures.places_len_unchanged)
-
--- src/call.rt:44:29
 
 pub slice_bounds-sort-end-2 : goal.slice_bounds-sort-end-2
 slice_bounds-sort-end-2 c = let k = fields_few c.requires.accepted_as c.order_fields-fields.ensures.ordered_file in
     sym (length-take-le c.order_fields-fields.result c.order_fields-fields.new.text.1.1.0 (omega (arith, c.order_fields-fields.ensures.places_len_unchanged)))
 
--- src/call.rt:44:52
-
 pub slice_bounds-sort-end-3 : goal.slice_bounds-sort-end-3
 slice_bounds-sort-end-3 c = let k = fields_few c.requires.accepted_as c.order_fields-fields.ensures.ordered_file in
     omega arith
 
--- src/call.rt:44:52
-
 pub slice_bounds-sort-end-4 : goal.slice_bounds-sort-end-4
 slice_bounds-sort-end-4 c = let k = fields_few c.requires.accepted_as c.order_fields-fields.ensures.ordered_file in
     sym (length-take-le c.order_fields-fields.result c.args.spare.now (omega arith))
-
--- src/call.rt:44:5
 
 pub sort-left-requires : goal.sort-left-requires
 sort-left-requires c = let k = fields_few c.requires.accepted_as c.order_fields-fields.ensures.ordered_file in
@@ -54,23 +37,6 @@ sort-left-requires c = let k = fields_few c.requires.accepted_as c.order_fields-
     let a = length-take-le c.order_fields-fields.result c.order_fields-fields.new.text.1.1.0 (omega (arith, c.order_fields-fields.ensures.places_len_unchanged)) in
     let b = length-take-le c.order_fields-fields.result c.args.spare.now (omega arith) in
     (omega arith, fields_inside y.accepts (c.order_fields-fields.ensures.ordered_file y.meant y.accepts) (omega (arith, c.order_fields-fields.ensures.places_len_unchanged)))
-
--- src/call.rt:36:1
-
-pub shape_of-text : goal.shape_of-text
-shape_of-text c = search rules
-
--- src/call.rt:36:1
-
-pub shape_of-places : goal.shape_of-places
-shape_of-places c = search rules
-
--- src/call.rt:36:1
-
-pub shape_of-spare : goal.shape_of-spare
-shape_of-spare c = search rules
-
--- src/call.rt:36:1
 
 pub returns : goal.returns
 returns c = let k = fields_few c.requires.accepted_as c.order_fields-fields.ensures.ordered_file in
