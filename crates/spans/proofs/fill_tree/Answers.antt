@@ -55,7 +55,7 @@ shape_of-records-then-not-fill_node c = ((let it : let start = (let it : tie.Sta
 -- where a range passes -30,000..30,000 in it) in
     (false ≡ not (any_beyond (values_in (valued start.args.lows.now) start.args.next (drop 2 start.args.s.now))
     || any_beyond (values_in (valued start.args.highs.now) start.args.next (drop 2 start.args.s.now))))
-    × (Tables c.fill_node.new.0 c.fill_node.new.1.0 × (length c.fill_node.new.1.1.0 ≡ records_length)) = let start = (let it : tie.Start invariant-loop decreases-loop = c.before.before.before.before.before.before.before.before.before.before.before.before.before.before.before.before
+    × (Tables c.fill_node.new.lows c.fill_node.new.highs.0 × (length c.fill_node.new.highs.1.0 ≡ records_length)) = let start = (let it : tie.Start invariant-loop decreases-loop = c.before.before.before.before.before.before.before.before.before.before.before.before.before.before.before.before
 
 -- where a range passes -30,000..30,000 in it) in
     let k = filling_apart c.loop-at.invariant (omega arith) c.if-s-at-ne0.true in
@@ -70,7 +70,7 @@ returns-then-not-fill_node c = (((let it : let start = (let it : tie.Start invar
 -- where a range passes -30,000..30,000 in it) in
     (false ≡ not (any_beyond (values_in (valued start.args.lows.now) start.args.next (drop 2 start.args.s.now))
     || any_beyond (values_in (valued start.args.highs.now) start.args.next (drop 2 start.args.s.now))))
-    × (Tables c.fill_node.new.0 c.fill_node.new.1.0 × (length c.fill_node.new.1.1.0 ≡ records_length)) = let start = (let it : tie.Start invariant-loop decreases-loop = c.before.before.before.before.before.before.before.before.before.before.before.before.before.before.before.before
+    × (Tables c.fill_node.new.lows c.fill_node.new.highs.0 × (length c.fill_node.new.highs.1.0 ≡ records_length)) = let start = (let it : tie.Start invariant-loop decreases-loop = c.before.before.before.before.before.before.before.before.before.before.before.before.before.before.before.before
 
 -- where a range passes -30,000..30,000 in it) in
     let k = filling_apart c.loop-at.invariant (omega arith) c.if-s-at-ne0.true in
@@ -80,7 +80,7 @@ returns-then-not-fill_node c = (((let it : let start = (let it : tie.Start invar
 -- where a range passes -30,000..30,000 in it) in
     (false ≡ not (any_beyond (values_in (valued start.args.lows.now) start.args.next (drop 2 start.args.s.now))
     || any_beyond (values_in (valued start.args.highs.now) start.args.next (drop 2 start.args.s.now))))
-    × (Tables c.fill_node.new.0 c.fill_node.new.1.0 × (length c.fill_node.new.1.1.0 ≡ records_length)) = let start = (let it : tie.Start invariant-loop decreases-loop = c.before.before.before.before.before.before.before.before.before.before.before.before.before.before.before.before
+    × (Tables c.fill_node.new.lows c.fill_node.new.highs.0 × (length c.fill_node.new.highs.1.0 ≡ records_length)) = let start = (let it : tie.Start invariant-loop decreases-loop = c.before.before.before.before.before.before.before.before.before.before.before.before.before.before.before.before
 
 -- where a range passes -30,000..30,000 in it) in
     let k = filling_apart c.loop-at.invariant (omega arith) c.if-s-at-ne0.true in
