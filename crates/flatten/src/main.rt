@@ -2,13 +2,14 @@
 #![tactic(auto)]
 
 use format::Format;
-use libc::{STDIN_FILENO, STDOUT_FILENO};
+use std::io;
+use telling::{read_full, text};
 
-fn main() {
+fn main(rt: HostRuntime) -> io::Result<()> {
     // One byte more than the longest file is enough to see that an input is longer.
     let mut input = [0u8; Format::MAX_FILE + 1];
-    let read = io::read_full(STDIN_FILENO, &mut input);
+    let read = read_full(&mut rt.stdin(), &mut input)?;
     let mut output = [0u8; Format::MAX_FILE];
     let n = unnesting::unnest(&input[..read], &mut output);
-    io::write_all(STDOUT_FILENO, &output[..n]);
+    text(&mut rt.stdout(), &output[..n])
 }

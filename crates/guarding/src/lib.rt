@@ -3,8 +3,9 @@
 
 ghost use Rattle.std.specs.Prelude.{◌≤◌, length};
 
-use libc::STDOUT_FILENO;
-use telling::{say, text};
+use std::io;
+use std::io::Write;
+use telling::{print_decimal, print_hex, say, text};
 
 // The number of the pattern at a place.
 fn number_at(i: usize) -> usize
@@ -63,102 +64,116 @@ pub fn words_are_kept(room: &[u64], start: usize, end: usize) -> bool {
 }
 
 // The variable and the mark of a report's entry.
-fn marked(v: usize, mark: u8) {
+fn marked<W: Write>(out: &mut W, v: usize, mark: u8) -> io::Result<()> {
     match mark {
-        0 => say(b", most", v),
+        0 => say(out, b", most", v),
         1 => {
-            say(b", when", v);
-            text(b" <=");
+            say(out, b", when", v)?;
+            text(out, b" <=")
         }
         2 => {
-            say(b", when", v);
-            text(b" >=");
+            say(out, b", when", v)?;
+            text(out, b" >=")
         }
-        3 => say(b", least", v),
-        _ => say(b", no such mark", v),
+        3 => say(out, b", least", v),
+        _ => say(out, b", no such mark", v),
     }
 }
 
 // A number of two bytes in two's complement.
-fn number(n: usize) {
+fn number<W: Write>(out: &mut W, n: usize) -> io::Result<()> {
     if n < 32768 {
-        say(b"", n);
+        say(out, b"", n)
     } else {
-        text(b" -");
-        io::print_decimal(STDOUT_FILENO, ((65536 - n % 65536) % 65536) as u64);
+        text(out, b" -")?;
+        print_decimal(out, ((65536 - n % 65536) % 65536) as u64)
     }
 }
 
 // A report's entries, of two pairs of bytes each, or values of one pair each.
-fn written(is_report: bool, bytes: &[u8]) {
+fn written<W: Write>(out: &mut W, is_report: bool, bytes: &[u8]) -> io::Result<()> {
     for i in 0..bytes.len() / 2 {
         let x = bytes[2 * i];
         let y = bytes[2 * i + 1];
         if is_report & (i % 2 == 0) {
-            marked(format::wide(x), y);
+            marked(out, format::wide(x), y)?;
         } else {
-            number(format::joined(x, y));
+            number(out, format::joined(x, y))?;
         }
     }
+    Ok(())
 }
 
 // Prints whether all is as it was around what may be written.
-pub fn tell_kept(is_kept: bool) {
+pub fn tell_kept<W: Write>(out: &mut W, is_kept: bool) -> io::Result<()> {
     if is_kept {
-        text(b", guard kept\n");
+        text(out, b", guard kept\n")
     } else {
-        text(b", guard lost\n");
+        text(out, b", guard lost\n")
     }
 }
 
 // An answer says that more was written than was lent.
-pub fn exceeded() {
-    text(b", more than was lent\n");
+pub fn exceeded<W: Write>(out: &mut W) -> io::Result<()> {
+    text(out, b", more than was lent\n")
 }
 
 // Prints what was written, n bytes from the lent part's start on, and whether the other bytes are as they were.
-pub fn guarded(room: &[u8], is_check: bool, from: usize, to: usize, n: usize)
+pub fn guarded<W: Write>(
+    out: &mut W,
+    room: &[u8],
+    is_check: bool,
+    from: usize,
+    to: usize,
+    n: usize,
+) -> io::Result<()>
     requires from_le_to { from ≤ to }
     requires to_in_bounds { to ≤ length room.now }
 {
     if to - from < n {
-        exceeded();
-        return;
+        return exceeded(out);
     }
     let stop = from + n;
-    written(is_check, &room[from..stop]);
-    tell_kept(is_kept(room, from, stop));
+    written(out, is_check, &room[from..stop])?;
+    tell_kept(out, is_kept(room, from, stop))
 }
 
 // Each byte as a space and two hexadecimal digits.
-fn bytes_shown(bytes: &[u8]) {
+fn bytes_shown<W: Write>(out: &mut W, bytes: &[u8]) -> io::Result<()> {
     for i in 0..bytes.len() {
         let x = bytes[i];
-        text(b" ");
-        io::print_hex(STDOUT_FILENO, format::wide(x) as u64, 2);
+        text(out, b" ")?;
+        print_hex(out, format::wide(x) as u64, 2)?;
     }
+    Ok(())
 }
 
 // Prints whether the bytes are those that are said, and else which they are.
-fn compared(bytes: &[u8], said: &[u8]) {
-    if check::same(bytes, said) {
-        text(b", as said");
+fn compared<W: Write>(out: &mut W, bytes: &[u8], said: &[u8]) -> io::Result<()> {
+    if bytes == said {
+        text(out, b", as said")
     } else {
-        text(b", not as said:");
-        bytes_shown(bytes);
+        text(out, b", not as said:")?;
+        bytes_shown(out, bytes)
     }
 }
 
 // The same as `guarded`, for a file that was written and is said to have these bytes.
-pub fn guarded_file(room: &[u8], said: &[u8], from: usize, to: usize, n: usize)
+pub fn guarded_file<W: Write>(
+    out: &mut W,
+    room: &[u8],
+    said: &[u8],
+    from: usize,
+    to: usize,
+    n: usize,
+) -> io::Result<()>
     requires from_le_to { from ≤ to }
     requires to_in_bounds { to ≤ length room.now }
 {
     if to - from < n {
-        exceeded();
-        return;
+        return exceeded(out);
     }
     let stop = from + n;
-    compared(&room[from..stop], said);
-    tell_kept(is_kept(room, from, stop));
+    compared(out, &room[from..stop], said)?;
+    tell_kept(out, is_kept(room, from, stop))
 }

@@ -48,7 +48,7 @@ struct Ends {
 }
 
 // A line's letter and name as in `Head`, the bytes and the lent part of its case as in `Ends`, and how many bytes the beginning has after the line.
-#[derive(Drop)]
+#[derive(Clone, Copy)]
 pub struct Line {
     pub letter: u8,
     pub start: usize,

@@ -3,6 +3,8 @@
 
 ghost use Rattle.std.specs.Prelude.{◌≤◌, length};
 
+use std::io;
+use std::io::Write;
 use telling::{say, text};
 
 // The words of a set.
@@ -12,12 +14,13 @@ pub const WORDS: usize = 4;
 pub const FEW: usize = 16;
 
 // The elements that the i-th of the sets' words says.
-fn elements(word: u64, i: usize) {
+fn elements<W: Write>(out: &mut W, word: u64, i: usize) -> io::Result<()> {
     for y in 0..64 {
         if (word >> y) % 2 == 1 {
-            say(b"", i % WORDS * 64 + y);
+            say(out, b"", i % WORDS * 64 + y)?;
         }
     }
+    Ok(())
 }
 
 // How many elements a word says.
@@ -39,33 +42,34 @@ fn sum_of(word: u64, i: usize) -> usize
 }
 
 // A variable before its set.
-fn variable(x: usize) {
+fn variable<W: Write>(out: &mut W, x: usize) -> io::Result<()> {
     if 0 < x {
-        text(b";");
+        text(out, b";")?;
     }
-    say(b"", x);
-    text(b" ->");
+    say(out, b"", x)?;
+    text(out, b" ->")
 }
 
 // Each variable's set.
-fn sets_listed(sets: &[u64]) {
+fn sets_listed<W: Write>(out: &mut W, sets: &[u64]) -> io::Result<()> {
     for i in 0..sets.len() {
         if i % WORDS == 0 {
-            variable(i / WORDS);
+            variable(out, i / WORDS)?;
         }
-        elements(sets[i], i);
+        elements(out, sets[i], i)?;
     }
+    Ok(())
 }
 
 // How many there are, and their sum.
-fn in_all(count: usize, sum: usize) {
-    say(b"", count);
-    text(b" in all");
-    say(b", sum", sum);
+fn in_all<W: Write>(out: &mut W, count: usize, sum: usize) -> io::Result<()> {
+    say(out, b"", count)?;
+    text(out, b" in all")?;
+    say(out, b", sum", sum)
 }
 
 // How many elements all sets have, and their sum.
-fn sets_counted(sets: &[u64])
+fn sets_counted<W: Write>(out: &mut W, sets: &[u64]) -> io::Result<()>
     requires { length sets.now ≤ 2048 }
 {
     let mut count = 0;
@@ -75,31 +79,32 @@ fn sets_counted(sets: &[u64])
         count += count_of(word) as usize;
         sum += sum_of(word, i);
     }
-    in_all(count, sum);
+    in_all(out, count, sum)
 }
 
 // The sets, or of many how many elements they have.
-pub fn sets_shown(sets: &[u64])
+pub fn sets_shown<W: Write>(out: &mut W, sets: &[u64]) -> io::Result<()>
     requires { length sets.now ≤ 2048 }
 {
-    text(b":");
+    text(out, b":")?;
     if sets.len() <= WORDS * FEW {
-        sets_listed(sets);
+        sets_listed(out, sets)?;
     } else {
-        sets_counted(sets);
+        sets_counted(out, sets)?;
     }
-    text(b"\n");
+    text(out, b"\n")
 }
 
 // The first variable of each one's component.
-fn names_listed(names: &[u8]) {
+fn names_listed<W: Write>(out: &mut W, names: &[u8]) -> io::Result<()> {
     for x in 0..names.len() {
-        say(b"", format::wide(names[x]));
+        say(out, b"", format::wide(names[x]))?;
     }
+    Ok(())
 }
 
 // How many components there are, by the variables that are the first of theirs, and the sum of the bytes.
-fn names_counted(names: &[u8])
+fn names_counted<W: Write>(out: &mut W, names: &[u8]) -> io::Result<()>
     requires { length names.now ≤ 512 }
 {
     let mut count = 0;
@@ -111,16 +116,16 @@ fn names_counted(names: &[u8])
         }
         sum += y;
     }
-    in_all(count, sum);
+    in_all(out, count, sum)
 }
 
 // The components, or of many how many there are.
-pub fn names_shown(names: &[u8])
+pub fn names_shown<W: Write>(out: &mut W, names: &[u8]) -> io::Result<()>
     requires { length names.now ≤ 512 }
 {
     if names.len() <= FEW {
-        names_listed(names);
+        names_listed(out, names)
     } else {
-        names_counted(names);
+        names_counted(out, names)
     }
 }

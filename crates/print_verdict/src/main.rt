@@ -1,14 +1,15 @@
 // The printing program: reads standard input to its end and prints the text for it.
 #![tactic(auto)]
 
-use libc::{STDIN_FILENO, STDOUT_FILENO};
 use printing::Printing;
+use std::io;
+use telling::{read_full, text};
 
-fn main() {
+fn main(rt: HostRuntime) -> io::Result<()> {
     // One byte more than the longest input is enough to see that an input is longer.
     let mut input = [0u8; Printing::MAX_INPUT + 1];
-    let read = io::read_full(STDIN_FILENO, &mut input);
+    let read = read_full(&mut rt.stdin(), &mut input)?;
     let mut output = [0u8; Printing::ROOM];
     let n = printing::print(&input[..read], &mut output);
-    io::write_all(STDOUT_FILENO, &output[..n]);
+    text(&mut rt.stdout(), &output[..n])
 }

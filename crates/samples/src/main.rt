@@ -4,13 +4,16 @@
 #![tactic(auto)]
 
 use cases::each;
-use io::large_buffer;
-use telling::{space, taken};
+use std::io;
+use std::io::{BufWriter, Write};
+use telling::{large_buffer, space, taken};
 
-fn main() {
+fn main(rt: HostRuntime) -> io::Result<()> {
+    let mut out = BufWriter::new(rt.alloc(), rt.stdout())?;
     let mut table = space();
     let mut bytes = space();
     let mut room = large_buffer();
-    let n = taken(&mut table);
-    each(&table[..n], &mut bytes, &mut room);
+    let n = taken(&mut rt.stdin(), &mut out, &mut table)?;
+    each(&mut out, &table[..n], &mut bytes, &mut room)?;
+    out.flush()
 }

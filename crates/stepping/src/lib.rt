@@ -8,6 +8,8 @@ use founded::{founded_begin, founded_components, founded_step};
 use guarding::{exceeded, is_kept, patterned, patterned_words, tell_kept, words_are_kept};
 use packing::Word;
 use picturing::{FEW, WORDS, names_shown, sets_shown};
+use std::io;
+use std::io::Write;
 use telling::{say, tell, text, unpacked};
 
 // The words of the room of which a search is lent a part.
@@ -20,11 +22,11 @@ const GUARD: usize = 16;
 const BYTES: usize = ROOM / WORDS + 2 * GUARD;
 
 // Which round it was, or that there is none.
-fn round_told(is_round: bool, k: usize) {
+fn round_told<W: Write>(out: &mut W, is_round: bool, k: usize) -> io::Result<()> {
     if is_round {
-        say(b"  round", k);
+        say(out, b"  round", k)
     } else {
-        say(b"  no round", k);
+        say(out, b"  no round", k)
     }
 }
 
@@ -37,74 +39,90 @@ fn is_told(is_round: bool, n: usize, k: usize) -> bool {
 }
 
 // The sets of n variables before the first round and after each step; the last step is for as many as there are, which is no round.
-fn rounds(sets: &mut [u64], n: usize)
+fn rounds<W: Write>(out: &mut W, sets: &mut [u64], n: usize) -> io::Result<()>
     requires { (4 * n ≤ length sets.old) × (length sets.old ≤ 2048) }
 {
     let end = WORDS * n;
-    text(b"\n  edges");
-    sets_shown(&sets[0..end]);
+    text(out, b"\n  edges")?;
+    sets_shown(out, &sets[0..end])?;
     for k in 0..n + 1 {
         let is_round = founded_step(sets, n, k);
         if is_told(is_round, n, k) {
-            round_told(is_round, k);
-            sets_shown(&sets[0..end]);
+            round_told(out, is_round, k)?;
+            sets_shown(out, &sets[0..end])?;
         }
     }
+    Ok(())
 }
 
 // The components that the sets of n variables say, written into a part of the room.
-fn components(sets: &[u64], n: usize, room: &mut [u8])
+fn components<W: Write>(
+    out: &mut W,
+    sets: &[u64],
+    n: usize,
+    room: &mut [u8],
+) -> io::Result<()>
     requires { (16 + n ≤ length room.old) × (n ≤ 512) }
 {
     let end = GUARD + n;
     let is_named = founded_components(sets, n, &mut room[GUARD..end]);
     if is_named {
-        text(b"  components:");
+        text(out, b"  components:")?;
     } else {
-        text(b"  no components:");
+        text(out, b"  no components:")?;
     }
-    names_shown(&room[GUARD..end]);
+    names_shown(out, &room[GUARD..end])
 }
 
 // Steps through the search of n variables in a part of the room and reads it off; prints whether every other word, and the bytes around those of the
 // components, are as they were.
-fn stepped(room: &mut [u64], from: usize, to: usize, n: usize)
+fn stepped<W: Write>(
+    out: &mut W,
+    room: &mut [u64],
+    from: usize,
+    to: usize,
+    n: usize,
+) -> io::Result<()>
     requires { (from ≤ to) × (to ≤ length room.old) × (length room.old ≤ 2048) }
 {
     if (to - from) / WORDS < n {
-        exceeded();
-        return;
+        return exceeded(out);
     }
-    rounds(&mut room[from..to], n);
+    rounds(out, &mut room[from..to], n)?;
     let mut bytes = [0u8; BYTES];
     patterned(&mut bytes);
-    components(&room[from..to], n, &mut bytes);
+    components(out, &room[from..to], n, &mut bytes)?;
     let words = words_are_kept(room, from, from + WORDS * n);
-    tell_kept(words & is_kept(&bytes, GUARD, GUARD + n));
+    tell_kept(out, words & is_kept(&bytes, GUARD, GUARD + n))
 }
 
 // Begins the search of a file in a part of the room, prints the answer and goes on.
-fn begun(room: &mut [u64], file: &[u8], from: usize, to: usize)
+fn begun<W: Write>(
+    out: &mut W,
+    room: &mut [u64],
+    file: &[u8],
+    from: usize,
+    to: usize,
+) -> io::Result<()>
     requires { (from ≤ to) × (to ≤ length room.old) × (length room.old ≤ 2048) }
 {
     patterned_words(room);
     let answer = unpacked(founded_begin(file, &mut room[from..to]));
-    tell(answer);
+    tell(out, answer)?;
     if answer.word == Word::BEGUN {
-        stepped(room, from, to, answer.first);
+        stepped(out, room, from, to, answer.first)
     } else {
-        tell_kept(words_are_kept(room, 0, 0));
+        tell_kept(out, words_are_kept(room, 0, 0))
     }
 }
 
 // Tries the search of a file in the words of a room from `from` on and below `to`.
-pub fn searched(file: &[u8], from: usize, to: usize)
+pub fn searched<W: Write>(out: &mut W, file: &[u8], from: usize, to: usize) -> io::Result<()>
     requires { from ≤ to }
 {
     if ROOM - GUARD < to {
-        text(b": no room for so many words\n");
-        return;
+        return text(out, b": no room for so many words\n");
     }
     let mut room = [0u64; ROOM];
-    begun(&mut room, file, from, to);
+    begun(out, &mut room, file, from, to)
 }

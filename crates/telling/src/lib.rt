@@ -1,27 +1,38 @@
 // Reads the table, and prints an answer's word and numbers, and the text of the printing program.
 #![tactic(auto)]
 
-ghost use Rattle.std.specs.Prelude.{◌≡◌, length};
-ghost use Rattle.io.specs.Counts.{IsPrefixLen};
+ghost use Rattle.std.specs.Prelude.{◌≡◌, length, IfOk};
+ghost use Rattle.telling.specs.Counts.{Counts};
 
-use libc::{STDIN_FILENO, STDOUT_FILENO};
 use packing::{Parts, Word};
+use std::io;
+use std::io::{Read, Write};
 
-pub fn text(s: &[u8]) {
-    io::write_all(STDOUT_FILENO, s);
+pub fn text<W: Write>(out: &mut W, s: &[u8]) -> io::Result<()> {
+    out.write_all(s)
+}
+
+// A number in decimal digits.
+pub fn print_decimal<W: Write>(out: &mut W, n: u64) -> io::Result<()> {
+    write!(out, "{n}")
+}
+
+// A number in hexadecimal digits, so many at the least.
+pub fn print_hex<W: Write>(out: &mut W, n: u64, digits: usize) -> io::Result<()> {
+    write!(out, "{n:0digits$x}")
 }
 
 // A word, a space and a number.
-pub fn say(word: &[u8], n: usize) {
-    text(word);
-    text(b" ");
-    io::print_decimal(STDOUT_FILENO, n as u64);
+pub fn say<W: Write>(out: &mut W, word: &[u8], n: usize) -> io::Result<()> {
+    text(out, word)?;
+    text(out, b" ")?;
+    print_decimal(out, n as u64)
 }
 
 // A word and two numbers.
-fn say_two(word: &[u8], n: usize, k: usize) {
-    say(word, n);
-    say(b"", k);
+fn say_two<W: Write>(out: &mut W, word: &[u8], n: usize, k: usize) -> io::Result<()> {
+    say(out, word, n)?;
+    say(out, b"", k)
 }
 
 // The word and the numbers of an answer that is packed as include/founded.h says.
@@ -40,44 +51,44 @@ pub fn length_told(answer: Parts) -> usize {
 }
 
 // An answer, by its word and numbers.
-pub fn tell(answer: Parts) {
+pub fn tell<W: Write>(out: &mut W, answer: Parts) -> io::Result<()> {
     let word = answer.word;
     match word {
-        Word::STABLE => text(b": stable"),
-        Word::UNFOUNDED => say_two(b": unfounded", answer.first, answer.second),
-        Word::CONSTRAINT => say(b": constraint", answer.first),
-        Word::RULE => say(b": rule", answer.first),
-        Word::RANGE => say(b": range", answer.first),
-        Word::REFUSED => say_two(b": refused", answer.first, answer.second),
+        Word::STABLE => text(out, b": stable"),
+        Word::UNFOUNDED => say_two(out, b": unfounded", answer.first, answer.second),
+        Word::CONSTRAINT => say(out, b": constraint", answer.first),
+        Word::RULE => say(out, b": rule", answer.first),
+        Word::RANGE => say(out, b": range", answer.first),
+        Word::REFUSED => say_two(out, b": refused", answer.first, answer.second),
         Word::ACCEPTED => {
-            say_two(b": accepted", answer.first, answer.second);
-            say(b"", answer.third);
+            say_two(out, b": accepted", answer.first, answer.second)?;
+            say(out, b"", answer.third)
         }
-        Word::FOUND => text(b": found"),
-        Word::NONE => text(b": none"),
-        Word::WRITTEN => say(b": written", length_told(answer)),
-        Word::BEGUN => say(b": begun", answer.first),
-        Word::BOUNDED => text(b": bounded"),
-        _ => text(b": no such word"),
+        Word::FOUND => text(out, b": found"),
+        Word::NONE => text(out, b": none"),
+        Word::WRITTEN => say(out, b": written", length_told(answer)),
+        Word::BEGUN => say(out, b": begun", answer.first),
+        Word::BOUNDED => text(out, b": bounded"),
+        _ => text(out, b": no such word"),
     }
 }
 
 // An answer and the line's end.
-pub fn tell_line(answer: Parts) {
-    tell(answer);
-    text(b"\n");
+pub fn tell_line<W: Write>(out: &mut W, answer: Parts) -> io::Result<()> {
+    tell(out, answer)?;
+    text(out, b"\n")
 }
 
 // The text of n bytes that an output holds; of a text that is longer than the output its length and what the output holds.
-pub fn printed(output: &[u8], n: usize) {
+pub fn printed<W: Write>(out: &mut W, output: &[u8], n: usize) -> io::Result<()> {
     if n <= output.len() {
-        text(b":\n");
-        text(&output[0..n]);
+        text(out, b":\n")?;
+        text(out, &output[0..n])
     } else {
-        say(b":", n);
-        text(b" ");
-        text(output);
-        text(b"\n");
+        say(out, b":", n)?;
+        text(out, b" ")?;
+        text(out, output)?;
+        text(out, b"\n")
     }
 }
 
@@ -88,14 +99,40 @@ pub fn space() -> [u8; 262144]
     [0; 262144]
 }
 
-// Reads the table and answers how many bytes it has; of one that does not fit nothing is taken.
-pub fn taken(table: &mut [u8]) -> usize
-    ensures { IsPrefixLen result table.new }
+// Room for the outputs of the calls.
+pub fn large_buffer() -> [u8; 65536]
+    ensures { 65536 ≡ length result }
 {
-    let n = io::read_full(STDIN_FILENO, table);
-    if n < table.len() {
-        return n;
+    [0; 65536]
+}
+
+// Reads until the table is full or the input ends, and answers how many bytes stand at the table's start.
+pub fn read_full<R: Read>(input: &mut R, table: &mut [u8]) -> io::Result<usize>
+    ensures { IfOk result (λ r. Counts r table.new) }
+{
+    let mut done = 0;
+    while done < table.len() {
+        let n = input.read(&mut table[done..])?;
+        if n == 0 {
+            break;
+        }
+        done += n;
     }
-    text(b"the table is too long\n");
-    0
+    Ok(done)
+}
+
+// Reads the table and answers how many bytes it has; of one that does not fit nothing is taken.
+pub fn taken<R: Read, W: Write>(
+    input: &mut R,
+    out: &mut W,
+    table: &mut [u8],
+) -> io::Result<usize>
+    ensures { IfOk result (λ r. Counts r table.new) }
+{
+    let n = read_full(input, table)?;
+    if n < table.len() {
+        return Ok(n);
+    }
+    text(out, b"the table is too long\n")?;
+    Ok(0)
 }

@@ -25,7 +25,7 @@ write_member-requires c = let e = (let it : to_z w64 (of_z w64 (get_or c.args.va
         arith,
         second_room (has c.args.first.words) (has c.args.second.words) c.args.mark c.args.other (valued c.args.values.now) c.args.v e
             c.args.i c.requires.v_in_bounds c.write_member-next.ensures,
-        c.write_member-next.auto.0,
+        c.write_member-next.auto.report,
       ); number_bound = omega (arith, ap nat_abs e, c.requires.small c.args.v) }
 
 pub returns : goal.returns
