@@ -5,4 +5,4 @@ use lib.ListN.{length}
 use Rattle.picturing.proofs.names_counted.Given as goal
 
 abbrev pub invariant-loop-x : goal.invariant-loop-x
-invariant-loop-x l = (l.x-end ≡ length l.names) × (l.x ≤ l.x-end) × (l.count ≤ l.x) × (l.sum ≤ 255 * l.x)
+invariant-loop-x g l = (l.x-end ≡ length l.names) × (l.x ≤ l.x-end) × (l.count ≤ l.x) × (l.sum ≤ 255 * l.x)

@@ -5,4 +5,4 @@ use lib.ListN.{length}
 use Rattle.picturing.proofs.sets_counted.Given as goal
 
 abbrev pub invariant-loop-i : goal.invariant-loop-i
-invariant-loop-i l = (l.i-end ≡ length l.sets) × (l.i ≤ l.i-end) × (l.count ≤ 4294967295 * l.i) × (l.sum ≤ 16320 * l.i)
+invariant-loop-i g l = (l.i-end ≡ length l.sets) × (l.i ≤ l.i-end) × (l.count ≤ 4294967295 * l.i) × (l.sum ≤ 16320 * l.i)

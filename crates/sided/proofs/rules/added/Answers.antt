@@ -53,8 +53,8 @@ returns-in-7 c = let v : to_z w64 (of_z w64 c.read_position-in-7.result) ≡ c.r
 
 pub returns-in-0-to-3 : goal.returns-in-0-to-3
 returns-in-0-to-3 c =
-    let h = c.in-0-to-3 in
-    ?
+    let t = adds_none c.args.form (terms_of c.args.body.now) _ (omega arith) in
+    record { result_bound = t.0; result_value = t.1 }
 
 pub returns-in-0-to-3-2 : goal.returns-in-0-to-3-2
 returns-in-0-to-3-2 c = absurd (no_other c.requires.evaluable_as c.requires.fact c.if-form.false (omega arith) (omega arith) (omega arith) (omega arith))
