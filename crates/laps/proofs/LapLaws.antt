@@ -67,9 +67,8 @@ not_moved {s} {m = m} k w {h} e {y} v {b = b} q m⁺ w⁺ t l f =
 
 -- what is tried and leaves a model open
 module _ {s : List ℕ} {P : Program} {R : Reckoning} {θ : Valuation} {offsets masks readers : List ℕ} {others stops : List ℤ} {cut : Bool} (m : List ℤ) (waiting : List ℕ) where
-  pub went_on : (t : Tried) → (tag_of (declared enum) t ≡ 0) ⊎ (tag_of (declared enum) t ≡ 1) → AfterTry s P R θ offsets masks readers others stops cut m waiting t
+  pub went_on : (t : Tried) → (t ≡ tried.NoModel → ⊥) → AfterTry s P R θ offsets masks readers others stops cut m waiting t
       → Running s P R θ offsets masks readers others stops cut m waiting
   went_on tried.Met e k = k
   went_on (tried.Raised h) e k = k
-  went_on tried.NoModel (inl e) k = let f : ⊥ = omega (arith, e) in absurd f
-  went_on tried.NoModel (inr e) k = let f : ⊥ = omega (arith, e) in absurd f
+  went_on tried.NoModel e k = absurd (e refl)

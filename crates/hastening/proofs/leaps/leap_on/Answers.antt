@@ -7,7 +7,7 @@ pub open-requires : goal.open-requires
 open-requires c = ((limited c.requires.accepted_as).inside, c.requires.target_len.0, c.requires.target_len.1)
 
 pub leap_to-leapt-requires : goal.leap_to-leapt-requires
-leap_to-leapt-requires c = record { accepted_as = c.requires.accepted_as; some_run = c.requires.some_run; model_len = c.requires.model_len; target_len = c.before.before.before.«open».ensures }
+leap_to-leapt-requires c = record { accepted_as = c.requires.accepted_as; some_run = c.requires.some_run; model_len = c.requires.model_len; target_len = c.«open».ensures }
 
 pub highest-requires : goal.highest-requires
 highest-requires c = ((some_small (kept_some c.leap_to-leapt.ensures.run_kept c.requires.some_run)).0, c.leap_to-leapt.ensures.target_len_2.1)
