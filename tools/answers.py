@@ -309,6 +309,7 @@ def turn(folder, root, names, labels):
                     by_name[g] = i
     invariants, answers, helpers = [], [], []
     fn.macros = {}
+    decls = [re.sub(r"(?:\n--.*|\n\s*)+$", "", d) for d in decls]
     for d in decls:
         m = re.match(r"(?:abbrev )?(" + W + r") : (?:\((" + W + r") : tie\.[^()]*\)\s*→?|tie\.[^()]*?→)\s*", d)
         if m:
@@ -418,7 +419,7 @@ def pruned(text):
             n = n.strip()
             own = n.split(" as ")[-1]
             parts = [p for p in own.split("◌") if p]
-            if "◌" in own and all(p in rest for p in parts) or own in words:
+            if "◌" in own and all(p in rest for p in parts) or own in words or own == "[]" and own in rest:
                 kept.append(n)
         line = f"use {m[1]}.{{{', '.join(kept)}}}\n" if kept else ""
         text = text.replace(m[0], line, 1)

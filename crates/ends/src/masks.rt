@@ -1,6 +1,6 @@
 // Where rules stand, and their masks with lent ranges: which positions are read in the model, and whether the rule gives what lifts of its head stop at.
 ghost use Rattle.std.specs.Prelude.{◌≡◌, cond, ◌≢◌, ℕ, ◌+◌, ◌*◌, ◌^◌, ◌<◌, ◌≤◌, length};
-ghost use Rattle.std.specs.Int.Bits.{bit-or};
+ghost use Rattle.std.specs.Int.Bits.{bit_or};
 ghost use Rattle.std.specs.Int.Signed.{lt_z};
 ghost use Rattle.format.specs.Limits.{max_file, max_terms};
 ghost use Rattle.program.specs.Program.{Program, rule_of, variables_at};
@@ -74,7 +74,7 @@ fn way_at(
 
 // The mask with the bit that says that the rule gives what lifts of its head stop at, where it does.
 fn with_free(bits: u32, free: bool) -> u32
-    ensures { result ≡ cond free (bit-or bits (2 ^ free_bit)) bits }
+    ensures { result ≡ cond free (bit_or bits (2 ^ free_bit)) bits }
 {
     if free { bits | 2147483648 } else { bits }
 }

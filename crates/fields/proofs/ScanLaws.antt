@@ -2,7 +2,6 @@
 use Prim.Native.Nat.{ℕ, ◌+◌, ◌*◌, ◌-◌, ◌<◌, ◌≤◌}
 use mathlib.Core.Path.{◌≡◌, refl, sym, ap, ◌∙◌, subst}
 use mathlib.Core.List.{List}
-use mathlib.Core.Logic.{◌⊎◌, ⊎_elim}
 use mathlib.Core.Bool.{Bool, true, false, cond}
 use lib.Dec.{leb, lit<, lit≤}
 use lib.ListN.{length, take, drop}
@@ -10,12 +9,11 @@ use native.Mathlib.Nat.{add-sub_cancel_left}
 use native.Mathlib.Numerals.{add-one}
 use native.Mathlib.Omega.{arith}
 use borrow.Author.Tests.{leb-true, leb-false}
-use denote.Enum.Declared.{tag_of, declared}
 use Rattle.format.specs.Limits.{max_file, max_variables, max_rules, max_constraints}
 use Rattle.program.specs.Fields.{tag_at, length_at, value_at, next_at, place, tag_before}
 use Rattle.program.specs.Program.{Program, program}
 use Rattle.program.specs.Refusals.{cut_short, value_refusal, field_refusal}
-use Rattle.program.specs.Reading.{Passed, Whole, bad_field, too_long, number_of, counted}
+use Rattle.program.specs.Reading.{Passed, bad_field, too_long, number_of, counted}
 use Rattle.program.specs.declared.Counts.{Counts}
 use Rattle.program.specs.declared.Refusal.{Refusal}
 use Rattle.program.specs.declared.Refusal.TheVariants.{FileTooLong, CutShort, UnknownTag, TagBelow, OneTooMany, WrongLength, WrongForm, OutsideRange}
@@ -33,7 +31,6 @@ use Rattle.fields.specs.declared.cursor.Field.{Field}
 use Rattle.fields.specs.declared.cursor.Field.TheVariants as field
 use Rattle.faults.specs.declared.Checked.{Checked}
 use Rattle.faults.specs.declared.Checked.TheVariants.{Fine, Bad}
-use Rattle.fields.specs.contracts.cursor.Field.{enum}
 
 -- ---- what stands at a place, from the code's answer
 
@@ -92,10 +89,10 @@ module _ (s : List ℕ) (at : ℕ) where
             }
 
 -- what the `else` knows: neither ended nor whole
-pub not_whole : (f : Field) → (tag_of (declared enum) f ≡ 0) ⊎ (tag_of (declared enum) f ≡ 1) → (tag_of (declared enum) f ≡ 1) ⊎ (tag_of (declared enum) f ≡ 2) → f ≡ field.Short
-not_whole (field.Whole tag start len next) g h = absurd (⊎_elim (λ e. omega arith) (λ e. omega arith) h)
+pub not_whole : (f : Field) → (f ≡ field.End → ⊥) → ((tag start len : ℕ) (next : Cursor) → f ≡ field.Whole tag start len next → ⊥) → f ≡ field.Short
+not_whole (field.Whole tag start len next) g h = absurd (h tag start len next refl)
 not_whole field.Short g h = refl
-not_whole field.End g h = absurd (⊎_elim (λ e. omega arith) (λ e. omega arith) g)
+not_whole field.End g h = absurd (g refl)
 
 -- ---- the fields read so far
 

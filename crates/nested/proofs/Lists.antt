@@ -181,10 +181,10 @@ module _ {A : Type 0} {size : A → ℕ} where
   module _ {B C : Type 0} {R : B → C → Type 0} {f : ℕ → C} (g : A → List B) (sized : (x : A) → length (g x) ≡ size x) where
     pub standing_along : {n : ℕ} (xs : List A) → Standing R f n (joined g xs) → AllAlong size (λ n x. Standing R f n (g x)) n xs
     unfolding joined
-    standing_along [] s = none
-    standing_along {n} (x ∷ xs) s =
+    standing_along {n = n} [] s = none
+    standing_along {n = n} (x ∷ xs) s =
         let t = standing_right (g x) (joined g xs) s in
-        and (standing_left (g x) (joined g xs) s) (standing_along xs (subst (λ k. Standing R f (n + k) (joined g xs)) (sized x) t))
+        and (standing_left (g x) (joined g xs) s) (standing_along {n = n + size x} xs (subst (λ k. Standing R f (n + k) (joined g xs)) (sized x) t))
 
     pub along_standing : {n : ℕ} {xs : List A} → AllAlong size (λ n x. Standing R f n (g x)) n xs → Standing R f n (joined g xs)
     unfolding joined

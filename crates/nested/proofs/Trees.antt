@@ -20,10 +20,12 @@ use Rattle.nested.proofs.Values.{Fit, fit_leaf, fit_node, inner_count}
 -- ---- a tree's rules: its root's, and those of the other inner nodes
 
 abbrev pub root_rule : (l : ℕ) → ℕ → ℕ → Tree l → Rule
+root_rule zero h n t = elim t [ ]
 root_rule (suc l) h n (leaf x) = node_rule 1 h (x ∷ [])
 root_rule (suc l) h n (inner form ts) = node_rule form h (operands l n ts)
 
 abbrev pub other_rules : (l : ℕ) → ℕ → Tree l → List Rule
+other_rules zero n t = elim t [ ]
 other_rules (suc l) n (leaf x) = []
 other_rules (suc l) n (inner form ts) = along (inners l) (inner_rules l) n ts
 

@@ -1,7 +1,7 @@
 -- Document 02, wish 6: "Convert to a plain file .. by document 003's flattening: the root's rule heads into the head; a leaf root is a sum of one; children keep
 -- their order. Each other inner node becomes a variable of the head's kind with the exact range of its values. New variables follow the old, trees in file order
 -- and nodes as they stand in the tree; new rules follow the old so too, each root's before its tree's. c is 0 and coefficients are 1."
-use Rattle.std.specs.Prelude.{ℕ, suc, ◌+◌, List, [], ◌∷◌, ◌++◌, map, ℤ, pos, length, get_or}
+use Rattle.std.specs.Prelude.{ℕ, zero, suc, ◌+◌, List, [], ◌∷◌, ◌++◌, map, ℤ, pos, length, get_or}
 use Rattle.trees.specs.Tree.{Tree, leaf, inner, max_levels, joined, inners, besides}
 use Rattle.program.specs.Tables.{◌⇒◌, select}
 use Rattle.program.specs.Program.{Rule, Program, variable_in}
@@ -27,6 +27,7 @@ node_gives form values = amount_of form (pos 0) (pos 1) (map (λ a. node_term fo
 
 -- a tree's value
 unfoldable pub value_of : (l : ℕ) → Tree l → Valuation → ℤ
+value_of zero t a = elim t [ ]
 value_of (suc l) (leaf x) a = a x
 value_of (suc l) (inner form ts) a = node_gives form (map (λ t. value_of l t a) ts)
 
@@ -34,12 +35,14 @@ value_of (suc l) (inner form ts) a = node_gives form (map (λ t. value_of l t a)
 
 -- the values of a tree's inner nodes
 unfoldable pub inner_values : (l : ℕ) → Valuation → Tree l → List ℤ
+inner_values zero a t = elim t [ ]
 inner_values (suc l) a (leaf x) = []
 inner_values (suc l) a (inner form ts) = value_of (suc l) (inner form ts) a ∷ joined (inner_values l a) ts
 
 -- their variables: "of the head's kind with the exact range of its values", which runs from the value with all leaves at their lows to that with all at
 -- their highs (law `exact_range`); vs are the declared variables
 unfoldable pub inner_variables : (l : ℕ) → List Variable → ℕ → Tree l → List Variable
+inner_variables zero vs kind t = elim t [ ]
 inner_variables (suc l) vs kind (leaf x) = []
 inner_variables (suc l) vs kind (inner form ts) =
     record { kind = kind; low = value_of (suc l) (inner form ts) (lows vs); high = value_of (suc l) (inner form ts) (highs vs) } ∷ joined (inner_variables l vs kind) ts
@@ -51,6 +54,7 @@ along size f n (x ∷ xs) = f n x ++ along size f (n + size x) xs
 
 -- the variable that stands for a child: a leaf's own, or the added one, which is n
 abbrev pub operand : (l : ℕ) → ℕ → Tree l → List ℕ
+operand zero n t = elim t [ ]
 operand (suc l) n (leaf x) = x ∷ []
 operand (suc l) n (inner form ts) = n ∷ []
 
@@ -59,21 +63,25 @@ operands l n ts = along (inners l) (operand l) n ts
 
 -- the rules of a tree's inner nodes: the first heads into n
 unfoldable pub inner_rules : (l : ℕ) → ℕ → Tree l → List Rule
+inner_rules zero n t = elim t [ ]
 inner_rules (suc l) n (leaf x) = []
 inner_rules (suc l) n (inner form ts) = node_rule form n (operands l (suc n) ts) ∷ along (inners l) (inner_rules l) (suc n) ts
 
 -- ---- a tree with its head: the root is no variable
 
 unfoldable pub root_values : (l : ℕ) → Valuation → Tree l → List ℤ
+root_values zero a t = elim t [ ]
 root_values (suc l) a (leaf x) = []
 root_values (suc l) a (inner form ts) = joined (inner_values l a) ts
 
 unfoldable pub root_variables : (l : ℕ) → List Variable → ℕ → Tree l → List Variable
+root_variables zero vs kind t = elim t [ ]
 root_variables (suc l) vs kind (leaf x) = []
 root_variables (suc l) vs kind (inner form ts) = joined (inner_variables l vs kind) ts
 
 -- "the root's rule heads into the head; a leaf root is a sum of one"
 unfoldable pub root_rules : (l : ℕ) → ℕ → ℕ → Tree l → List Rule
+root_rules zero h n t = elim t [ ]
 root_rules (suc l) h n (leaf x) = node_rule 1 h (x ∷ []) ∷ []
 root_rules (suc l) h n (inner form ts) = node_rule form h (operands l n ts) ∷ along (inners l) (inner_rules l) n ts
 

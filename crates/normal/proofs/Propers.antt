@@ -46,13 +46,12 @@ module _ {A : Type 0} where
   without x (y ∷ ys) (inl e) = ys
   without x (y ∷ ys) (inr m) = y ∷ without x ys m
   without x [] x'' = elim x'' [ ]
-  without x [] x''
-  x''
 
   total_without : (w : A → ℕ) (x : A) (xs : List A) (m : Among x xs) → total w xs ≡ w x + total w (without x xs m)
   unfolding total without
   total_without w x (y ∷ ys) (inl e) = rw e
   total_without w x (y ∷ ys) (inr m) = let h = total_without w x ys m in omega arith
+  total_without w x [] m = elim m [ ]
 
   among_without : (x z : A) (xs : List A) (m : Among x xs) → Among z xs → (z ≡ x) ⊎ Among z (without x xs m)
   unfolding without
@@ -60,6 +59,7 @@ module _ {A : Type 0} where
   among_without x z (y ∷ ys) (inl e) (inr n) = inr n
   among_without x z (y ∷ ys) (inr m) (inl f) = inr (inl f)
   among_without x z (y ∷ ys) (inr m) (inr n) = ⊎_elim inl (λ l. inr (inr l)) (among_without x z ys m n)
+  among_without x z [] m n = elim m [ ]
 
 -- ---- a list without repeats, each element of which comes from one of another list that weighs no less, weighs no more in all
 

@@ -2,7 +2,6 @@
 use Prim.Native.Nat.{ℕ, ◌+◌, ◌-◌}
 use mathlib.Core.Path.{◌≡◌, ap, ◌∙◌}
 use native.Mathlib.Omega.{arith}
-use borrow.Author.Rules.{rules}
 use Rattle.program.specs.Fields.{place}
 use Rattle.validity.proofs.RuleLaws.{variables_inside, first_rule, next_rule, rule_inside}
 use Rattle.flattening.proofs.rules_end.Goals as goal

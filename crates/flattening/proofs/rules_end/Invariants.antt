@@ -1,7 +1,6 @@
 -- One rule after the other: each stands where the one before it ends.
 use Prim.Native.Nat.{◌+◌, ◌-◌, ◌≤◌}
 use mathlib.Core.Path.{◌≡◌}
-use borrow.Author.Rules.{rules}
 use Rattle.program.specs.Fields.{place}
 use Rattle.flattening.proofs.rules_end.Given as goal
 

@@ -1,5 +1,4 @@
 -- One position after the other: no later one names the variable of an earlier one.
-use Prim.Native.Nat.{◌-◌}
 use native.Mathlib.Omega.{arith}
 use Rattle.idleness.proofs.MostLaws.{taken_none, taken_more, taken_all}
 use Rattle.idleness.proofs.set_by_direction.Goals as goal

@@ -1,5 +1,4 @@
 -- One term after the other: no later one names the variable of an earlier one.
-use Prim.Native.Nat.{◌-◌}
 use mathlib.Core.Path.{ap, ◌∙◌}
 use native.Mathlib.Omega.{arith}
 use Rattle.program.specs.Program.{rule_of, variable_in, variables_at}

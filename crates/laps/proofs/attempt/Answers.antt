@@ -32,7 +32,7 @@ raise-requires c = record { model_len = c.requires.i_lt_max_rules.1; waiting_len
 pub returns-then-not-raise : goal.returns-then-not-raise
 returns-then-not-raise c = let z : to_z w64 (of_z w64 c.in-More.a) ≡ c.in-More.a = search rules in
     let waits = sym c.has_bit.ensures ∙ not-false _ c.if-not-has_bit.false-raw in
-    record { model_len = (c.raise.ensures.model_len_2, c.raise.ensures.waiting_len_2); model_bound = not_moved c.requires.some_run.run _ c.head_of-head.ensures c.variable-x.ensures z c.raise.new.1.1.1.1.0 c.raise.new.1.1.1.1.1.0 c.raise.result c.raise.ensures.lifted (not-true _ c.if-not-raise.true-raw); after_try = λ P R θ k. no_lift k _ (try_more k _ c.requires.i_lt_max_rules.0 waits _ (record { is = c.drop_bit.ensures.by_index }) c.look-found.ensures c.in-More.is) c.head_of-head.ensures c.variable-x.ensures z c.raise.new.1.1.1.1.0 c.raise.new.1.1.1.1.1.0 c.raise.result c.raise.ensures.lifted
+    record { model_len = (c.raise.ensures.model_len_2, c.raise.ensures.waiting_len_2); model_bound = not_moved c.requires.some_run.run _ c.head_of-head.ensures c.variable-x.ensures z c.raise.new.model.1.1.1.0 c.raise.new.model.1.1.1.1.0 c.raise.result c.raise.ensures.lifted (not-true _ c.if-not-raise.true-raw); after_try = λ P R θ k. no_lift k _ (try_more k _ c.requires.i_lt_max_rules.0 waits _ (record { is = c.drop_bit.ensures.by_index }) c.look-found.ensures c.in-More.is) c.head_of-head.ensures c.variable-x.ensures z c.raise.new.model.1.1.1.0 c.raise.new.model.1.1.1.1.0 c.raise.result c.raise.ensures.lifted
             (not-true _ c.if-not-raise.true-raw) }
 
 pub returns : goal.returns
@@ -40,7 +40,7 @@ returns c = let z : to_z w64 (of_z w64 c.in-More.a) ≡ c.in-More.a = search rul
     let waits = sym c.has_bit.ensures ∙ not-false _ c.if-not-has_bit.false-raw in
     record { model_len = (c.raise.ensures.model_len_2, c.raise.ensures.waiting_len_2); model_bound = omega (
           arith,
-          lift_nearer c.requires.some_run.run _ (try_more c.requires.some_run.run _ c.requires.i_lt_max_rules.0 waits _ (record { is = c.drop_bit.ensures.by_index }) c.look-found.ensures c.in-More.is) c.head_of-head.ensures c.variable-x.ensures z c.raise.new.1.1.1.1.0 c.raise.new.1.1.1.1.1.0 c.raise.result c.raise.ensures.lifted
+          lift_nearer c.requires.some_run.run _ (try_more c.requires.some_run.run _ c.requires.i_lt_max_rules.0 waits _ (record { is = c.drop_bit.ensures.by_index }) c.look-found.ensures c.in-More.is) c.head_of-head.ensures c.variable-x.ensures z c.raise.new.model.1.1.1.0 c.raise.new.model.1.1.1.1.0 c.raise.result c.raise.ensures.lifted
               (not-false _ c.if-not-raise.false-raw) (dropped_inside (record { is = c.drop_bit.ensures.by_index })) c.requires.i_lt_max_rules.1,
-        ); after_try = λ P R θ k. lift_on k _ (try_more k _ c.requires.i_lt_max_rules.0 waits _ (record { is = c.drop_bit.ensures.by_index }) c.look-found.ensures c.in-More.is) c.head_of-head.ensures c.variable-x.ensures z c.raise.new.1.1.1.1.0 c.raise.new.1.1.1.1.1.0 c.raise.result c.raise.ensures.lifted
+        ); after_try = λ P R θ k. lift_on k _ (try_more k _ c.requires.i_lt_max_rules.0 waits _ (record { is = c.drop_bit.ensures.by_index }) c.look-found.ensures c.in-More.is) c.head_of-head.ensures c.variable-x.ensures z c.raise.new.model.1.1.1.0 c.raise.new.model.1.1.1.1.0 c.raise.result c.raise.ensures.lifted
             (not-false _ c.if-not-raise.false-raw) (dropped_inside (record { is = c.drop_bit.ensures.by_index })) c.requires.i_lt_max_rules.1 }

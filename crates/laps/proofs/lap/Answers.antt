@@ -15,7 +15,7 @@ returns-in-NoModel c = record { model_len_2 = c.attempt-tried.ensures.model_len;
 
 pub loop-k-preserved : goal.loop-k-preserved
 loop-k-preserved c = (
-      λ P R θ k. went_on _ _ c.attempt-tried.result c.in_default.keys2 (c.attempt-tried.ensures.after_try P R θ (c.loop-k.invariant.0 P R θ k)),
+      λ P R θ k. went_on _ _ c.attempt-tried.result c.in_default.in_default-own.keys2 (c.attempt-tried.ensures.after_try P R θ (c.loop-k.invariant.0 P R θ k)),
       c.attempt-tried.ensures.model_len.0,
       c.attempt-tried.ensures.model_len.1,
       c.note-rose.ensures.0,

@@ -15,12 +15,10 @@ use borrow.Author.Rules.{rules}
 use Rattle.listing.proofs.put_bound.Goals as goal
 
 pub returns-in-1 : goal.returns-in-1
-returns-in-1 c = record { appends = (let it : (mark : ℕ) {at k : ℕ} {b d : List ℕ} → entry_line c.args.v mark c.args.z ≡ bound_line c.args.x c.args.v c.args.z
-    → Appends (entry_line c.args.v mark (to_z w64 (of_z w64 c.args.z))) at k b d → Appends (bound_line c.args.x c.args.v c.args.z) at k b d = λ mark e w. appends_as (ap (entry_line c.args.v mark) (to_z-of_z c.ranges.z) ∙ e) w in it) 0 (most_listed _ _ _ c.in-1.is) c.put_marked.ensures.appends; upper_bound = c.put_marked.ensures.upper_bound }
+returns-in-1 c = record { appends = appends_as (ap (entry_line c.args.v 0) (to_z-of_z c.ranges.z) ∙ most_listed _ _ _ c.in-1.is) c.put_marked.ensures.appends; upper_bound = c.put_marked.ensures.upper_bound }
 
 pub returns-in-2 : goal.returns-in-2
-returns-in-2 c = record { appends = (let it : (mark : ℕ) {at k : ℕ} {b d : List ℕ} → entry_line c.args.v mark c.args.z ≡ bound_line c.args.x c.args.v c.args.z
-    → Appends (entry_line c.args.v mark (to_z w64 (of_z w64 c.args.z))) at k b d → Appends (bound_line c.args.x c.args.v c.args.z) at k b d = λ mark e w. appends_as (ap (entry_line c.args.v mark) (to_z-of_z c.ranges.z) ∙ e) w in it) 3 (least_listed _ _ _ c.in-2.is) c.put_marked-in-2.ensures.appends; upper_bound = c.put_marked-in-2.ensures.upper_bound }
+returns-in-2 c = record { appends = appends_as (ap (entry_line c.args.v 3) (to_z-of_z c.ranges.z) ∙ least_listed _ _ _ c.in-2.is) c.put_marked-in-2.ensures.appends; upper_bound = c.put_marked-in-2.ensures.upper_bound }
 
 pub returns-in_default : goal.returns-in_default
-returns-in_default c = record { appends = appends_as (none_listed _ _ _ c.in_default.rest.0.1 c.in_default.rest.1) (appends_none _ _); upper_bound = search rules }
+returns-in_default c = record { appends = appends_as (none_listed _ _ _ c.in_default.in_default-own.rest.0.1 c.in_default.in_default-own.rest.1) (appends_none _ _); upper_bound = search rules }

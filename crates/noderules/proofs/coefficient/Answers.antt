@@ -1,4 +1,3 @@
--- src/lib.rt:43:1
 use native.Mathlib.Omega.{arith}
 use Rattle.noderules.proofs.Terms.{number_sum, number_other}
 use Rattle.noderules.proofs.coefficient.Goals as goal
@@ -6,12 +5,8 @@ use Rattle.noderules.proofs.coefficient.Goals as goal
 pub returns-in-1 : goal.returns-in-1
 returns-in-1 c = number_sum _ c.in-1.is
 
--- src/lib.rt:43:1
-
 pub returns-in-0 : goal.returns-in-0
 returns-in-0 c = number_other c.args.form (λ e. omega arith)
-
--- src/lib.rt:43:1
 
 pub returns-in-0-2 : goal.returns-in-0-2
 returns-in-0-2 c = number_other c.args.form (λ e. omega arith)

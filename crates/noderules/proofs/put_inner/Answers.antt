@@ -8,42 +8,26 @@ use Rattle.noderules.proofs.put_inner.Goals as goal
 pub loop-place-init : goal.loop-place-init
 loop-place-init c = inner_begun c.requires.0 c.requires.1
 
--- src/lib.rt:129:11
-
 pub overflow_add-place : goal.overflow_add-place
 overflow_add-place c = omega (arith, c.loop-place.invariant.left.inside)
-
--- src/lib.rt:130:12
 
 pub bounds-s-place : goal.bounds-s-place
 bounds-s-place c = omega arith
 
--- src/lib.rt:131:31
-
 pub inner_at-requires : goal.inner_at-requires
 inner_at-requires c = (omega arith, left_free c.loop-place.invariant.left (omega arith) c.if-s-place-ne0.true)
-
--- src/lib.rt:131:13
 
 pub put_node-end-requires : goal.put_node-end-requires
 put_node-end-requires c = rw c.inner_at.ensures (left_writable c.loop-place.invariant.left (omega arith) c.if-s-place-ne0.true, inner_room c.loop-place.invariant (omega arith) c.if-s-place-ne0.true)
 
--- src/lib.rt:132:13
-
 pub overflow_add-number : goal.overflow_add-number
 overflow_add-number c = omega (arith, left_free c.loop-place.invariant.left (omega arith) c.if-s-place-ne0.true)
-
--- src/lib.rt:134:9
 
 pub overflow_add-place-in-loop-place : goal.overflow_add-place-in-loop-place
 overflow_add-place-in-loop-place c = omega arith
 
--- src/lib.rt:129:5
-
 pub loop-place-smaller : goal.loop-place-smaller
 loop-place-smaller c = omega arith
-
--- src/lib.rt:129:5
 
 pub loop-place-preserved : goal.loop-place-preserved
 loop-place-preserved c = ⊎_elim
@@ -51,12 +35,8 @@ loop-place-preserved c = ⊎_elim
     (λ w. inner_same (inner_leaf c.loop-place.invariant (omega arith) w.0.left) w.1 w.2 w.3)
     c.if-s-place-ne0.branch
 
--- src/lib.rt:122:1
-
 pub shape_of-out : goal.shape_of-out
 shape_of-out c = inner_length c.loop-place.invariant
-
--- src/lib.rt:122:1
 
 pub returns : goal.returns
 returns c = inner_done c.loop-place.invariant (omega arith)

@@ -8,5 +8,3 @@ invariant-loop-place l = InnerPut l.s l.from l.next l.initial.out l.at l.out l.p
 
 abbrev pub decreases-loop-place : goal.decreases-loop-place
 decreases-loop-place l = length l.s - l.place
-
--- src/lib.rt:129:5

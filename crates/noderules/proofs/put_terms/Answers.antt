@@ -1,66 +1,37 @@
 use mathlib.Core.Path.{◌≡◌}
 use Prim.Native.Nat.{◌-◌}
 use native.Mathlib.Omega.{arith}
-use borrow.Author.Rules.{rules}
 use Rattle.noderules.proofs.Putting.{puts}
 use Rattle.noderules.proofs.Terms.{terms_begun, terms_length, tree_stands, tree_two, tree_numbered, term_room, terms_more, terms_done}
 use Rattle.noderules.proofs.put_terms.Goals as goal
 
-pub coefficient-number-requires : goal.coefficient-number-requires
-coefficient-number-requires c = search rules
-
--- src/lib.rt:61:5
-
 pub loop-i-init : goal.loop-i-init
 loop-i-init c = (terms_begun _ _ _ _ _ _ c.requires.0.inside, omega arith)
-
--- src/lib.rt:62:13
 
 pub operand-x-requires : goal.operand-x-requires
 operand-x-requires c = (tree_two c.requires.0.stands c.requires.1 c.requires.0.numbered c.loop-i.invariant.0 (omega arith), tree_numbered c.requires.0.stands c.requires.1 c.requires.0.numbered c.loop-i.invariant.0 (omega arith))
 
--- src/lib.rt:64:19
-
-pub slice_bounds-put-end : goal.slice_bounds-put-end
-slice_bounds-put-end c = search rules
-
--- src/lib.rt:64:9
-
 pub put-end-requires : goal.put-end-requires
 put-end-requires c = term_room c.requires.0.stands c.requires.1 c.requires.0.numbered c.loop-i.invariant.0 (omega arith)
-
--- src/lib.rt:65:13
 
 pub skip-skipped-requires : goal.skip-skipped-requires
 skip-skipped-requires c = (c.loop-i.invariant.0.inside, tree_stands c.requires.0.stands c.requires.1 c.requires.0.numbered c.loop-i.invariant.0 (omega arith))
 
--- src/lib.rt:67:9
-
 pub overflow_add-next : goal.overflow_add-next
 overflow_add-next c = omega (arith, tree_numbered c.requires.0.stands c.requires.1 c.requires.0.numbered c.loop-i.invariant.0 (omega arith), c.skip-skipped.ensures.counted)
-
--- src/lib.rt:61:9
 
 pub overflow_step-i : goal.overflow_step-i
 overflow_step-i c = omega arith
 
--- src/lib.rt:61:5
-
 pub loop-i-smaller : goal.loop-i-smaller
 loop-i-smaller c = omega arith
-
--- src/lib.rt:61:5
 
 pub loop-i-preserved : goal.loop-i-preserved
 loop-i-preserved c = let o = puts c.put-end.ensures in
     (terms_more c.requires.0.stands c.requires.1 c.requires.0.numbered c.loop-i.invariant.0 (omega arith) c.operand-x.ensures o c.skip-skipped.ensures, omega arith)
 
--- src/lib.rt:53:1
-
 pub shape_of-out : goal.shape_of-out
 shape_of-out c = terms_length c.requires.0.stands c.requires.1 c.requires.0.numbered c.loop-i.invariant.0 c.loop-i.invariant.1
-
--- src/lib.rt:53:1
 
 pub returns : goal.returns
 returns c = let e : c.loop-i.i ≡ c.args.node.n = omega arith in

@@ -1,4 +1,3 @@
--- src/lib.rt:103:8
 use native.Mathlib.Omega.{arith}
 use Rattle.noderules.proofs.Lefts.{tree_least}
 use Rattle.noderules.proofs.Roots.{root_leaf, root_inner}
@@ -7,27 +6,17 @@ use Rattle.noderules.proofs.root.Goals as goal
 pub bounds-s-0 : goal.bounds-s-0
 bounds-s-0 c = omega (arith, tree_least c.requires.0)
 
--- src/lib.rt:104:9
-
 pub returns-then-s-eq0 : goal.returns-then-s-eq0
 returns-then-s-eq0 c = root_leaf _ _ _ c.requires.0 c.requires.1 c.if-s-eq0.true
-
--- src/lib.rt:113:15
 
 pub bounds-s-0-2 : goal.bounds-s-0-2
 bounds-s-0-2 c = omega (arith, tree_least c.requires.0)
 
--- src/lib.rt:116:12
-
 pub bounds-s-1 : goal.bounds-s-1
 bounds-s-1 c = omega (arith, tree_least c.requires.0)
 
--- src/lib.rt:116:12
-
 pub overflow_cast-result : goal.overflow_cast-result
 overflow_cast-result c = omega (arith, c.type_inv.s 1)
-
--- src/lib.rt:98:1
 
 pub returns : goal.returns
 returns c = root_inner _ _ _ c.requires.0 c.requires.1 c.if-s-eq0.false

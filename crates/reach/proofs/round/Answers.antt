@@ -1,6 +1,5 @@
 -- Invariant: the rows before i are done, those from i on are as they were.
 use mathlib.Core.Path.{◌≡◌, refl, sym, ap, ◌∙◌}
-use mathlib.Core.Logic.{⊎_elim}
 use Prim.Native.Nat.{◌<◌, ◌-◌}
 use native.Mathlib.Omega.{arith}
 use lib.ListN.{length}
@@ -8,6 +7,7 @@ use Rattle.format.specs.Limits.{max_variables}
 use Rattle.reach.specs.Rows.{row_has}
 use Rattle.reach.proofs.Rounds.{upto_none, upto_joined, upto_left}
 use Rattle.reach.proofs.round.Goals as goal
+use Rattle.reach.proofs.round.Goals.{then-row_has, else-row_has}
 
 pub loop-i-init : goal.loop-i-init
 loop-i-init c = (omega arith, refl, upto_none _ _)
@@ -27,18 +27,18 @@ loop-i-smaller c = omega arith
 pub loop-i-preserved : goal.loop-i-preserved
 loop-i-preserved c = let s' = row_has c.if-row_has.rows in
     let hk : c.args.k < max_variables = omega (arith, c.requires.0.few, c.requires.1) in
-    ⊎_elim
-    (λ w. (
-      omega arith,
-      ap length w.5 ∙ w.2.ensures.0 ∙ c.loop-i.invariant.1,
-      upto_joined s' hk c.loop-i.invariant.2 (sym c.row_has.ensures ∙ w.0.taken) (rw w.5 w.2.ensures.1),
-    ))
-    (λ w. (
-      omega arith,
-      ap length w.1 ∙ c.loop-i.invariant.1,
-      upto_left s' hk c.loop-i.invariant.2 (sym c.row_has.ensures ∙ w.0.left) (λ x y. ap (λ z. row_has z x y) w.1),
-    ))
-    c.if-row_has.branch
+    elim c.if-row_has.branch [
+      | then-row_has w ↦ (
+        omega arith,
+        ap length w.rows-is ∙ w.join.ensures.rows_len_unchanged ∙ c.loop-i.invariant.1,
+        upto_joined s' hk c.loop-i.invariant.2 (sym c.row_has.ensures ∙ w.if-row_has.true) (rw w.rows-is w.join.ensures.joined),
+      )
+      | else-row_has w ↦ (
+        omega arith,
+        ap length w.rows-is ∙ c.loop-i.invariant.1,
+        upto_left s' hk c.loop-i.invariant.2 (sym c.row_has.ensures ∙ w.if-row_has.false) (λ x y. ap (λ z. row_has z x y) w.rows-is),
+      )
+    ]
 
 pub shape_of-rows : goal.shape_of-rows
 shape_of-rows c = c.loop-i.invariant.1

@@ -1,7 +1,7 @@
 -- Invariant: every literal before position i holds.
 use mathlib.Core.Path.{◌≡◌}
 use mathlib.Core.Bool.{Bool, true}
-use Prim.Native.Nat.{ℕ, ◌≤◌, ◌-◌, ◌/◌}
+use Prim.Native.Nat.{ℕ, ◌≤◌, ◌/◌}
 use lib.ListN.{length}
 use Rattle.program.specs.Program.{terms_of}
 use Rattle.program.specs.Evaluate.{all_hold}

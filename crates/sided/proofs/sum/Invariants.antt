@@ -1,6 +1,6 @@
 -- Invariant: the first i terms' amounts; each is small, so the sum so far fits.
 use mathlib.Core.Path.{◌≡◌}
-use Prim.Native.Nat.{◌-◌, ◌/◌, ◌≤◌}
+use Prim.Native.Nat.{◌/◌, ◌≤◌}
 use lib.ListN.{length}
 use Rattle.program.specs.Program.{terms_of}
 use Rattle.program.specs.Evaluate.{sum_below}

@@ -16,26 +16,6 @@ use Rattle.rewriting.specs.Writing.{put_at}
 use Rattle.spans.specs.Filling.{node_value, node_variable}
 use Rattle.spans.proofs.fill_node.Goals as goal
 
-pub value-low-requires : goal.value-low-requires
-value-low-requires c = search rules
-
--- src/lib.rt:82:9
-
-pub value-high-requires : goal.value-high-requires
-value-high-requires c = search rules
-
--- src/lib.rt:83:8
-
-pub is_number_beyond-requires : goal.is_number_beyond-requires
-is_number_beyond-requires c = search rules
-
--- src/lib.rt:83:40
-
-pub is_number_beyond-requires-2 : goal.is_number_beyond-requires-2
-is_number_beyond-requires-2 c = search rules
-
--- src/lib.rt:84:9
-
 pub returns-then-is_number_beyond : goal.returns-then-is_number_beyond
 returns-then-is_number_beyond c = record { far = sym ((let it : let x = node_variable c.args.kind c.args.s.now c.args.node c.args.lows.now c.args.highs.now in
     (c.is_number_beyond.result || c.is_number_beyond-2.result) ≡ (beyond max_number x.low || beyond max_number x.high) = ap₂ ◌||◌ (c.is_number_beyond.ensures ∙ ap (beyond max_number) ((let it : (to_z w64 (of_z w64 c.value-low.result) ≡ node_value c.args.s.now c.args.node c.args.lows.now)
@@ -49,35 +29,6 @@ returns-then-is_number_beyond c = record { far = sym ((let it : let x = node_var
     (x ∙ c.value-low.ensures, y ∙ c.value-high.ensures)
 
 -- whether one of them is outside in it)).1)
-
--- src/lib.rt:81:9 in it)) ∙ c.if-is_number_beyond.true; lows_kept = refl; highs_kept = refl; records_kept = refl }
-
--- src/lib.rt:86:9
-
-pub wide-v-requires : goal.wide-v-requires
-wide-v-requires c = search rules
-
--- src/lib.rt:87:5
-
-pub offset_bounds-lows-v : goal.offset_bounds-lows-v
-offset_bounds-lows-v c = search rules
-
--- src/lib.rt:87:5
-
-pub bounds-lows-v : goal.bounds-lows-v
-bounds-lows-v c = search rules
-
--- src/lib.rt:88:5
-
-pub offset_bounds-highs-v : goal.offset_bounds-highs-v
-offset_bounds-highs-v c = search rules
-
--- src/lib.rt:88:5
-
-pub bounds-highs-v : goal.bounds-highs-v
-bounds-highs-v c = search rules
-
--- src/lib.rt:89:5
 
 pub put_record-requires : goal.put_record-requires
 put_record-requires c = let near = neither _ _ (sym ((let it : let x = node_variable c.args.kind c.args.s.now c.args.node c.args.lows.now c.args.highs.now in
@@ -93,7 +44,6 @@ put_record-requires c = let near = neither _ _ (sym ((let it : let x = node_vari
 
 -- whether one of them is outside in it)).1)
 
--- src/lib.rt:81:9 in it)) ∙ c.if-is_number_beyond.false) in
     ((c.requires.tables.1, c.wide-v.ensures.1), (rw ((let it : (to_z w64 (of_z w64 c.value-low.result) ≡ node_value c.args.s.now c.args.node c.args.lows.now)
     × (to_z w64 (of_z w64 c.value-high.result) ≡ node_value c.args.s.now c.args.node c.args.highs.now) = let x : to_z w64 (of_z w64 c.value-low.result) ≡ c.value-low.result = search rules in
     let y : to_z w64 (of_z w64 c.value-high.result) ≡ c.value-high.result = search rules in
@@ -105,13 +55,6 @@ put_record-requires c = let near = neither _ _ (sym ((let it : let x = node_vari
     (x ∙ c.value-low.ensures, y ∙ c.value-high.ensures)
 
 -- whether one of them is outside in it)).1 (within_small _ _ near.1)))
-
--- src/lib.rt:68:1
-
-pub shape_of-records : goal.shape_of-records
-shape_of-records c = search rules
-
--- src/lib.rt:68:1
 
 pub returns : goal.returns
 returns c = let low = ((let it : (to_z w64 (of_z w64 c.value-low.result) ≡ node_value c.args.s.now c.args.node c.args.lows.now)
@@ -140,7 +83,6 @@ returns c = let low = ((let it : (to_z w64 (of_z w64 c.value-low.result) ≡ nod
 
 -- whether one of them is outside in it)).1)
 
--- src/lib.rt:81:9 in it)) ∙ c.if-is_number_beyond.false;
       lows_set = ap₂ (set c.args.lows.now) c.wide-v.ensures.0 low;
       highs_set = ap₂ (set c.args.highs.now) c.wide-v.ensures.0 high;
       put =

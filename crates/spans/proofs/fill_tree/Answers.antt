@@ -3,7 +3,6 @@ use mathlib.Core.Path.{◌≡◌, sym, ap, ◌∙◌}
 use mathlib.Core.Bool.{false, not, ◌||◌}
 use native.Mathlib.Omega.{arith}
 use lib.ListN.{length, drop}
-use borrow.Author.Rules.{rules}
 use Rattle.program.specs.Readings.{valued}
 use Rattle.flat.specs.Flat.{values_in}
 use Rattle.noderules.proofs.Lefts.{tree_least, left_free, left_bytes, left_writable}
@@ -15,55 +14,32 @@ use Rattle.spans.proofs.fill_tree.Goals as goal
 pub slice_bounds-inners-count : goal.slice_bounds-inners-count
 slice_bounds-inners-count c = tree_least c.requires.one_tree.0
 
--- src/lib.rt:115:43
-
 pub slice_bounds-inners-start : goal.slice_bounds-inners-start
 slice_bounds-inners-start c = tree_least c.requires.one_tree.0
-
--- src/lib.rt:115:43
 
 pub slice_bounds-inners-end : goal.slice_bounds-inners-end
 slice_bounds-inners-end c = omega arith
 
--- src/lib.rt:115:29
-
-pub inners-requires : goal.inners-requires
-inners-requires c = search rules
-
--- src/lib.rt:115:22
-
 pub overflow_add-number : goal.overflow_add-number
 overflow_add-number c = omega (arith, c.requires.one_tree.1, c.inners.ensures.0, inners_after c.args.s.now)
-
--- src/lib.rt:116:5
 
 pub loop-at-init : goal.loop-at-init
 loop-at-init c = let e = ap (λ (m : ℕ). c.args.next + m) (c.inners.ensures.0 ∙ inners_after c.args.s.now) in
     filling_begun c.args.kind c.requires.one_tree.0 c.requires.tables.0 c.requires.tables.1 _ e
 
--- src/lib.rt:117:9
-
 pub overflow_sub-at : goal.overflow_sub-at
 overflow_sub-at c = omega arith
-
--- src/lib.rt:118:12
 
 pub bounds-s-at : goal.bounds-s-at
 bounds-s-at c = omega (arith, c.loop-at.invariant.inside)
 
--- src/lib.rt:119:13
-
 pub overflow_sub-number : goal.overflow_sub-number
 overflow_sub-number c = omega (arith, filling_some (c.loop-at.at - 2) (omega arith) c.loop-at.number (filling_back c.loop-at.invariant (omega arith)) c.if-s-at-ne0.true)
-
--- src/lib.rt:120:52
 
 pub inner_at-requires : goal.inner_at-requires
 inner_at-requires c = let k = filling_apart c.loop-at.invariant (omega arith) c.if-s-at-ne0.true in
     let two = filling_two (c.loop-at.at - 2) (omega arith) (c.loop-at.number - 1 + 1) k in
     (two, left_free (filling_left (c.loop-at.at - 2) (omega arith) (c.loop-at.number - 1) c.if-s-at-ne0.true k c.requires.one_tree.0 c.requires.one_tree.1) two c.if-s-at-ne0.true)
-
--- src/lib.rt:120:17
 
 pub fill_node-requires : goal.fill_node-requires
 fill_node-requires c = let k = filling_apart c.loop-at.invariant (omega arith) c.if-s-at-ne0.true in
@@ -73,26 +49,20 @@ fill_node-requires c = let k = filling_apart c.loop-at.invariant (omega arith) c
     rw c.inner_at.ensures
     ((left_writable left two c.if-s-at-ne0.true, b.form_least, b.form_most, b.children_least), (filling_tables c.loop-at.invariant, c.loop-at.invariant.fielded.many))
 
--- src/lib.rt:121:17
-
 pub shape_of-records-then-not-fill_node : goal.shape_of-records-then-not-fill_node
 shape_of-records-then-not-fill_node c = ((let it : let start = (let it : tie.Start invariant-loop decreases-loop = c.before.before.before.before.before.before.before.before.before.before.before.before.before.before.before.before
 
 -- where a range passes -30,000..30,000 in it) in
     (false ≡ not (any_beyond (values_in (valued start.args.lows.now) start.args.next (drop 2 start.args.s.now))
     || any_beyond (values_in (valued start.args.highs.now) start.args.next (drop 2 start.args.s.now))))
-    × (Tables c.fill_node.new.0 c.fill_node.new.1.0 × (length c.fill_node.new.1.1.0 ≡ records_length)) = let start = (let it : tie.Start invariant-loop decreases-loop = c.before.before.before.before.before.before.before.before.before.before.before.before.before.before.before.before
+    × (Tables c.fill_node.new.lows c.fill_node.new.highs.0 × (length c.fill_node.new.highs.1.0 ≡ records_length)) = let start = (let it : tie.Start invariant-loop decreases-loop = c.before.before.before.before.before.before.before.before.before.before.before.before.before.before.before.before
 
 -- where a range passes -30,000..30,000 in it) in
     let k = filling_apart c.loop-at.invariant (omega arith) c.if-s-at-ne0.true in
     filling_stops (c.loop-at.at - 2) (omega arith) (c.loop-at.number - 1) c.if-s-at-ne0.true k start.pre.0.0 start.pre.0.1 start.pre.1.0
     c.inner_at.ensures _ c.fill_node.result c.fill_node.ensures c.if-not-fill_node.true-raw
 
--- src/lib.rt:115:43 in it)).1.1 ∙ sym ((let it : tie.Start invariant-loop decreases-loop = c.before.before.before.before.before.before.before.before.before.before.before.before.before.before.before.before
-
 -- where a range passes -30,000..30,000 in it)).requires.1.1.1
-
--- src/lib.rt:121:17
 
 pub returns-then-not-fill_node : goal.returns-then-not-fill_node
 returns-then-not-fill_node c = (((let it : let start = (let it : tie.Start invariant-loop decreases-loop = c.before.before.before.before.before.before.before.before.before.before.before.before.before.before.before.before
@@ -100,55 +70,39 @@ returns-then-not-fill_node c = (((let it : let start = (let it : tie.Start invar
 -- where a range passes -30,000..30,000 in it) in
     (false ≡ not (any_beyond (values_in (valued start.args.lows.now) start.args.next (drop 2 start.args.s.now))
     || any_beyond (values_in (valued start.args.highs.now) start.args.next (drop 2 start.args.s.now))))
-    × (Tables c.fill_node.new.0 c.fill_node.new.1.0 × (length c.fill_node.new.1.1.0 ≡ records_length)) = let start = (let it : tie.Start invariant-loop decreases-loop = c.before.before.before.before.before.before.before.before.before.before.before.before.before.before.before.before
+    × (Tables c.fill_node.new.lows c.fill_node.new.highs.0 × (length c.fill_node.new.highs.1.0 ≡ records_length)) = let start = (let it : tie.Start invariant-loop decreases-loop = c.before.before.before.before.before.before.before.before.before.before.before.before.before.before.before.before
 
 -- where a range passes -30,000..30,000 in it) in
     let k = filling_apart c.loop-at.invariant (omega arith) c.if-s-at-ne0.true in
     filling_stops (c.loop-at.at - 2) (omega arith) (c.loop-at.number - 1) c.if-s-at-ne0.true k start.pre.0.0 start.pre.0.1 start.pre.1.0
     c.inner_at.ensures _ c.fill_node.result c.fill_node.ensures c.if-not-fill_node.true-raw
-
--- src/lib.rt:115:43 in it)).0, (((let it : let start = (let it : tie.Start invariant-loop decreases-loop = c.before.before.before.before.before.before.before.before.before.before.before.before.before.before.before.before
 
 -- where a range passes -30,000..30,000 in it) in
     (false ≡ not (any_beyond (values_in (valued start.args.lows.now) start.args.next (drop 2 start.args.s.now))
     || any_beyond (values_in (valued start.args.highs.now) start.args.next (drop 2 start.args.s.now))))
-    × (Tables c.fill_node.new.0 c.fill_node.new.1.0 × (length c.fill_node.new.1.1.0 ≡ records_length)) = let start = (let it : tie.Start invariant-loop decreases-loop = c.before.before.before.before.before.before.before.before.before.before.before.before.before.before.before.before
+    × (Tables c.fill_node.new.lows c.fill_node.new.highs.0 × (length c.fill_node.new.highs.1.0 ≡ records_length)) = let start = (let it : tie.Start invariant-loop decreases-loop = c.before.before.before.before.before.before.before.before.before.before.before.before.before.before.before.before
 
 -- where a range passes -30,000..30,000 in it) in
     let k = filling_apart c.loop-at.invariant (omega arith) c.if-s-at-ne0.true in
     filling_stops (c.loop-at.at - 2) (omega arith) (c.loop-at.number - 1) c.if-s-at-ne0.true k start.pre.0.0 start.pre.0.1 start.pre.1.0
     c.inner_at.ensures _ c.fill_node.result c.fill_node.ensures c.if-not-fill_node.true-raw
 
--- src/lib.rt:115:43 in it)).1, λ vs e t z. let y : ◌≡◌ {A = ℕ} 0 1 = cc in absurd (omega arith)))
-
--- src/lib.rt:116:5
-
 pub loop-at-smaller-else-not-fill_node : goal.loop-at-smaller-else-not-fill_node
 loop-at-smaller-else-not-fill_node c = omega arith
-
--- src/lib.rt:116:5
 
 pub loop-at-preserved-else-not-fill_node : goal.loop-at-preserved-else-not-fill_node
 loop-at-preserved-else-not-fill_node c = let k = filling_apart c.loop-at.invariant (omega arith) c.if-s-at-ne0.true in
     filling_goes (c.loop-at.at - 2) (omega arith) (c.loop-at.number - 1) c.if-s-at-ne0.true k c.requires.one_tree.0 c.requires.one_tree.1 c.requires.all
     c.inner_at.ensures _ c.fill_node.result c.fill_node.ensures c.if-not-fill_node.false-raw
 
--- src/lib.rt:116:5
-
 pub loop-at-smaller : goal.loop-at-smaller
 loop-at-smaller c = omega arith
-
--- src/lib.rt:116:5
 
 pub loop-at-preserved : goal.loop-at-preserved
 loop-at-preserved c = filling_leaf (c.loop-at.at - 2) (omega arith) c.loop-at.number (filling_back c.loop-at.invariant (omega arith)) c.if-s-at-ne0.false
 
--- src/lib.rt:95:1
-
 pub shape_of-records : goal.shape_of-records
 shape_of-records c = c.loop-at.invariant.fielded.many ∙ sym c.requires.tables.1
-
--- src/lib.rt:95:1
 
 pub returns : goal.returns
 returns c = record { value = filling_near c.loop-at.invariant (omega arith); tables_2 = (filling_tables c.loop-at.invariant, c.loop-at.invariant.fielded.many); tabled = λ vs e t z. filling_tabled c.loop-at.invariant (omega arith) c.requires.one_tree.1 vs e t }

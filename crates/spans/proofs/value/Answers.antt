@@ -1,4 +1,3 @@
--- src/lib.rt:46:33
 use Prim.Native.Nat.{ℕ}
 use mathlib.Core.Path.{◌≡◌, ◌∙◌}
 use native.Mathlib.Omega.{arith}
@@ -10,52 +9,16 @@ use Rattle.spans.proofs.NodeValues.{value_evaluable, value_headed, value_given}
 use borrow.Author.Rules.{rules}
 use Rattle.spans.proofs.value.Goals as goal
 
-pub slice_bounds-put_node-end : goal.slice_bounds-put_node-end
-slice_bounds-put_node-end c = search rules
-
--- src/lib.rt:46:9
-
-pub put_node-end-requires : goal.put_node-end-requires
-put_node-end-requires c = search rules
-
--- src/lib.rt:47:17
-
-pub slice_bounds-gives-count : goal.slice_bounds-gives-count
-slice_bounds-gives-count c = search rules
-
--- src/lib.rt:47:17
-
-pub slice_bounds-gives-start : goal.slice_bounds-gives-start
-slice_bounds-gives-start c = search rules
-
--- src/lib.rt:47:17
-
 pub slice_bounds-gives-end : goal.slice_bounds-gives-end
 slice_bounds-gives-end c = omega (arith, c.put_node-end.ensures.ends, puts_length c.put_node-end.ensures (omega (arith, node_size c.args.s.now c.args.node)), node_size c.args.s.now c.args.node)
 
--- src/lib.rt:47:11
-
 pub gives-requires : goal.gives-requires
 gives-requires c = (value_evaluable _ _ c.requires.writable.0 c.requires.writable.1 c.requires.writable.2 c.requires.writable.3 c.put_node-end.ensures, (value_headed _ _ c.requires.writable.0 c.requires.writable.1 c.requires.writable.2 c.requires.writable.3 c.put_node-end.ensures, (c.requires.small, c.requires.small)))
-
--- src/lib.rt:48:22
-
-pub enum_known-a : goal.enum_known-a
-enum_known-a c = search rules
-
--- src/lib.rt:49:27
-
-pub enum_told-1 : goal.enum_told-1
-enum_told-1 c = search rules
-
--- src/lib.rt:40:1
 
 pub returns-in-Value : goal.returns-in-Value
 returns-in-Value c = let v = value_given _ _ c.requires.writable.0 c.requires.writable.1 c.requires.writable.2 c.requires.writable.3 c.put_node-end.ensures c.args.table.now c.gives.ensures in
     let z : to_z w64 (of_z w64 c.in-Value.a) ≡ c.in-Value.a = search rules in
     z ∙ cc (c.in-Value.is, v)
-
--- src/lib.rt:40:1
 
 pub returns-in-Nothing : goal.returns-in-Nothing
 returns-in-Nothing c = let v = value_given _ _ c.requires.writable.0 c.requires.writable.1 c.requires.writable.2 c.requires.writable.3 c.put_node-end.ensures c.args.table.now c.gives.ensures in

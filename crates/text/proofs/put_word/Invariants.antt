@@ -1,6 +1,6 @@
 -- Invariant: the first i bytes of the word are written.
 use mathlib.Core.Path.{◌≡◌}
-use Prim.Native.Nat.{◌+◌, ◌≤◌, ◌-◌}
+use Prim.Native.Nat.{◌+◌, ◌≤◌}
 use lib.ListN.{length, take}
 use Rattle.text.specs.Output.{Appends}
 use Rattle.text.proofs.put_word.Given as goal

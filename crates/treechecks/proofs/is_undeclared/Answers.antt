@@ -1,4 +1,3 @@
--- src/lib.rt:58:31
 use Prim.Native.Nat.{ℕ}
 use mathlib.Core.Path.{sym, ap₂, ◌∙◌}
 use mathlib.Core.List.{List}
@@ -7,43 +6,10 @@ use Rattle.program.specs.Program.{variables_at}
 use Rattle.program.proofs.Places.{variables_length}
 use Rattle.flat.specs.Flat.{leaves_in, any_in}
 use Rattle.treechecks.proofs.TreeValues.{value_undeclared, part_rest}
-use borrow.Author.Rules.{rules}
 use Rattle.treechecks.proofs.is_undeclared.Goals as goal
-
-pub bounds-value-0 : goal.bounds-value-0
-bounds-value-0 c = search rules
-
--- src/lib.rt:58:8
-
-pub is_wrong_head-requires : goal.is_wrong_head-requires
-is_wrong_head-requires c = search rules
-
--- src/lib.rt:59:9
 
 pub returns-then-is_wrong_head : goal.returns-then-is_wrong_head
 returns-then-is_wrong_head c = λ t e. sym (value_undeclared c.args.value.now t e (variables_at c.args.file.now c.args.n) ∙ simp (sym c.is_wrong_head.ensures ∙ c.if-is_wrong_head.true))
-
--- src/lib.rt:61:26
-
-pub slice_bounds-is_undeclared-count : goal.slice_bounds-is_undeclared-count
-slice_bounds-is_undeclared-count c = search rules
-
--- src/lib.rt:61:26
-
-pub slice_bounds-is_undeclared-start : goal.slice_bounds-is_undeclared-start
-slice_bounds-is_undeclared-start c = search rules
-
--- src/lib.rt:61:26
-
-pub slice_bounds-is_undeclared-end : goal.slice_bounds-is_undeclared-end
-slice_bounds-is_undeclared-end c = search rules
-
--- src/lib.rt:61:5
-
-pub is_undeclared-requires : goal.is_undeclared-requires
-is_undeclared-requires c = search rules
-
--- src/lib.rt:53:1
 
 pub returns : goal.returns
 returns c = λ t e. let vs = variables_at c.args.file.now c.args.n in

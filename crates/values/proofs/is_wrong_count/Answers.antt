@@ -29,4 +29,4 @@ pub returns-in-0 : goal.returns-in-0
 returns-in-0 c = count_unknown _ _ (omega arith) (omega arith) (omega arith) (omega arith) (omega arith) (omega arith) (omega arith)
 
 pub returns-in-0-2 : goal.returns-in-0-2
-returns-in-0-2 c = count_unknown _ _ c.in-0.rest.0.0.0.0.0.0.0.1 c.in-0.rest.0.0.0.0.0.0.1 c.in-0.rest.0.0.0.0.0.1 c.in-0.rest.0.0.0.0.1 c.in-0.rest.0.0.0.1 c.in-0.rest.0.0.1 c.in-0.rest.0.1
+returns-in-0-2 c = count_unknown _ _ (omega arith) (omega arith) (omega arith) (omega arith) (omega arith) (omega arith) (omega arith)

@@ -15,12 +15,12 @@ sweep-swept-requires c = record { accepted_as = c.requires.accepted_as; some_cli
 pub returns-in_default : goal.returns-in_default
 returns-in_default c = record { sides_len_2 = c.sweep-swept.ensures.sides_len_2; climb_is = λ P R θ others a k.
           let e = c.sweep-swept.ensures.sweep_up_is P R θ others a (c.loop-counts.invariant.2 P R θ others a k) in
-          swept_none P R θ others c.args.stops.now c.args.full c.args.counts.rules c.sweep-swept.new.1.1.0 e c.in_default.is }
+          swept_none P R θ others c.args.stops.now c.args.full c.args.counts.rules c.sweep-swept.new.sides.1.0 e c.in_default.is }
 
 pub returns-then-raises-eq0 : goal.returns-then-raises-eq0
 returns-then-raises-eq0 c = record { sides_len_2 = c.sweep-swept.ensures.sides_len_2; climb_is = λ P R θ others a k.
           let e = c.sweep-swept.ensures.sweep_up_is P R θ others a (c.loop-counts.invariant.2 P R θ others a k) in
-          let u = swept_raises P R θ others c.args.stops.now c.args.full c.args.counts.rules c.sweep-swept.new.1.1.0 e c.in-Raises.is in
+          let u = swept_raises P R θ others c.args.stops.now c.args.full c.args.counts.rules c.sweep-swept.new.sides.1.0 e c.in-Raises.is in
           climbing_least u.climbing (u.met c.if-raises-eq0.true) }
 
 pub have_arrived-requires : goal.have_arrived-requires
@@ -29,7 +29,7 @@ have_arrived-requires c = let f = limited c.requires.accepted_as in (f.inside, f
 pub returns-then-have_arrived : goal.returns-then-have_arrived
 returns-then-have_arrived c = record { sides_len_2 = c.sweep-swept.ensures.sides_len_2; climb_is = λ P R θ others a k.
           let e = c.sweep-swept.ensures.sweep_up_is P R θ others a (c.loop-counts.invariant.2 P R θ others a k) in
-          let u = swept_raises P R θ others c.args.stops.now c.args.full c.args.counts.rules c.sweep-swept.new.1.1.0 e c.in-Raises.is in
+          let u = swept_raises P R θ others c.args.stops.now c.args.full c.args.counts.rules c.sweep-swept.new.sides.1.0 e c.in-Raises.is in
           all_arrived c.requires.accepted_as a u.climbing c.if-full.true (c.have_arrived.ensures c.if-have_arrived.true) }
 
 pub overflow_add-done : goal.overflow_add-done
@@ -42,12 +42,12 @@ loop-counts-smaller c = let p = c.pays.ensures c.loop-counts-test.true in
 
 pub loop-counts-preserved : goal.loop-counts-preserved
 loop-counts-preserved c = let e = c.sweep-swept.ensures.sweep_up_is _ _ _ _ c.requires.some_climbing.accepts (c.loop-counts.invariant.2 _ _ _ _ c.requires.some_climbing.accepts c.requires.some_climbing.climbing) in
-    let u = swept_raises c.requires.some_climbing.program c.requires.some_climbing.reckoning c.requires.some_climbing.assigned c.requires.some_climbing.others c.args.stops.now c.args.full c.args.counts.rules c.sweep-swept.new.1.1.0 e c.in-Raises.is in (
+    let u = swept_raises c.requires.some_climbing.program c.requires.some_climbing.reckoning c.requires.some_climbing.assigned c.requires.some_climbing.others c.args.stops.now c.args.full c.args.counts.rules c.sweep-swept.new.sides.1.0 e c.in-Raises.is in (
       omega (arith, u.few, (limited c.requires.accepted_as).few_rules),
       c.sweep-swept.ensures.sides_len_2,
       λ P R θ others a k.
           let e = c.sweep-swept.ensures.sweep_up_is P R θ others a (c.loop-counts.invariant.2 P R θ others a k) in
-          (swept_raises P R θ others c.args.stops.now c.args.full c.args.counts.rules c.sweep-swept.new.1.1.0 e c.in-Raises.is).climbing,
+          (swept_raises P R θ others c.args.stops.now c.args.full c.args.counts.rules c.sweep-swept.new.sides.1.0 e c.in-Raises.is).climbing,
     )
 
 pub returns : goal.returns

@@ -15,19 +15,19 @@ pub short_set-set-requires : goal.short_set-set-requires
 short_set-set-requires c = let f = limited c.requires.accepted_as in (f.inside, f.few_variables)
 
 pub returns-then-count-eq0 : goal.returns-then-count-eq0
-returns-then-count-eq0 c = none_short c.args.file.now c.args.counts c.requires.accepted_as c.args.assigned.now c.requires.meets c.run.new.1.1.1.1.1.0 c.run.result c.run.ensures.ends_with
+returns-then-count-eq0 c = none_short c.args.file.now c.args.counts c.requires.accepted_as c.args.assigned.now c.requires.meets c.run.new.assigned.1.1.1.1.0 c.run.result c.run.ensures.ends_with
     c.args.report.now (has c.short_set-set.result.words) c.short_set-set.ensures (sym c.count.ensures ∙ c.if-count-eq0.true)
 
 pub in_parts-parts-requires : goal.in_parts-parts-requires
-in_parts-parts-requires c = let f = limited c.requires.accepted_as in record { variables_in_bounds = (f.inside, f.few_variables); by_index = short_few c.args.file.now c.args.counts c.requires.accepted_as c.args.assigned.now c.requires.meets c.run.new.1.1.1.1.1.0 c.run.result c.run.ensures.ends_with
+in_parts-parts-requires c = let f = limited c.requires.accepted_as in record { variables_in_bounds = (f.inside, f.few_variables); by_index = short_few c.args.file.now c.args.counts c.requires.accepted_as c.args.assigned.now c.requires.meets c.run.new.assigned.1.1.1.1.0 c.run.result c.run.ensures.ends_with
           c.args.report.now (has c.short_set-set.result.words) c.short_set-set.ensures }
 
 pub show-requires : goal.show-requires
-show-requires c = record { words_in_bounds = shown_room c.args.file.now c.args.counts c.requires.accepted_as c.args.assigned.now c.requires.meets c.run.new.1.1.1.1.1.0 c.run.result c.run.ensures.ends_with
-          c.args.report.now (has c.short_set-set.result.words) c.short_set-set.ensures c.in_parts-parts.result c.in_parts-parts.ensures (has c.asked-conditions.result.most.words) (has c.asked-conditions.result.least.words) c.asked-conditions.ensures.v_value c.asked-conditions.ensures.v_value_2 c.requires.variables_in_bounds; small = shown_small c.args.file.now c.args.counts c.requires.accepted_as c.args.assigned.now c.requires.meets c.run.new.1.1.1.1.1.0 c.run.result c.run.ensures.ends_with
+show-requires c = record { words_in_bounds = shown_room c.args.file.now c.args.counts c.requires.accepted_as c.args.assigned.now c.requires.meets c.run.new.assigned.1.1.1.1.0 c.run.result c.run.ensures.ends_with
+          c.args.report.now (has c.short_set-set.result.words) c.short_set-set.ensures c.in_parts-parts.result c.in_parts-parts.ensures (has c.asked-conditions.result.most.words) (has c.asked-conditions.result.least.words) c.asked-conditions.ensures.v_value c.asked-conditions.ensures.v_value_2 c.requires.variables_in_bounds; small = shown_small c.args.file.now c.args.counts c.requires.accepted_as c.args.assigned.now c.requires.meets c.run.new.assigned.1.1.1.1.0 c.run.result c.run.ensures.ends_with
           c.args.report.now (has c.short_set-set.result.words) c.short_set-set.ensures c.in_parts-parts.result c.in_parts-parts.ensures (has c.asked-conditions.result.most.words) (has c.asked-conditions.result.least.words) c.asked-conditions.ensures.v_value c.asked-conditions.ensures.v_value_2 }
 
 pub returns : goal.returns
-returns c = some_short c.args.file.now c.args.counts c.requires.accepted_as c.args.assigned.now c.requires.meets c.run.new.1.1.1.1.1.0 c.run.result c.run.ensures.ends_with
+returns c = some_short c.args.file.now c.args.counts c.requires.accepted_as c.args.assigned.now c.requires.meets c.run.new.assigned.1.1.1.1.0 c.run.result c.run.ensures.ends_with
     c.args.report.now (has c.short_set-set.result.words) c.short_set-set.ensures c.in_parts-parts.result c.in_parts-parts.ensures _ _
     c.asked-conditions.ensures.v_value c.asked-conditions.ensures.v_value_2 (λ x. c.if-count-eq0.false (c.count.ensures ∙ x)) _ _ c.show.ensures

@@ -18,4 +18,4 @@ returns c = let p = has c.args.parts.below.words in
     rw (c.count-below.ensures, c.count-above.ensures)
     (report_bytes_is (marked p bound o bound_above m) (marked q at_most r at_least θ) c.args.report.now _ _
     (marked_count p o bound bound_above m max_variables) (marked_count q r at_most at_least θ max_variables) c.requires.words_in_bounds
-    c.write_bounds.new.0 c.write_conditions.new.0 c.write_bounds.ensures (rw (c.count-below.ensures, c.count-above.ensures) at c.write_conditions.ensures))
+    c.write_bounds.new.report c.write_conditions.new.report c.write_bounds.ensures (rw (c.count-below.ensures, c.count-above.ensures) at c.write_conditions.ensures))

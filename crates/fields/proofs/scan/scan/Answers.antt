@@ -1,8 +1,7 @@
 -- Invariant: the fields before the cursor meet no refusal and are counted; what is left of the file grows less.
 use mathlib.Core.Path.{sym, ◌∙◌}
-use Prim.Native.Nat.{◌-◌}
 use native.Mathlib.Omega.{arith}
-use Rattle.fields.proofs.ScanLaws.{Stands, scan_long, scan_start, scan_ended, scan_cut, scan_bad, scan_more, field_stands, not_whole}
+use Rattle.fields.proofs.ScanLaws.{scan_long, scan_start, scan_ended, scan_cut, scan_bad, scan_more, field_stands, not_whole}
 use Rattle.fields.proofs.scan.scan.Goals as goal
 
 pub returns-then-file-gt-MAX_FILE : goal.returns-then-file-gt-MAX_FILE
@@ -15,11 +14,10 @@ pub returns-in-End : goal.returns-in-End
 returns-in-End c = scan_ended _ _ _ _ c.loop-tag.invariant (sym c.in-End.is ∙ c.field-field.ensures)
 
 pub returns-in_default-field : goal.returns-in_default-field
-returns-in_default-field c = scan_cut _ _ _ _ c.loop-tag.invariant (sym (not_whole _ c.in_default.keys2 c.in_default-field.keys2) ∙ c.field-field.ensures)
+returns-in_default-field c = scan_cut _ _ _ _ c.loop-tag.invariant (sym (not_whole _ c.in_default.not-End c.in_default-field.not-Whole) ∙ c.field-field.ensures)
 
 pub overflow_add-start : goal.overflow_add-start
-overflow_add-start c = let w = (let it : Stands c.args.file.now
-    c.loop-tag.cursor.at c.in-Whole.tag c.in-Whole.start c.in-Whole.len c.in-Whole.next.at = field_stands _ _ _ _ _ _ (sym c.in-Whole.is ∙ c.field-field.ensures) in it) in omega arith
+overflow_add-start c = let w = field_stands _ _ _ _ _ _ (sym c.in-Whole.is ∙ c.field-field.ensures) in omega arith
 
 pub slice_bounds-check_field-count : goal.slice_bounds-check_field-count
 slice_bounds-check_field-count c = omega arith
@@ -28,22 +26,18 @@ pub slice_bounds-check_field-start : goal.slice_bounds-check_field-start
 slice_bounds-check_field-start c = omega arith
 
 pub slice_bounds-check_field-end : goal.slice_bounds-check_field-end
-slice_bounds-check_field-end c = let w = (let it : Stands c.args.file.now
-    c.loop-tag.cursor.at c.in-Whole.tag c.in-Whole.start c.in-Whole.len c.in-Whole.next.at = field_stands _ _ _ _ _ _ (sym c.in-Whole.is ∙ c.field-field.ensures) in it) in omega arith
+slice_bounds-check_field-end c = let w = field_stands _ _ _ _ _ _ (sym c.in-Whole.is ∙ c.field-field.ensures) in omega arith
 
 pub with-counts-requires : goal.with-counts-requires
 with-counts-requires c = omega arith
 
 pub loop-tag-smaller : goal.loop-tag-smaller
-loop-tag-smaller c = let w = (let it : Stands c.args.file.now
-    c.loop-tag.cursor.at c.in-Whole.tag c.in-Whole.start c.in-Whole.len c.in-Whole.next.at = field_stands _ _ _ _ _ _ (sym c.in-Whole.is ∙ c.field-field.ensures) in it) in omega arith
+loop-tag-smaller c = let w = field_stands _ _ _ _ _ _ (sym c.in-Whole.is ∙ c.field-field.ensures) in omega arith
 
 pub loop-tag-preserved : goal.loop-tag-preserved
 loop-tag-preserved c = scan_more _ _ _ _ c.loop-tag.invariant _ _ _ _
-    ((let it : Stands c.args.file.now
-    c.loop-tag.cursor.at c.in-Whole.tag c.in-Whole.start c.in-Whole.len c.in-Whole.next.at = field_stands _ _ _ _ _ _ (sym c.in-Whole.is ∙ c.field-field.ensures) in it)) _ c.check_field-checked.ensures _ c.in_default-checked.is c.with-counts.ensures
+    (field_stands _ _ _ _ _ _ (sym c.in-Whole.is ∙ c.field-field.ensures)) _ c.check_field-checked.ensures _ c.in_default-checked.is c.with-counts.ensures
 
 pub returns-in-loop-tag : goal.returns-in-loop-tag
 returns-in-loop-tag c = scan_bad _ _ _ _ c.loop-tag.invariant _ _ _ _
-    ((let it : Stands c.args.file.now
-    c.loop-tag.cursor.at c.in-Whole.tag c.in-Whole.start c.in-Whole.len c.in-Whole.next.at = field_stands _ _ _ _ _ _ (sym c.in-Whole.is ∙ c.field-field.ensures) in it)) _ c.check_field-checked.ensures _ c.in-Bad.is
+    (field_stands _ _ _ _ _ _ (sym c.in-Whole.is ∙ c.field-field.ensures)) _ c.check_field-checked.ensures _ c.in-Bad.is

@@ -23,19 +23,19 @@ pub write_values-requires : goal.write_values-requires
 write_values-requires c = let p = one_valuation _ _ c.requires.by_index in
     let θ = valued c.args.values.now in
     let y = reads_accepts c.requires.accepted_as in
-    let x = subst (λ (q : Ending). EndsWith y.meant (reduct y.meant) θ (valued c.run-ending.new.1.1.1.1.1.0) q) c.in-Model.is (c.run-ending.ensures.ends_with y.meant y.accepts) in
-    record { n_le_max_variables = ((limited c.requires.accepted_as).few_variables, c.requires.assignment_len.1); by_index = model_small c.args.file.now c.args.counts c.requires.accepted_as c.args.assignment.now c.args.buffer.now c.requires.assignment_len.0 c.requires.assignment_len.1 c.requires.all_inside θ p c.run-ending.new.1.1.1.1.1.0 x }
+    let x = subst (λ (q : Ending). EndsWith y.meant (reduct y.meant) θ (valued c.run-ending.new.assigned.1.1.1.1.0) q) c.in-Model.is (c.run-ending.ensures.ends_with y.meant y.accepts) in
+    record { n_le_max_variables = ((limited c.requires.accepted_as).few_variables, c.requires.assignment_len.1); by_index = model_small c.args.file.now c.args.counts c.requires.accepted_as c.args.assignment.now c.args.buffer.now c.requires.assignment_len.0 c.requires.assignment_len.1 c.requires.all_inside θ p c.run-ending.new.assigned.1.1.1.1.0 x }
 
 pub returns-in-Model : goal.returns-in-Model
 returns-in-Model c = let p = one_valuation _ _ c.requires.by_index in
     let θ = valued c.args.values.now in
     let y = reads_accepts c.requires.accepted_as in
-    let x = subst (λ (q : Ending). EndsWith y.meant (reduct y.meant) θ (valued c.run-ending.new.1.1.1.1.1.0) q) c.in-Model.is (c.run-ending.ensures.ends_with y.meant y.accepts) in
-    a_model c.args.file.now c.args.counts c.requires.accepted_as c.args.assignment.now c.args.buffer.now c.requires.assignment_len.0 c.requires.assignment_len.1 c.requires.all_inside θ p (valued c.run-ending.new.1.1.1.1.1.0) _ x c.write_values.ensures
+    let x = subst (λ (q : Ending). EndsWith y.meant (reduct y.meant) θ (valued c.run-ending.new.assigned.1.1.1.1.0) q) c.in-Model.is (c.run-ending.ensures.ends_with y.meant y.accepts) in
+    a_model c.args.file.now c.args.counts c.requires.accepted_as c.args.assignment.now c.args.buffer.now c.requires.assignment_len.0 c.requires.assignment_len.1 c.requires.all_inside θ p (valued c.run-ending.new.assigned.1.1.1.1.0) _ x c.write_values.ensures
 
 pub returns-in-NoModel : goal.returns-in-NoModel
 returns-in-NoModel c = let p = one_valuation _ _ c.requires.by_index in
     let θ = valued c.args.values.now in
     let y = reads_accepts c.requires.accepted_as in
-    let x = subst (λ (q : Ending). EndsWith y.meant (reduct y.meant) θ (valued c.run-ending.new.1.1.1.1.1.0) q) c.in-NoModel.is (c.run-ending.ensures.ends_with y.meant y.accepts) in
+    let x = subst (λ (q : Ending). EndsWith y.meant (reduct y.meant) θ (valued c.run-ending.new.assigned.1.1.1.1.0) q) c.in-NoModel.is (c.run-ending.ensures.ends_with y.meant y.accepts) in
     a_none c.args.file.now c.args.counts c.requires.accepted_as c.args.assignment.now c.args.buffer.now c.requires.assignment_len.0 c.requires.assignment_len.1 c.requires.all_inside θ p x

@@ -11,4 +11,4 @@ pub write_marked-requires : goal.write_marked-requires
 write_marked-requires c = record { values_in_bounds = rw marked_count (omega (arith, c.requires.max_variables_in_bounds)); small = c.requires.small }
 
 pub returns : goal.returns
-returns c = marked_begun (has c.args.below.words) (has c.args.above.words) bound bound_above (valued c.args.values.now) c.args.report.now c.write_marked.new.0 c.write_marked.ensures
+returns c = marked_begun (has c.args.below.words) (has c.args.above.words) bound bound_above (valued c.args.values.now) c.args.report.now c.write_marked.new.report c.write_marked.ensures

@@ -15,5 +15,3 @@ invariant-loop-v l = (l.from ≤ max_variables) × (length l.report ≡ length l
 
 abbrev pub decreases-loop-v : goal.decreases-loop-v
 decreases-loop-v l = max_variables - l.from
-
--- the entries of a variable

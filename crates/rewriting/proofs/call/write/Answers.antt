@@ -1,4 +1,3 @@
--- src/call.rt:54:16
 use Prim.Native.Nat.{◌*◌}
 use mathlib.Core.Path.{sym}
 use native.Mathlib.Omega.{arith}
@@ -6,39 +5,25 @@ use lib.Seq.{length-take-le}
 use Rattle.program.proofs.Unique.{reads_accepts}
 use Rattle.reader.proofs.Published.{limited, counts_of_is}
 use Rattle.rewriting.proofs.Forms.{room_left, all_written}
-use borrow.Author.Rules.{rules}
 use Rattle.rewriting.proofs.call.write.Goals as goal
 
 pub overflow_mul-size : goal.overflow_mul-size
 overflow_mul-size c = let l = limited c.requires.accepted_as.0 in omega (arith, l.few_variables)
-
--- src/call.rt:55:21
 
 pub slice_bounds-put-end : goal.slice_bounds-put-end
 slice_bounds-put-end c = let l = limited c.requires.accepted_as.0 in
     let o = length-take-le (8 * c.args.counts.variables) c.args.file.now (omega arith) in
     sym o
 
--- src/call.rt:55:9
-
 pub put-start-requires : goal.put-start-requires
 put-start-requires c = let l = limited c.requires.accepted_as.0 in
     let o = length-take-le (8 * c.args.counts.variables) c.args.file.now (omega arith) in
     omega arith
 
--- src/call.rt:56:5
-
 pub put_fields-requires : goal.put_fields-requires
 put_fields-requires c = let y = reads_accepts c.requires.accepted_as.0 in
     room_left (λ i. omega (arith, c.type_inv.file i))
     y.accepts (c.requires.prepared y.meant y.accepts) c.args.counts.variables y.variables_are c.args.buffer.now _ _ c.requires.accepted_as.1 c.put-start.ensures.0 c.put-start.ensures.1
-
--- src/call.rt:48:1
-
-pub shape_of-buffer : goal.shape_of-buffer
-shape_of-buffer c = search rules
-
--- src/call.rt:48:1
 
 pub returns : goal.returns
 returns c = λ P a. all_written (λ i. omega (arith, c.type_inv.file i)) a (c.requires.prepared P a) c.args.counts.variables (counts_of_is c.requires.accepted_as.0 a).variables_are c.args.buffer.now _ _

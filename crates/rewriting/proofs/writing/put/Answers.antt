@@ -10,48 +10,30 @@ use Rattle.rewriting.proofs.writing.put.Goals as goal
 pub loop-i-init : goal.loop-i-init
 loop-i-init c = (refl, paste-zero c.args.buffer.now c.args.at c.args.bytes.now, omega arith)
 
--- src/writing.rt:16:20
-
 pub bounds-bytes-i : goal.bounds-bytes-i
 bounds-bytes-i c = omega arith
 
--- src/writing.rt:17:16
-
 pub overflow_add-buffer : goal.overflow_add-buffer
 overflow_add-buffer c = omega arith
-
--- src/writing.rt:17:9
 
 pub bounds-buffer-at : goal.bounds-buffer-at
 bounds-buffer-at c = let e = copied_length c.args.buffer.now c.args.at c.args.bytes.now c.loop-i.buffer c.loop-i.i c.loop-i.invariant.1 (omega arith) (omega arith) in
     omega arith
 
--- src/writing.rt:15:9
-
 pub overflow_step-i : goal.overflow_step-i
 overflow_step-i c = omega arith
-
--- src/writing.rt:15:5
 
 pub loop-i-smaller : goal.loop-i-smaller
 loop-i-smaller c = omega arith
 
--- src/writing.rt:15:5
-
 pub loop-i-preserved : goal.loop-i-preserved
 loop-i-preserved c = (c.loop-i.invariant.0, copied_more c.args.buffer.now c.args.at c.args.bytes.now c.loop-i.buffer c.loop-i.i c.loop-i.invariant.1 (omega arith) (omega arith), omega arith)
-
--- src/writing.rt:19:5
 
 pub overflow_add-result : goal.overflow_add-result
 overflow_add-result c = omega arith
 
--- src/writing.rt:11:1
-
 pub shape_of-buffer : goal.shape_of-buffer
 shape_of-buffer c = copied_length c.args.buffer.now c.args.at c.args.bytes.now c.loop-i.buffer c.loop-i.i c.loop-i.invariant.1 (omega arith) (omega arith)
-
--- src/writing.rt:11:1
 
 pub returns : goal.returns
 returns c = let e : c.loop-i.i ≡ length c.args.bytes.now = omega arith in

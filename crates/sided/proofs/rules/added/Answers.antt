@@ -18,7 +18,8 @@ extreme-requires c = let p = picked_from c.requires.evaluable_as c.if-form.true 
 
 pub returns-then-form : goal.returns-then-form
 returns-then-form c = let v : to_z w64 (of_z w64 c.extreme.result) ≡ c.extreme.result = search rules in
-    adds_extreme c.args.sides.now c.args.form c.args.side (terms_of c.args.body.now) c.requires.small c.requires.fact c.if-form.true (v ∙ c.extreme.ensures)
+    let t = adds_extreme c.args.sides.now c.args.form c.args.side (terms_of c.args.body.now) c.requires.small c.requires.fact c.if-form.true (v ∙ c.extreme.ensures) in
+    record { result_bound = t.0; result_value = t.1 }
 
 pub product-requires : goal.product-requires
 product-requires c = record { in_bounds = omega (arith, enough_of c.requires.evaluable_as 4 c.in-4.is, terms_length c.args.body.now); plain = plain_of c.requires.evaluable_as 4 c.in-4.is refl; small = c.requires.small }
@@ -35,20 +36,25 @@ read_position-requires-in-7 c = omega (arith, enough_of c.requires.evaluable_as 
 
 pub returns-in-4 : goal.returns-in-4
 returns-in-4 c = let v : to_z w64 (of_z w64 c.product.result) ≡ c.product.result = search rules in
-    adds_product c.args.sides.now c.args.form c.args.side (terms_of c.args.body.now) c.requires.small c.requires.fact c.in-4.is (v ∙ c.product.ensures)
+    let t = adds_product c.args.sides.now c.args.form c.args.side (terms_of c.args.body.now) c.requires.small c.requires.fact c.in-4.is (v ∙ c.product.ensures) in
+    record { result_bound = t.0; result_value = t.1 }
 
 pub returns-in-5 : goal.returns-in-5
 returns-in-5 c = let w : to_z w64 (of_z w64 c.read_position.result) ≡ c.read_position.result = search rules in
     let v : to_z w64 (of_z w64 c.size.result) ≡ c.size.result = search rules in
-    adds_size c.args.sides.now c.args.form c.args.side (terms_of c.args.body.now) c.requires.small c.requires.fact c.in-5.is
-    (v ∙ c.size.ensures ∙ ap (λ (x : ℤ). pos (nat_abs x)) (w ∙ c.read_position.ensures))
+    let t = adds_size c.args.sides.now c.args.form c.args.side (terms_of c.args.body.now) c.requires.small c.requires.fact c.in-5.is
+    (v ∙ c.size.ensures ∙ ap (λ (x : ℤ). pos (nat_abs x)) (w ∙ c.read_position.ensures)) in
+    record { result_bound = t.0; result_value = t.1 }
 
 pub returns-in-7 : goal.returns-in-7
 returns-in-7 c = let v : to_z w64 (of_z w64 c.read_position-in-7.result) ≡ c.read_position-in-7.result = search rules in
-    adds_carried c.args.sides.now c.args.form c.args.side (terms_of c.args.body.now) c.requires.small c.requires.fact c.in-7.is (v ∙ c.read_position-in-7.ensures)
+    let t = adds_carried c.args.sides.now c.args.form c.args.side (terms_of c.args.body.now) c.requires.small c.requires.fact c.in-7.is (v ∙ c.read_position-in-7.ensures) in
+    record { result_bound = t.0; result_value = t.1 }
 
 pub returns-in-0-to-3 : goal.returns-in-0-to-3
-returns-in-0-to-3 c = adds_none c.args.form (terms_of c.args.body.now) _ c.in-0-to-3.keys4
+returns-in-0-to-3 c =
+    let t = adds_none c.args.form (terms_of c.args.body.now) _ (omega arith) in
+    record { result_bound = t.0; result_value = t.1 }
 
 pub returns-in-0-to-3-2 : goal.returns-in-0-to-3-2
 returns-in-0-to-3-2 c = absurd (no_other c.requires.evaluable_as c.requires.fact c.if-form.false (omega arith) (omega arith) (omega arith) (omega arith))

@@ -1,6 +1,6 @@
 -- Invariant: the room that the first i positions leave, and their rise. Where no room is left, the positions that follow add nothing.
 use mathlib.Core.Path.{◌≡◌}
-use Prim.Native.Nat.{◌-◌, ◌/◌, ◌≤◌}
+use Prim.Native.Nat.{◌/◌, ◌≤◌}
 use lib.IntN.{pos, nat_abs}
 use lib.ListN.{length}
 use Rattle.program.specs.Program.{terms_of}

@@ -12,24 +12,22 @@ use Rattle.steady.proofs.Machine.{weight_none, weight_some}
 use borrow.Author.Rules.{rules}
 use Rattle.steady.proofs.steps.weight.Goals as goal
 
-module _ (s : tie.Start) where
-  quotient : SFits w64 (quot_z s.args.room s.args.stride)
-  quotient = quotient_fits s.args.room s.args.stride (omega (arith, s.requires.1)) s.requires.2
-
-  quotient_is : to_z w64 (of_z w64 (quot_z (to_z w64 (of_z w64 s.args.room)) (to_z w64 (of_z w64 s.args.stride)))) ≡ quot_z s.args.room s.args.stride
-  quotient_is = rw (to_z-of_z s.fits.room, to_z-of_z s.fits.stride) (to_z-of_z quotient)
+quotient_is : (room stride : ℤ) → SFits w64 room → SFits w64 stride → SFits w64 (quot_z room stride)
+    → to_z w64 (of_z w64 (quot_z (to_z w64 (of_z w64 room)) (to_z w64 (of_z w64 stride)))) ≡ quot_z room stride
+quotient_is room stride r s q = rw (to_z-of_z r, to_z-of_z s) (to_z-of_z q)
 
 pub returns-then-steps-eq0 : goal.returns-then-steps-eq0
 returns-then-steps-eq0 c = weight_none _ _ _ c.args.steps (sym (to_z-of_z c.ranges.steps) ∙ ap (to_z w64) c.if-steps-eq0.true)
 
 pub nonzero_div-room : goal.nonzero_div-room
-nonzero_div-room c = rw (to_z-of_z c.ranges.room, to_z-of_z c.ranges.stride) (divisor_bits c.args.stride c.requires.2, quotient c)
+nonzero_div-room c = rw (to_z-of_z c.ranges.room, to_z-of_z c.ranges.stride) (divisor_bits c.args.stride c.requires.2, quotient_fits c.args.room c.args.stride (omega (arith, c.requires.1)) c.requires.2)
 
 pub size-requires : goal.size-requires
 size-requires c = rw (to_z-of_z c.ranges.number) (omega (arith, c.requires.1))
 
 pub returns : goal.returns
-returns c = let z : to_z w64 (of_z w64 c.extreme.result) ≡ c.extreme.result = search rules in
+returns c = let q = quotient_fits c.args.room c.args.stride (omega (arith, c.requires.1)) c.requires.2 in
+    let z : to_z w64 (of_z w64 c.extreme.result) ≡ c.extreme.result = search rules in
     let v : to_z w64 (of_z w64 c.size.result) ≡ c.size.result = search rules in
-    z ∙ c.extreme.ensures ∙ ap₂ smaller (quotient_is c) (v ∙ c.size.ensures ∙ ap (λ (k : ℤ). pos (nat_abs k)) (to_z-of_z c.ranges.number))
+    z ∙ c.extreme.ensures ∙ ap₂ smaller (quotient_is c.args.room c.args.stride c.ranges.room c.ranges.stride q) (v ∙ c.size.ensures ∙ ap (λ (k : ℤ). pos (nat_abs k)) (to_z-of_z c.ranges.number))
     ∙ weight_some c.args.room c.args.number c.args.stride c.args.steps c.requires.0 c.requires.2 c.if-steps-eq0.false

@@ -1,6 +1,6 @@
 -- One position after the other.
 use mathlib.Core.Path.{◌≡◌}
-use Prim.Native.Nat.{◌-◌, ◌/◌, ◌≤◌}
+use Prim.Native.Nat.{◌/◌, ◌≤◌}
 use lib.IntN.{nat_abs}
 use lib.ListN.{length}
 use Rattle.program.specs.Tables.{any_below}

@@ -15,4 +15,4 @@ pub loop-left-preserved : goal.loop-left-preserved
 loop-left-preserved c = (c.pass.ensures.aims_len_2, λ P R θ A₀ k. c.pass.ensures.aims_kept P R θ A₀ (c.loop-left.invariant.1 P R θ A₀ k))
 
 pub returns : goal.returns
-returns c = c.loop-left.invariant
+returns c = record { aims_len_2 = c.loop-left.invariant.0; aims_kept = c.loop-left.invariant.1 }

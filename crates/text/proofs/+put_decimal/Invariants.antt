@@ -1,0 +1,5 @@
+-- the number has fewer digits in front of its last
+use Rattle.text.proofs.+put_decimal.Given as goal
+
+abbrev pub decreases-put_decimal : goal.decreases-put_decimal
+decreases-put_decimal l = l.n
