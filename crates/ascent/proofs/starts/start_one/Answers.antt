@@ -5,7 +5,7 @@ use mir.Val.{to_z, of_z}
 use Rattle.program.specs.Variables.{started}
 use borrow.Author.Rules.{rules}
 use Rattle.ascent.proofs.ValueLaws.{stored_both}
-use Rattle.ascent.proofs.values.start_one.Goals as goal
+use Rattle.ascent.proofs.starts.start_one.Goals as goal
 
 pub write-requires-2 : goal.write-requires-2
 write-requires-2 c = c.write.ensures.sides_len

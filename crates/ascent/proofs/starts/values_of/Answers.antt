@@ -9,7 +9,7 @@ use lib.ListN.{length-set}
 use Rattle.program.specs.Program.{variables_at}
 use Rattle.reduct.proofs.Fills.{filled_none, filled_more, filled_done}
 use Rattle.ascent.proofs.ValueLaws.{risen_at}
-use Rattle.ascent.proofs.values.values_of.Goals as goal
+use Rattle.ascent.proofs.starts.values_of.Goals as goal
 
 pub loop-v-init : goal.loop-v-init
 loop-v-init c = (omega arith, c.requires.model_len, filled_none _ _)

@@ -3,7 +3,7 @@ use mathlib.Core.Path.{subst}
 use borrow.Author.Rules.{rules}
 use Rattle.hastening.specs.Kept.{RunLapped}
 use Rattle.hastening.proofs.KeptLaws.{kept_still, kept_then, kept_some, kept_on, lapped_on, kept_lapped}
-use Rattle.hastening.proofs.parts.settle_part.Goals as goal
+use Rattle.hastening.proofs.components.settle_part.Goals as goal
 
 pub loop-left-init : goal.loop-left-init
 loop-left-init c = (kept_still, c.requires.model_len.0, c.requires.model_len.1, c.requires.model_len.2, search rules)

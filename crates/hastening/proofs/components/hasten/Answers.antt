@@ -5,7 +5,7 @@ use native.Mathlib.Omega.{arith}
 use borrow.Author.Rules.{rules}
 use Rattle.hastening.specs.Kept.{RunLapped}
 use Rattle.hastening.proofs.KeptLaws.{kept_still, kept_then, kept_some, kept_on, lapped_on, kept_lapped}
-use Rattle.hastening.proofs.parts.hasten.Goals as goal
+use Rattle.hastening.proofs.components.hasten.Goals as goal
 
 pub loop-p-init : goal.loop-p-init
 loop-p-init c = (kept_still, c.requires.model_len.0, c.requires.model_len.1, search rules, omega arith)

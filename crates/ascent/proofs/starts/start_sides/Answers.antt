@@ -8,7 +8,7 @@ use mir.Val.{to_z, of_z}
 use lib.IntN.{pos}
 use lib.ListN.{get_or}
 use Rattle.ascent.proofs.ValueLaws.{starts_none, starts_more, starts_done}
-use Rattle.ascent.proofs.values.start_sides.Goals as goal
+use Rattle.ascent.proofs.starts.start_sides.Goals as goal
 
 pub loop-v-init : goal.loop-v-init
 loop-v-init c = (omega arith, c.requires.sides_len, starts_none _ _ _ _)

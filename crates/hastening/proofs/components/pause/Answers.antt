@@ -1,6 +1,6 @@
 -- A leap, or nothing.
 use Rattle.hastening.proofs.KeptLaws.{kept_still}
-use Rattle.hastening.proofs.parts.pause.Goals as goal
+use Rattle.hastening.proofs.components.pause.Goals as goal
 
 pub returns-then-since-wait : goal.returns-then-since-wait
 returns-then-since-wait c = record { model_len_2 = c.requires.model_len; run_kept = kept_still }
