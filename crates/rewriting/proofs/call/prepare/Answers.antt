@@ -7,13 +7,10 @@ use Rattle.rewriting.proofs.Preparing.{fields_few, fields_inside, prepared, copi
 use Rattle.rewriting.proofs.call.prepare.Goals as goal
 
 pub order_fields-fields-requires : goal.order_fields-fields-requires
-order_fields-fields-requires c = let l = limited c.requires.accepted_as in (
-      c.requires.accepted_as,
-      (
-        copied c.args.file.now c.args.text.now c.put.new.buffer c.requires.text_len.0 c.put.ensures.1,
-        omega (arith, l.few_rules, l.few_constraints),
-      ),
-    )
+order_fields-fields-requires c = let l = limited c.requires.accepted_as in record {
+      accepted_as = c.requires.accepted_as;
+      text_value = (copied c.args.file.now c.args.text.now c.put.new.buffer c.requires.text_len.0 c.put.ensures.1, omega (arith, l.few_rules, l.few_constraints));
+    }
 
 pub slice_bounds-sort-end : goal.slice_bounds-sort-end
 slice_bounds-sort-end c = let k = fields_few c.requires.accepted_as c.order_fields-fields.ensures.ordered_file in
