@@ -8,7 +8,6 @@ use Rattle.program.specs.Program.{terms_of}
 use Rattle.program.specs.Evaluate.{all_hold}
 use Rattle.program.proofs.Bodies.{terms_length}
 use Rattle.bodies.proofs.Loops.{hold_none, hold_more, hold_fails}
-use borrow.Author.Tests.{not-true, not-false}
 use Rattle.sided.proofs.all_hold.Goals as goal
 
 pub loop-i-init : goal.loop-i-init
@@ -19,10 +18,10 @@ is_met-requires c = omega arith
 
 pub returns-then-not-is_met : goal.returns-then-not-is_met
 returns-then-not-is_met c form side = let l : c.loop-i.i < length (terms_of c.args.body.now) = omega (arith, terms_length c.args.body.now) in
-    sym (hold_fails _ _ c.loop-i.i _ l (sym (c.is_met.ensures form side) ∙ not-true _ c.if-not-is_met.true-raw))
+    sym (hold_fails _ _ c.loop-i.i _ l (sym (c.is_met.ensures form side) ∙ c.if-not-is_met.true))
 
 pub loop-i-preserved : goal.loop-i-preserved
-loop-i-preserved c = (omega arith, refl, λ form side. ap₂ ◌&&◌ (c.loop-i.invariant.2 form side) (sym (not-false _ c.if-not-is_met.false-raw) ∙ c.is_met.ensures form side) ∙ hold_more _ _ _)
+loop-i-preserved c = (omega arith, refl, λ form side. ap₂ ◌&&◌ (c.loop-i.invariant.2 form side) (sym c.if-not-is_met.false ∙ c.is_met.ensures form side) ∙ hold_more _ _ _)
 
 pub returns : goal.returns
 returns c form side = let e : c.loop-i.i ≡ length (terms_of c.args.body.now) = omega (arith, terms_length c.args.body.now) in

@@ -3,7 +3,6 @@ use mathlib.Core.Path.{◌≡◌, sym, ◌∙◌}
 use native.Mathlib.Omega.{arith}
 use mir.Syntax.{w64}
 use mir.Val.{to_z, of_z}
-use borrow.Author.Tests.{not-true, not-false}
 use Rattle.evaluation.proofs.Gives.{handed_plain, handed_evaluable, divided_evaluable}
 use Rattle.steady.proofs.Machine.{stride_own}
 use Rattle.steady.proofs.Estimates.{estimate_nothing, estimate_value, estimate_divided}
@@ -31,7 +30,7 @@ is_met-requires c = record { body_len_bound = omega (arith, c.requires.evaluable
 
 pub returns-then-not-is_met : goal.returns-then-not-is_met
 returns-then-not-is_met c = estimate_nothing c.args.value.now c.header-rule.ensures c.body-body.ensures
-    c.args.x _ c.args.kept c.args.first.now c.args.aims.now c.args.second.now c.args.strides.now (sym (not-true _ c.if-not-is_met.true-raw) ∙ c.is_met.ensures)
+    c.args.x _ c.args.kept c.args.first.now c.args.aims.now c.args.second.now c.args.strides.now (sym c.if-not-is_met.true ∙ c.is_met.ensures)
 
 pub estimated-requires : goal.estimated-requires
 estimated-requires c = let w : to_z w64 (of_z w64 c.stride_of-own.result) ≡ c.stride_of-own.result = search rules in
@@ -41,5 +40,5 @@ pub returns : goal.returns
 returns c = let z : to_z w64 (of_z w64 c.estimated.result) ≡ c.estimated.result = search rules in
     let w : to_z w64 (of_z w64 c.stride_of-own.result) ≡ c.stride_of-own.result = search rules in
     estimate_value c.args.value.now c.header-rule.ensures c.body-body.ensures c.args.x _ c.args.kept c.args.first.now c.args.aims.now c.args.second.now c.args.strides.now
-    c.if-rule-eq8.false (sym (not-false _ c.if-not-is_met.false-raw) ∙ c.is_met.ensures)
+    c.if-rule-eq8.false (sym c.if-not-is_met.false ∙ c.is_met.ensures)
     (z ∙ (rw (w ∙ c.stride_of-own.ensures) at c.estimated.ensures))

@@ -22,7 +22,7 @@ satisfied-requires c = let a = reads_accepts c.requires.accepted_as in
 pub returns-then-not-satisfied : goal.returns-then-not-satisfied
 returns-then-not-satisfied c = λ P x.
     let i = c.loop-i.invariant.1 P x in
-    constraint_unmet_at c.requires.accepted_as x c.loop-i-test.true i.0 c.value_at.ensures c.args.assigned.now c.satisfied.ensures (not-true _ c.if-not-satisfied.true-raw) i.1
+    constraint_unmet_at c.requires.accepted_as x c.loop-i-test.true i.0 c.value_at.ensures c.args.assigned.now c.satisfied.ensures c.if-not-satisfied.true i.1
 
 pub next_at-at-requires : goal.next_at-at-requires
 next_at-at-requires c = let a = reads_accepts c.requires.accepted_as in
@@ -34,7 +34,7 @@ loop-i-preserved c = (
       λ P x. let i = c.loop-i.invariant.1 P x in (
         next_place c.requires.accepted_as x c.loop-i-test.true i.0 c.next_at-at.ensures,
         constraint_met_at c.requires.accepted_as x c.loop-i-test.true i.0 c.value_at.ensures c.args.assigned.now c.satisfied.ensures
-            (not-false _ c.if-not-satisfied.false-raw) i.1,
+            c.if-not-satisfied.false i.1,
       ),
     )
 

@@ -13,7 +13,7 @@ use borrow.Author.Rules.{rules}
 use Rattle.ends.proofs.free.free_rule.Goals as goal
 
 pub returns-then-not-is_undecided : goal.returns-then-not-is_undecided
-returns-then-not-is_undecided c = record { sides_len_2 = c.requires.sides_len; freed = λ P i h t z f. freed_past h f (sym (c.is_undecided.ensures P i h) ∙ not-true _ c.if-not-is_undecided.true-raw) }
+returns-then-not-is_undecided c = record { sides_len_2 = c.requires.sides_len; freed = λ P i h t z f. freed_past h f (sym (c.is_undecided.ensures P i h) ∙ c.if-not-is_undecided.true) }
 
 pub head_at-head-requires : goal.head_at-head-requires
 head_at-head-requires c = head_lies c.requires.some_rule.here
@@ -26,6 +26,6 @@ returns c = let v : ℤ = get_or c.args.stops.now c.wide.result (pos 0) in
     let z : to_z w64 (of_z w64 v) ≡ v = search rules in
     record { sides_len_2 = c.write.ensures.sides_len; freed = λ P i h t o f.
           let e : c.wide.result ≡ head_of P i = c.wide.ensures.0 ∙ here_head h c.head_at-head.ensures in
-          freed_raised h f (t P h.accepts) (sym (c.is_undecided.ensures P i h) ∙ not-false _ c.if-not-is_undecided.false-raw) c.requires.sides_len (here_head h c.head_at-head.ensures)
+          freed_raised h f (t P h.accepts) (sym (c.is_undecided.ensures P i h) ∙ c.if-not-is_undecided.false) c.requires.sides_len (here_head h c.head_at-head.ensures)
           (head_variable h c.head_at-head.ensures c.variable-x.ensures) c.is_from_above.ensures
           (z ∙ ap (λ (x : ℕ). get_or c.args.stops.now x (pos 0)) e ∙ o P h.accepts (head_of P i)) c.write.ensures.sides_after }

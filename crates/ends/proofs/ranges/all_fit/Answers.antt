@@ -22,14 +22,14 @@ returns-then-not-fits c = let e : to_z w64 (of_z w64 (get_or c.args.lows.now c.l
     let f : to_z w64 (of_z w64 (get_or c.args.highs.now c.loop-v.v (pos 0))) ≡ get_or c.args.highs.now c.loop-v.v (pos 0) = search rules in
     let x = c.variable-x.ensures c.args.variables (omega arith) in
     let i = fits_variable (variables_at c.args.file.now c.args.variables) (valued c.args.lows.now) (valued c.args.highs.now) c.loop-v.v x e f in
-    (c.loop-v.v, omega arith, sym i ∙ sym c.fits.ensures ∙ not-true _ c.if-not-fits.true-raw)
+    (c.loop-v.v, omega arith, sym i ∙ sym c.fits.ensures ∙ c.if-not-fits.true)
 
 pub loop-v-preserved : goal.loop-v-preserved
 loop-v-preserved c = let e : to_z w64 (of_z w64 (get_or c.args.lows.now c.loop-v.v (pos 0))) ≡ get_or c.args.lows.now c.loop-v.v (pos 0) = search rules in
     let f : to_z w64 (of_z w64 (get_or c.args.highs.now c.loop-v.v (pos 0))) ≡ get_or c.args.highs.now c.loop-v.v (pos 0) = search rules in
     let x = c.variable-x.ensures c.args.variables (omega arith) in
     let i = fits_variable (variables_at c.args.file.now c.args.variables) (valued c.args.lows.now) (valued c.args.highs.now) c.loop-v.v x e f in
-    (omega arith, below_more _ c.loop-v.v c.loop-v.invariant.1 (sym i ∙ sym c.fits.ensures ∙ not-false _ c.if-not-fits.false-raw))
+    (omega arith, below_more _ c.loop-v.v c.loop-v.invariant.1 (sym i ∙ sym c.fits.ensures ∙ c.if-not-fits.false))
 
 pub returns : goal.returns
 returns c = λ v l. c.loop-v.invariant.1 v (omega arith)

@@ -25,7 +25,7 @@ returns-then-not-cut c = let v : ℤ = get_or c.args.model.now c.wide-v.result (
     looked_past P _ c.args.stops.now c.args.others.now c.args.model.now i c.exceeds.ensures (c.demand_past-past.ensures P i g)
     (head_variable g c.head_at-head.ensures c.variable-x.ensures)
     (z ∙ ap (λ (k : ℕ). get_or c.args.model.now k (pos 0)) (c.wide-v.ensures.0 ∙ here_head g c.head_at-head.ensures))
-    (not-true _ c.if-not-cut.true-raw)
+    c.if-not-cut.true
 
 pub returns : goal.returns
 returns c = let v : ℤ = get_or c.args.model.now c.wide-v.result (pos 0) in

@@ -13,12 +13,12 @@ use Rattle.run.proofs.solve.raise.Goals as goal
 
 pub returns-then-not-store : goal.returns-then-not-store
 returns-then-not-store c = let z : to_z w64 (of_z w64 c.args.a) ≡ c.args.a = search rules in
-    let n = not_stored c.args.x c.args.head c.args.a c.args.model.now c.store.new.model (rw z at c.store.ensures.stored) (not-true c.store.result c.if-not-store.true-raw) in
+    let n = not_stored c.args.x c.args.head c.args.a c.args.model.now c.store.new.model (rw z at c.store.ensures.stored) c.if-not-store.true in
     record { model_len_2 = c.store.ensures.model_len; waiting_len_2 = c.requires.waiting_len; lifted = (n.0, record { model_is = n.1; waiting_is = refl }) }
 
 pub returns : goal.returns
 returns c = let z : to_z w64 (of_z w64 c.args.a) ≡ c.args.a = search rules in
-    let n = stored c.args.x c.args.head c.args.a c.args.model.now c.store.new.model (rw z at c.store.ensures.stored) (not-false c.store.result c.if-not-store.false-raw) in
+    let n = stored c.args.x c.args.head c.args.a c.args.model.now c.store.new.model (rw z at c.store.ensures.stored) c.if-not-store.false in
     record { model_len_2 = c.store.ensures.model_len; waiting_len_2 = c.join_readers.ensures.waiting_len_2; lifted = (
           n.0,
           record {

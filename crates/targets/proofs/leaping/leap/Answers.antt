@@ -24,4 +24,4 @@ pub land-requires : goal.land-requires
 land-requires c = record { variables_le_max_variables = ((limited c.requires.accepted_as).few_variables, c.requires.model_len.0); waiting_len = c.requires.waiting_len }
 
 pub returns : goal.returns
-returns c = let e = not-false _ c.if-not-arrived.false-raw in record { model_len_2 = c.land.ensures.model_len; waiting_len_2 = c.land.ensures.waiting_len_2; running = λ P R θ k. (c.land.ensures.by_index _ _ _ _ _ _ _ _ _ (aiming_arrived k c.args.strides.now c.args.target.now c.requires.accepted_as _ _ (zeros max_variables) c.draw_back.ensures.filled _ c.lift_all.ensures.aims_kept c.arrived.ensures e)).0.run; model_bound = (c.land.ensures.by_index _ _ _ _ _ _ _ _ _ (aiming_arrived c.requires.some_run.run c.args.strides.now c.args.target.now c.requires.accepted_as _ _ (zeros max_variables) c.draw_back.ensures.filled _ c.lift_all.ensures.aims_kept c.arrived.ensures e)).1 }
+returns c = let e = c.if-not-arrived.false in record { model_len_2 = c.land.ensures.model_len; waiting_len_2 = c.land.ensures.waiting_len_2; running = λ P R θ k. (c.land.ensures.by_index _ _ _ _ _ _ _ _ _ (aiming_arrived k c.args.strides.now c.args.target.now c.requires.accepted_as _ _ (zeros max_variables) c.draw_back.ensures.filled _ c.lift_all.ensures.aims_kept c.arrived.ensures e)).0.run; model_bound = (c.land.ensures.by_index _ _ _ _ _ _ _ _ _ (aiming_arrived c.requires.some_run.run c.args.strides.now c.args.target.now c.requires.accepted_as _ _ (zeros max_variables) c.draw_back.ensures.filled _ c.lift_all.ensures.aims_kept c.arrived.ensures e)).1 }

@@ -30,7 +30,7 @@ returns-then-not-is_open c = let v : ℕ = c.wide-v.result in
     (y ∙ ap (λ (k : ℕ). get_or c.args.stops.now k (pos 0)) e)
     (z ∙ ap (λ (k : ℕ). get_or c.args.aims.now k (pos 0)) e)
     (t ∙ ap (λ (k : ℕ). get_or c.args.target.now k (pos 0)) e)
-    (sym c.is_open.ensures ∙ not-true _ c.if-not-is_open.true-raw)
+    (sym c.is_open.ensures ∙ c.if-not-is_open.true)
 
 pub value_at-requires : goal.value_at-requires
 value_at-requires c = (head_lies c.requires.some_rule.here).0
@@ -51,7 +51,7 @@ returns c = let v : ℕ = c.wide-v.result in
     (y ∙ ap (λ (k : ℕ). get_or c.args.stops.now k (pos 0)) e)
     (z ∙ ap (λ (k : ℕ). get_or c.args.aims.now k (pos 0)) e)
     (t ∙ ap (λ (k : ℕ). get_or c.args.target.now k (pos 0)) e)
-    (sym c.is_open.ensures ∙ not-false _ c.if-not-is_open.false-raw)
+    (sym c.is_open.ensures ∙ c.if-not-is_open.false)
     c.lift_to.ensures c.stop_at.ensures
     (estimate_here h c.value_at.ensures _ c.args.mask c.args.strides.now c.args.model.now c.args.aims.now c.args.others.now (here_head h c.head_at-head.ensures)
     c.estimate-given.ensures)
