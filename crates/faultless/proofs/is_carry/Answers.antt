@@ -1,4 +1,5 @@
 -- Its count, its first term, then its literals.
+use borrow.Author.Tests.{not-false}
 use native.Mathlib.Omega.{arith}
 use Rattle.program.proofs.Bodies.{terms_length}
 use Rattle.faultless.proofs.TermLaws.{says_no, none_before}
@@ -21,9 +22,9 @@ pub returns-then-not-is_new : goal.returns-then-not-is_new
 returns-then-not-is_new c = says_no
 
 pub are_literals-requires : goal.are_literals-requires
-are_literals-requires c = (c.is_new.ensures.seen_len_2, (c.is_new.ensures.new c.if-not-is_new.false).1)
+are_literals-requires c = (c.is_new.ensures.seen_len_2, (c.is_new.ensures.new (not-false _ c.if-not-is_new.false-raw)).1)
 
 pub returns : goal.returns
-returns c = let n = c.is_new.ensures.new c.if-not-is_new.false in
+returns c = let n = c.is_new.ensures.new (not-false _ c.if-not-is_new.false-raw) in
     let l = terms_length c.args.body.now in
-    λ e. carry_body _ _ (omega arith) (omega arith) (c.is_bare.ensures c.if-not-is_bare.false) n.0 (c.are_literals.ensures e)
+    λ e. carry_body _ _ (omega arith) (omega arith) (c.is_bare.ensures (not-false _ c.if-not-is_bare.false-raw)) n.0 (c.are_literals.ensures e)

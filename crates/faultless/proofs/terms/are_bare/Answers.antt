@@ -1,5 +1,7 @@
 -- Invariant: the terms before i are bare and new, and their variables are noted.
+use Prim.Native.Nat.{◌-◌}
 use native.Mathlib.Omega.{arith}
+use borrow.Author.Tests.{not-false}
 use Rattle.program.proofs.Bodies.{terms_length}
 use Rattle.faultless.proofs.TermLaws.{says_no, none_before, between_none, between_more, between_all}
 use Rattle.faultless.proofs.terms.are_bare.Goals as goal
@@ -20,8 +22,8 @@ pub returns-then-not-is_new : goal.returns-then-not-is_new
 returns-then-not-is_new c = says_no
 
 pub loop-i-preserved : goal.loop-i-preserved
-loop-i-preserved c = let m = c.is_new.ensures.new c.if-not-is_new.false in
-    (c.is_new.ensures.seen_len_2, m.1, between_more _ _ _ c.loop-i.invariant.2 (m.0, c.is_bare.ensures c.if-not-is_bare.false))
+loop-i-preserved c = let m = c.is_new.ensures.new (not-false _ c.if-not-is_new.false-raw) in
+    (c.is_new.ensures.seen_len_2, m.1, between_more _ _ _ c.loop-i.invariant.2 (m.0, c.is_bare.ensures (not-false _ c.if-not-is_bare.false-raw)))
 
 pub returns : goal.returns
 returns c = λ e. between_all _ _ _ _ (omega (arith, terms_length c.args.body.now)) c.loop-i.invariant.2
