@@ -46,46 +46,24 @@ fill_node-requires c = let k = filling_apart c.loop-at.invariant (omega arith) c
     let two = filling_two (c.loop-at.at - 2) (omega arith) (c.loop-at.number - 1 + 1) k in
     let left = filling_left (c.loop-at.at - 2) (omega arith) (c.loop-at.number - 1) c.if-s-at-ne0.true k c.requires.one_tree.0 c.requires.one_tree.1 in
     let b = left_bytes left two c.if-s-at-ne0.true in
-    rw c.inner_at.ensures
-    ((left_writable left two c.if-s-at-ne0.true, b.form_least, b.form_most, b.children_least), (filling_tables c.loop-at.invariant, c.loop-at.invariant.fielded.many))
+    record {
+      writable = rw c.inner_at.ensures (left_writable left two c.if-s-at-ne0.true, b.form_least, b.form_most, b.children_least);
+      tables = (filling_tables c.loop-at.invariant, c.loop-at.invariant.fielded.many);
+    }
 
 pub shape_of-records-then-not-fill_node : goal.shape_of-records-then-not-fill_node
-shape_of-records-then-not-fill_node c = ((let it : let start = (let it : tie.Start invariant-loop decreases-loop = c.before.before.before.before.before.before.before.before.before.before.before.before.before.before.before.before
-
--- where a range passes -30,000..30,000 in it) in
-    (false ≡ not (any_beyond (values_in (valued start.args.lows.now) start.args.next (drop 2 start.args.s.now))
-    || any_beyond (values_in (valued start.args.highs.now) start.args.next (drop 2 start.args.s.now))))
-    × (Tables c.fill_node.new.lows c.fill_node.new.highs.0 × (length c.fill_node.new.highs.1.0 ≡ records_length)) = let start = (let it : tie.Start invariant-loop decreases-loop = c.before.before.before.before.before.before.before.before.before.before.before.before.before.before.before.before
-
--- where a range passes -30,000..30,000 in it) in
+shape_of-records-then-not-fill_node c =
     let k = filling_apart c.loop-at.invariant (omega arith) c.if-s-at-ne0.true in
-    filling_stops (c.loop-at.at - 2) (omega arith) (c.loop-at.number - 1) c.if-s-at-ne0.true k start.pre.0.0 start.pre.0.1 start.pre.1.0
-    c.inner_at.ensures _ c.fill_node.result c.fill_node.ensures c.if-not-fill_node.true-raw
-
--- where a range passes -30,000..30,000 in it)).requires.1.1.1
+    let x = filling_stops (c.loop-at.at - 2) (omega arith) (c.loop-at.number - 1) c.if-s-at-ne0.true k c.requires.one_tree.0 c.requires.one_tree.1 c.requires.all
+        c.inner_at.ensures _ c.fill_node.result c.fill_node.ensures (ap not c.if-not-fill_node.true) in
+    x.1.1 ∙ sym c.requires.tables.1
 
 pub returns-then-not-fill_node : goal.returns-then-not-fill_node
-returns-then-not-fill_node c = (((let it : let start = (let it : tie.Start invariant-loop decreases-loop = c.before.before.before.before.before.before.before.before.before.before.before.before.before.before.before.before
-
--- where a range passes -30,000..30,000 in it) in
-    (false ≡ not (any_beyond (values_in (valued start.args.lows.now) start.args.next (drop 2 start.args.s.now))
-    || any_beyond (values_in (valued start.args.highs.now) start.args.next (drop 2 start.args.s.now))))
-    × (Tables c.fill_node.new.lows c.fill_node.new.highs.0 × (length c.fill_node.new.highs.1.0 ≡ records_length)) = let start = (let it : tie.Start invariant-loop decreases-loop = c.before.before.before.before.before.before.before.before.before.before.before.before.before.before.before.before
-
--- where a range passes -30,000..30,000 in it) in
+returns-then-not-fill_node c =
     let k = filling_apart c.loop-at.invariant (omega arith) c.if-s-at-ne0.true in
-    filling_stops (c.loop-at.at - 2) (omega arith) (c.loop-at.number - 1) c.if-s-at-ne0.true k start.pre.0.0 start.pre.0.1 start.pre.1.0
-    c.inner_at.ensures _ c.fill_node.result c.fill_node.ensures c.if-not-fill_node.true-raw
-
--- where a range passes -30,000..30,000 in it) in
-    (false ≡ not (any_beyond (values_in (valued start.args.lows.now) start.args.next (drop 2 start.args.s.now))
-    || any_beyond (values_in (valued start.args.highs.now) start.args.next (drop 2 start.args.s.now))))
-    × (Tables c.fill_node.new.lows c.fill_node.new.highs.0 × (length c.fill_node.new.highs.1.0 ≡ records_length)) = let start = (let it : tie.Start invariant-loop decreases-loop = c.before.before.before.before.before.before.before.before.before.before.before.before.before.before.before.before
-
--- where a range passes -30,000..30,000 in it) in
-    let k = filling_apart c.loop-at.invariant (omega arith) c.if-s-at-ne0.true in
-    filling_stops (c.loop-at.at - 2) (omega arith) (c.loop-at.number - 1) c.if-s-at-ne0.true k start.pre.0.0 start.pre.0.1 start.pre.1.0
-    c.inner_at.ensures _ c.fill_node.result c.fill_node.ensures c.if-not-fill_node.true-raw
+    let x = filling_stops (c.loop-at.at - 2) (omega arith) (c.loop-at.number - 1) c.if-s-at-ne0.true k c.requires.one_tree.0 c.requires.one_tree.1 c.requires.all
+        c.inner_at.ensures _ c.fill_node.result c.fill_node.ensures (ap not c.if-not-fill_node.true) in
+    record { value = x.0; tables_2 = x.1; tabled = λ vs e t z. let y : ◌≡◌ {A = ℕ} 0 1 = cc in absurd (omega arith) }
 
 pub loop-at-smaller-else-not-fill_node : goal.loop-at-smaller-else-not-fill_node
 loop-at-smaller-else-not-fill_node c = omega arith
@@ -93,7 +71,7 @@ loop-at-smaller-else-not-fill_node c = omega arith
 pub loop-at-preserved-else-not-fill_node : goal.loop-at-preserved-else-not-fill_node
 loop-at-preserved-else-not-fill_node c = let k = filling_apart c.loop-at.invariant (omega arith) c.if-s-at-ne0.true in
     filling_goes (c.loop-at.at - 2) (omega arith) (c.loop-at.number - 1) c.if-s-at-ne0.true k c.requires.one_tree.0 c.requires.one_tree.1 c.requires.all
-    c.inner_at.ensures _ c.fill_node.result c.fill_node.ensures c.if-not-fill_node.false-raw
+    c.inner_at.ensures _ c.fill_node.result c.fill_node.ensures (ap not c.if-not-fill_node.false)
 
 pub loop-at-smaller : goal.loop-at-smaller
 loop-at-smaller c = omega arith

@@ -1,24 +1,24 @@
 use Prim.Native.Nat.{ℕ}
-use mathlib.Core.Path.{◌≡◌, ◌∙◌}
+use mathlib.Core.Path.{◌≡◌}
 use native.Mathlib.Omega.{arith}
-use mir.Syntax.{w64}
-use mir.Val.{to_z, of_z}
 use Rattle.noderules.proofs.Putting.{puts_length}
 use Rattle.noderules.proofs.Rules.{node_size}
 use Rattle.spans.proofs.NodeValues.{value_evaluable, value_headed, value_given}
-use borrow.Author.Rules.{rules}
 use Rattle.spans.proofs.value.Goals as goal
 
 pub slice_bounds-gives-end : goal.slice_bounds-gives-end
 slice_bounds-gives-end c = omega (arith, c.put_node-end.ensures.ends, puts_length c.put_node-end.ensures (omega (arith, node_size c.args.s.now c.args.node)), node_size c.args.s.now c.args.node)
 
 pub gives-requires : goal.gives-requires
-gives-requires c = (value_evaluable _ _ c.requires.writable.0 c.requires.writable.1 c.requires.writable.2 c.requires.writable.3 c.put_node-end.ensures, (value_headed _ _ c.requires.writable.0 c.requires.writable.1 c.requires.writable.2 c.requires.writable.3 c.put_node-end.ensures, (c.requires.small, c.requires.small)))
+gives-requires c = record {
+    evaluable = value_evaluable _ _ c.requires.writable.0 c.requires.writable.1 c.requires.writable.2 c.requires.writable.3 c.put_node-end.ensures;
+    rule_header_in_bounds = value_headed _ _ c.requires.writable.0 c.requires.writable.1 c.requires.writable.2 c.requires.writable.3 c.put_node-end.ensures;
+    small = (c.requires.small, c.requires.small);
+}
 
 pub returns-in-Value : goal.returns-in-Value
 returns-in-Value c = let v = value_given _ _ c.requires.writable.0 c.requires.writable.1 c.requires.writable.2 c.requires.writable.3 c.put_node-end.ensures c.args.table.now c.gives.ensures in
-    let z : to_z w64 (of_z w64 c.in-Value.a) ≡ c.in-Value.a = search rules in
-    z ∙ cc (c.in-Value.is, v)
+    cc (c.in-Value.is, v)
 
 pub returns-in-Nothing : goal.returns-in-Nothing
 returns-in-Nothing c = let v = value_given _ _ c.requires.writable.0 c.requires.writable.1 c.requires.writable.2 c.requires.writable.3 c.put_node-end.ensures c.args.table.now c.gives.ensures in
