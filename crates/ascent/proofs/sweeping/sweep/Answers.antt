@@ -54,7 +54,7 @@ loop-j-smaller c = let f = some_first c.requires.some_climbing c.loop-j.invarian
     omega (arith, first_below f c.requires.accepted_as, f.from)
 
 pub loop-j-preserved : goal.loop-j-preserved
-loop-j-preserved c = let z : to_z w64 (of_z w64 c.in-More.a) ≡ c.in-More.a = search (rules, c.known_told-1.given) in
+loop-j-preserved c = let z : to_z w64 (of_z w64 c.in-More.a) ≡ c.in-More.a = search rules in
     let n = some_first c.requires.some_climbing c.loop-j.invariant.5 c.loop-j.i c.next_more-next.result c.next_more-next.ensures c.in-More.is in (
       omega (arith, first_below n c.requires.accepted_as),
       omega (arith, c.loop-j.invariant.1, n.from),
