@@ -11,15 +11,7 @@ fail() {
 
 command -v cargo >/dev/null || fail "cargo is missing"
 bash tests/archive.sh || fail "no archive"
-# rt check passes over a program that was proved before, also where it has been deleted since.
-rt check print_verdict >&2 || fail "the printing program is not proved"
-[ -x target/bin/print_verdict ] || fail "target/bin/print_verdict was deleted: delete target/stamp too"
-rt check normalize >&2 || fail "the program that writes a file anew is not proved"
-[ -x target/bin/normalize ] || fail "target/bin/normalize was deleted: delete target/stamp too"
-rt check flatten >&2 || fail "the program that flattens is not proved"
-[ -x target/bin/flatten ] || fail "target/bin/flatten was deleted: delete target/stamp too"
-rt check bounds >&2 || fail "the program that bounds is not proved"
-[ -x target/bin/bounds ] || fail "target/bin/bounds was deleted: delete target/stamp too"
+bash tests/programs.sh || fail "the programs are not proved"
 export CARGO_TARGET_DIR="$PWD/target/cargo"
 for package in second compare; do
     cargo build --quiet --release --manifest-path "tests/$package/Cargo.toml" || fail "$package does not compile"

@@ -6,8 +6,8 @@ use run::Ending;
 
 pub mod level;
 pub mod looking;
+pub mod starts;
 pub mod sweeping;
-pub mod values;
 
 // What a sweep over rules answers: how many heads it raised, or that there is no model.
 #[derive(Drop)]

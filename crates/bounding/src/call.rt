@@ -10,8 +10,8 @@ ghost use Rattle.ends.specs.Freed.{FitsRanges, AtStops};
 ghost use Rattle.bounding.specs.Writing.{BoundsWritten, AtOthers, OnTheWay, EndsBounded};
 
 use ascent::Climbed;
+use ascent::starts::{start_sides, values_of};
 use ascent::sweeping::climb;
-use ascent::values::{start_sides, values_of};
 use ends::free::free_heads;
 use ends::masks::set_masks;
 use ends::ranges;

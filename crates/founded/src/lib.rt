@@ -1,5 +1,5 @@
-// The C interface: the calls, each with its answer packed in a number, or a bool where there is nothing more to say. include/founded.h declares them and
-// takes the answers apart.
+// The calls of the C interface, each with its answer packed in a number, or a bool where there is nothing more to say. The crate `founded_c` hands them to C;
+// include/founded.h takes the answers apart.
 #![tactic(auto)]
 
 ghost use Rattle.std.specs.Prelude.{◌≡◌, true};

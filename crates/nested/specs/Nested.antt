@@ -41,6 +41,6 @@ unfoldable pub trees : List ℕ → ℕ → List Rooted
 trees s zero = []
 trees s (suc k) = trees s k ++ cond (eqb (tag_at s (place s k)) tree_tag) (trees_of (treed_of (value_at s (place s k)))) []
 
--- a field of tag 5 is no part of `program` (itemOf, specs/Program.antt of crate program)
+-- a field of tag 5 is no part of `program` (item_of, specs/Program.antt of crate program)
 abbrev pub nested : List ℕ → ℕ → Nested
 nested s k = record { plain = program s k; trees = trees s k }

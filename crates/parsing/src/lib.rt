@@ -4,8 +4,7 @@
 
 ghost use Rattle.std.specs.Prelude.{◌≡◌, ◌≤◌, ◌<◌, length};
 
-use pieces::find;
-use pieces::{WRONG, appended, decimal};
+use pieces::{WRONG, appended, decimal, find};
 
 // The part of the room that a call is lent starts here.
 const START: usize = 16;

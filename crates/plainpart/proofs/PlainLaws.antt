@@ -1,7 +1,7 @@
 -- What the plain part of a nested file says of the whole file.
 use Prim.Native.Nat.{ℕ, zero, suc, ◌+◌, ◌-◌, ◌<◌, ◌≤◌}
 use mathlib.Core.Path.{◌≡◌, refl, sym, ap, ◌∙◌, subst, subst₂}
-use mathlib.Core.Logic.{◌⊎◌, inl, inr, ⊎_elim, ◌≢◌}
+use mathlib.Core.Logic.{◌⊎◌, inl, inr, ◌≢◌}
 use mathlib.Core.List.{List, []}
 use mathlib.Core.Bool.{true, false}
 use native.Mathlib.Omega.{arith}
@@ -18,11 +18,10 @@ use Rattle.program.proofs.Conditions.{last_or}
 use Rattle.program.proofs.Places.{not_cut, place_start, place_suc}
 use Rattle.fields.specs.Scanning.{Counted, Stopped}
 use Rattle.fields.specs.Standing.{field_at}
+use Rattle.fields.specs.declared.cursor.Cursor.{Cursor}
 use Rattle.fields.specs.declared.cursor.Field.{Field}
 use Rattle.fields.specs.declared.cursor.Field.TheVariants.{Whole, Short, End}
-use Rattle.fields.specs.contracts.cursor.Field.{enum}
 use Rattle.fields.proofs.ScanLaws.{Stands, field_cut, field_ended}
-use denote.Enum.Declared.{tag_of, declared}
 use Rattle.nested.specs.Nested.{tree_tag, trees}
 use Rattle.nested.specs.TreeRefusals.{nested_refusal}
 use Rattle.nested.specs.NestedReading.{NestedPassed, NestedRefuses}
@@ -212,9 +211,9 @@ seek_start s = record {
 }
 
 -- what the `else` knows: no whole field stands there
-pub no_field : (s : List ℕ) (at : ℕ) (f : Field) → f ≡ field_at s at → (tag_of (declared enum) f ≡ 1) ⊎ (tag_of (declared enum) f ≡ 2)
+pub no_field : (s : List ℕ) (at : ℕ) (f : Field) → f ≡ field_at s at → ((tag start len : ℕ) (next : Cursor) → f ≡ Whole tag start len next → ⊥)
     → (length s ≤ at) ⊎ ((at < length s) × (cut_short s at ≡ true))
-no_field s at (Whole tag start len next) e h = absurd (⊎_elim (λ q. omega arith) (λ q. omega arith) h)
+no_field s at (Whole tag start len next) e h = absurd (h tag start len next refl)
 no_field s at Short e h = inr (field_cut s at e)
 no_field s at End e h = inl (field_ended s at e)
 

@@ -13,7 +13,7 @@ ghost use Rattle.run.specs.Running.{Underway, SomeWay, EndsWith};
 
 use format::Format;
 use guess::live::keep_live;
-use hastening::parts::hasten;
+use hastening::components::hasten;
 use laps::Lapped;
 use program::Counts;
 use run::Ending;

@@ -15,8 +15,8 @@ ghost use Rattle.run.specs.Running.{EndsWith};
 ghost use Rattle.ascent.specs.Level.{LevelPast};
 
 use ascent::Climbed;
+use ascent::starts::{start_sides, values_of};
 use ascent::sweeping::climb;
-use ascent::values::{start_sides, values_of};
 use format::Format;
 use program::Counts;
 use run::Ending;

@@ -24,9 +24,15 @@ weigh-requires c = record { i_in_bounds = (omega arith, omega arith); i_bound = 
 
 pub plus-total-requires : goal.plus-total-requires
 plus-total-requires c = let w : to_z w64 (of_z w64 c.weigh.result) ≡ c.weigh.result = search rules in
-    omega (arith, ap nat_abs c.loop-i.invariant.2, (let it : (i : ℕ) → i ≤ length c.args.body.now / 4 → nat_abs (sum_below ((let it : ℕ → ℤ = weighted (terms_of c.args.body.now) (reading_of c.args.kept c.args.first.now c.args.second.now (terms_of c.args.body.now)) in it)) i) ≤ i * (max_coefficient * max_number) = λ i h. total_small c.args.kept c.args.first.now c.args.second.now (terms_of c.args.body.now) c.requires.coefficients c.requires.small.0 c.requires.small.1 i
-    (omega (arith, terms_length c.args.body.now)) in it) c.loop-i.i (omega arith), ap nat_abs (w ∙ c.weigh.ensures), (let it : (i : ℕ) → i < length c.args.body.now / 4 → nat_abs ((let it : ℕ → ℤ = weighted (terms_of c.args.body.now) (reading_of c.args.kept c.args.first.now c.args.second.now (terms_of c.args.body.now)) in it) i) ≤ max_coefficient * max_number = λ i h. weighted_small c.args.kept c.args.first.now c.args.second.now (terms_of c.args.body.now) c.requires.coefficients c.requires.small.0 c.requires.small.1 i
-    (omega (arith, terms_length c.args.body.now)) in it) c.loop-i.i (omega arith))
+    omega (
+      arith,
+      ap nat_abs c.loop-i.invariant.2,
+      (let it : (i : ℕ) → i ≤ length c.args.body.now / 4 → nat_abs (sum_below ((let it : ℕ → ℤ = weighted (terms_of c.args.body.now) (reading_of c.args.kept c.args.first.now c.args.second.now (terms_of c.args.body.now)) in it)) i) ≤ i * (max_coefficient * max_number) = λ i h. total_small c.args.kept c.args.first.now c.args.second.now (terms_of c.args.body.now) c.requires.coefficients c.requires.small.0 c.requires.small.1 i
+          (omega (arith, terms_length c.args.body.now)) in it) c.loop-i.i (omega arith),
+      ap nat_abs (w ∙ c.weigh.ensures),
+      (let it : (i : ℕ) → i < length c.args.body.now / 4 → nat_abs ((let it : ℕ → ℤ = weighted (terms_of c.args.body.now) (reading_of c.args.kept c.args.first.now c.args.second.now (terms_of c.args.body.now)) in it) i) ≤ max_coefficient * max_number = λ i h. weighted_small c.args.kept c.args.first.now c.args.second.now (terms_of c.args.body.now) c.requires.coefficients c.requires.small.0 c.requires.small.1 i
+          (omega (arith, terms_length c.args.body.now)) in it) c.loop-i.i (omega arith),
+    )
 
 pub loop-i-preserved : goal.loop-i-preserved
 loop-i-preserved c = let r : to_z w64 (of_z w64 c.plus-total.result) ≡ c.plus-total.result = search rules in
@@ -34,8 +40,13 @@ loop-i-preserved c = let r : to_z w64 (of_z w64 c.plus-total.result) ≡ c.plus-
     (omega arith, refl, r ∙ c.plus-total.ensures ∙ ap₂ ◌+ℤ◌ c.loop-i.invariant.2 (w ∙ c.weigh.ensures) ∙ sum_more _ _)
 
 pub plus-requires : goal.plus-requires
-plus-requires c = omega (arith, ap nat_abs (to_z-of_z c.ranges.c), ap nat_abs c.loop-i.invariant.2, (let it : (i : ℕ) → i ≤ length c.args.body.now / 4 → nat_abs (sum_below ((let it : ℕ → ℤ = weighted (terms_of c.args.body.now) (reading_of c.args.kept c.args.first.now c.args.second.now (terms_of c.args.body.now)) in it)) i) ≤ i * (max_coefficient * max_number) = λ i h. total_small c.args.kept c.args.first.now c.args.second.now (terms_of c.args.body.now) c.requires.coefficients c.requires.small.0 c.requires.small.1 i
-    (omega (arith, terms_length c.args.body.now)) in it) c.loop-i.i (omega arith))
+plus-requires c = omega (
+  arith,
+  ap nat_abs (to_z-of_z c.ranges.c),
+  ap nat_abs c.loop-i.invariant.2,
+  (let it : (i : ℕ) → i ≤ length c.args.body.now / 4 → nat_abs (sum_below ((let it : ℕ → ℤ = weighted (terms_of c.args.body.now) (reading_of c.args.kept c.args.first.now c.args.second.now (terms_of c.args.body.now)) in it)) i) ≤ i * (max_coefficient * max_number) = λ i h. total_small c.args.kept c.args.first.now c.args.second.now (terms_of c.args.body.now) c.requires.coefficients c.requires.small.0 c.requires.small.1 i
+      (omega (arith, terms_length c.args.body.now)) in it) c.loop-i.i (omega arith),
+)
 
 pub returns : goal.returns
 returns c = let e : c.loop-i.i ≡ length (terms_of c.args.body.now) = omega (arith, terms_length c.args.body.now) in

@@ -15,5 +15,8 @@ pub loop-i-preserved : goal.loop-i-preserved
 loop-i-preserved c = (search rules, search rules, omega (arith, c.put_entry-next.ensures.upper_bound, c.loop-i.invariant.2), entries_more _ c.loop-i.i c.loop-i.invariant.3 c.put_entry-next.ensures.appends)
 
 pub returns : goal.returns
-returns c = let e : c.loop-i.i ≡ c.args.count = omega (arith, c.loop-i-test.false, c.loop-i.invariant.1) in record { appends = subst (λ (n : ℕ). Appends (entry_lines c.args.report.now n) c.args.at c.loop-i.next
-          c.args.output.now c.loop-i.output) e c.loop-i.invariant.3; upper_bound = omega (arith, c.loop-i.invariant.2) }
+returns c = let e : c.loop-i.i ≡ c.args.count = omega (arith, c.loop-i-test.false, c.loop-i.invariant.1) in record {
+  appends = subst (λ (n : ℕ). Appends (entry_lines c.args.report.now n) c.args.at c.loop-i.next
+      c.args.output.now c.loop-i.output) e c.loop-i.invariant.3;
+  upper_bound = omega (arith, c.loop-i.invariant.2);
+}

@@ -1,9 +1,9 @@
 use Prim.Native.Nat.{◌-◌}
-use mathlib.Core.Logic.{⊎_elim}
 use native.Mathlib.Omega.{arith}
 use Rattle.noderules.proofs.Lefts.{left_free, left_writable}
 use Rattle.noderules.proofs.Rules.{inner_begun, inner_length, inner_same, inner_done, inner_leaf, inner_room, inner_more}
 use Rattle.noderules.proofs.put_inner.Goals as goal
+use Rattle.noderules.proofs.put_inner.Goals.{then-s-place-ne0, else-s-place-ne0}
 
 pub loop-place-init : goal.loop-place-init
 loop-place-init c = inner_begun c.requires.0 c.requires.1
@@ -30,10 +30,11 @@ pub loop-place-smaller : goal.loop-place-smaller
 loop-place-smaller c = omega arith
 
 pub loop-place-preserved : goal.loop-place-preserved
-loop-place-preserved c = ⊎_elim
-    (λ w. inner_same (inner_more c.loop-place.invariant (omega arith) w.0.taken (rw w.1.ensures at w.3.ensures)) w.6 w.7 w.8)
-    (λ w. inner_same (inner_leaf c.loop-place.invariant (omega arith) w.0.left) w.1 w.2 w.3)
-    c.if-s-place-ne0.branch
+loop-place-preserved c = elim c.if-s-place-ne0.branch [
+    then-s-place-ne0 w ↦
+        inner_same (inner_more c.loop-place.invariant (omega arith) w.if-s-place-ne0.true (rw w.inner_at.ensures at w.put_node-end.ensures))
+            w.out-is w.number-is w.end-is
+  | else-s-place-ne0 w ↦ inner_same (inner_leaf c.loop-place.invariant (omega arith) w.if-s-place-ne0.false) w.out-is w.number-is w.end-is ]
 
 pub shape_of-out : goal.shape_of-out
 shape_of-out c = inner_length c.loop-place.invariant

@@ -10,8 +10,9 @@ loop-at-init c = counted_none _
 
 pub loop-at-preserved : goal.loop-at-preserved
 loop-at-preserved c = elim c.if-s-at-ne0.branch [
-    then-s-at-ne0 w ↦ counted_inner _ _ _ c.loop-at.invariant _ c.loop-at-test.true w.if-s-at-ne0.true w.n-is
-  | else-s-at-ne0 w ↦ counted_leaf _ _ _ c.loop-at.invariant _ c.loop-at-test.true w.if-s-at-ne0.false w.n-is ]
+  | then-s-at-ne0 w ↦ counted_inner _ _ _ c.loop-at.invariant _ c.loop-at-test.true w.if-s-at-ne0.true w.n-is
+  | else-s-at-ne0 w ↦ counted_leaf _ _ _ c.loop-at.invariant _ c.loop-at-test.true w.if-s-at-ne0.false w.n-is
+]
 
 pub returns : goal.returns
 returns c = counted_all _ _ _ c.loop-at.invariant (omega arith)

@@ -24,10 +24,11 @@ loop-at-preserved c =
     let rest : Set → Bool = λ seen. twice_with (has seen.words) (leaves_in (drop (c.loop-at.at + 2) c.args.s.now)) in (
       omega arith,
       elim c.if-s-at-eq0.branch [
-          then-s-at-eq0+else-contains w ↦
-              twice_passed p _ _ _ c.loop-at.invariant.1 c.loop-at-test.true w.if-s-at-eq0.true _ (sym w.contains.ensures ∙ w.if-contains.false)
-                  w.insert-seen.ensures ∙ ap rest (sym w.seen-is)
-        | else-s-at-eq0 w ↦ at_inner (twice_with p) _ _ _ c.loop-at.invariant.1 c.loop-at-test.true w.if-s-at-eq0.false ∙ ap rest (sym w.seen-is) ],
+        | then-s-at-eq0+else-contains w ↦
+            twice_passed p _ _ _ c.loop-at.invariant.1 c.loop-at-test.true w.if-s-at-eq0.true _ (sym w.contains.ensures ∙ w.if-contains.false)
+            w.insert-seen.ensures ∙ ap rest (sym w.seen-is)
+        | else-s-at-eq0 w ↦ at_inner (twice_with p) _ _ _ c.loop-at.invariant.1 c.loop-at-test.true w.if-s-at-eq0.false ∙ ap rest (sym w.seen-is)
+      ],
     )
 
 pub returns : goal.returns

@@ -20,10 +20,11 @@ returns-then-n-x c = any_found (leb c.args.n) _ _ _ c.loop-at.invariant.1 c.loop
 
 pub loop-at-preserved : goal.loop-at-preserved
 loop-at-preserved c = (
-    omega arith,
-    elim c.if-s-at-eq0.branch [
-        then-s-at-eq0+else-n-x w ↦ any_passed (leb c.args.n) _ _ _ c.loop-at.invariant.1 c.loop-at-test.true w.if-s-at-eq0.true (lt-leb _ _ w.if-n-x.false)
-      | else-s-at-eq0 w ↦ at_inner (any_in (leb c.args.n)) _ _ _ c.loop-at.invariant.1 c.loop-at-test.true w.if-s-at-eq0.false ],
+  omega arith,
+  elim c.if-s-at-eq0.branch [
+    | then-s-at-eq0+else-n-x w ↦ any_passed (leb c.args.n) _ _ _ c.loop-at.invariant.1 c.loop-at-test.true w.if-s-at-eq0.true (lt-leb _ _ w.if-n-x.false)
+    | else-s-at-eq0 w ↦ at_inner (any_in (leb c.args.n)) _ _ _ c.loop-at.invariant.1 c.loop-at-test.true w.if-s-at-eq0.false
+  ],
 )
 
 pub returns : goal.returns

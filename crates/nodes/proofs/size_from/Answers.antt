@@ -22,8 +22,9 @@ overflow_add-n-then-s-at-ne0-2 c = omega (arith, c.type_inv.s (c.loop-at.at + 1)
 
 pub loop-at-preserved : goal.loop-at-preserved
 loop-at-preserved c = elim c.if-s-at-ne0.branch [
-    then-s-at-ne0 w ↦ sized_inner _ _ _ _ c.loop-at.invariant _ c.loop-at-test.true w.if-s-at-ne0.true (omega (arith, c.type_inv.s (c.loop-at.at + 1))) w.n-is
-  | else-s-at-ne0 w ↦ sized_leaf _ _ _ _ c.loop-at.invariant _ c.loop-at-test.true w.if-s-at-ne0.false w.n-is ]
+  | then-s-at-ne0 w ↦ sized_inner _ _ _ _ c.loop-at.invariant _ c.loop-at-test.true w.if-s-at-ne0.true (omega (arith, c.type_inv.s (c.loop-at.at + 1))) w.n-is
+  | else-s-at-ne0 w ↦ sized_leaf _ _ _ _ c.loop-at.invariant _ c.loop-at-test.true w.if-s-at-ne0.false w.n-is
+]
 
 pub returns : goal.returns
 returns c = (sized_all _ _ _ _ c.loop-at.invariant (omega arith), omega arith)

@@ -10,7 +10,7 @@ pub loop-tag-init : goal.loop-tag-init
 loop-tag-init c = rw c.new-cursor.ensures (seek_start _)
 
 pub returns-in_default : goal.returns-in_default
-returns-in_default c = seek_stopped c.loop-tag.invariant (no_field _ _ _ c.field.ensures c.in_default.keys2)
+returns-in_default c = seek_stopped c.loop-tag.invariant (no_field _ _ _ c.field.ensures c.in_default.not-Whole)
 
 pub returns-then-tag-eq-TREE : goal.returns-then-tag-eq-TREE
 returns-then-tag-eq-TREE c = seek_found c.loop-tag.invariant ((let it : Stands c.args.file.now c.loop-tag.cursor.at

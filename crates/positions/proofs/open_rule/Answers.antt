@@ -9,7 +9,7 @@ variable-variable-requires c = omega (arith, c.header-rule.ensures.head_is, c.re
 
 pub returns : goal.returns
 returns c = record {
-      form_is = c.header-rule.ensures.form_is;
-      head_is = c.header-rule.ensures.head_is;
-      variable_is = c.variable-variable.ensures _ (omega (arith, c.header-rule.ensures.head_is, c.requires.head)) ∙ ap (variable_in (variables_at c.args.file.now c.args.variables)) c.header-rule.ensures.head_is;
-    }
+  form_is = c.header-rule.ensures.form_is;
+  head_is = c.header-rule.ensures.head_is;
+  variable_is = c.variable-variable.ensures _ (omega (arith, c.header-rule.ensures.head_is, c.requires.head)) ∙ ap (variable_in (variables_at c.args.file.now c.args.variables)) c.header-rule.ensures.head_is;
+}

@@ -19,11 +19,11 @@ loop-k-smaller c = omega arith
 
 pub loop-k-preserved : goal.loop-k-preserved
 loop-k-preserved c = let same = steps_long c.step.ensures.steps in (
-      omega arith,
-      same ∙ c.loop-k.invariant.1,
-      record { few = c.loop-k.invariant.2.few; room = omega (arith, same, c.loop-k.invariant.2.room) },
-      one_done c.loop-k.invariant.3 (c.step.ensures.round (steps_done c.loop-k.invariant.2 (omega arith) c.step.ensures.steps)),
-    )
+  omega arith,
+  same ∙ c.loop-k.invariant.1,
+  record { few = c.loop-k.invariant.2.few; room = omega (arith, same, c.loop-k.invariant.2.room) },
+  one_done c.loop-k.invariant.3 (c.step.ensures.round (steps_done c.loop-k.invariant.2 (omega arith) c.step.ensures.steps)),
+)
 
 pub shape_of-sets : goal.shape_of-sets
 shape_of-sets c = c.loop-k.invariant.1

@@ -40,9 +40,8 @@ loop-m-smaller c = let found = next_at_is (has c.row_left.result.words) _ max_va
     count_drop _ _ _ max_variables found.below (both (row_has c.loop-m.sets c.args.x c.in-At.m) _ (sym (c.row_left.ensures _) ∙ found.member)).1 c.drop_bit.ensures.by_index
 
 pub loop-m-preserved : goal.loop-m-preserved
-loop-m-preserved c = let found = next_at_is (has c.row_left.result.words) _ max_variables c.next.ensures c.in-At.is in
-    (
-      c.join.ensures.rows_len_unchanged ∙ c.loop-m.invariant.0,
-      c.drop_bit.ensures.words_len_unchanged ∙ c.loop-m.invariant.1,
-      taking_more c.requires.0.few c.requires.1 c.loop-m.invariant.2 _ (omega arith) (both _ _ (sym (c.row_left.ensures _) ∙ found.member)).0 c.join.ensures.joined c.drop_bit.ensures.by_index,
-    )
+loop-m-preserved c = let found = next_at_is (has c.row_left.result.words) _ max_variables c.next.ensures c.in-At.is in (
+  c.join.ensures.rows_len_unchanged ∙ c.loop-m.invariant.0,
+  c.drop_bit.ensures.words_len_unchanged ∙ c.loop-m.invariant.1,
+  taking_more c.requires.0.few c.requires.1 c.loop-m.invariant.2 _ (omega arith) (both _ _ (sym (c.row_left.ensures _) ∙ found.member)).0 c.join.ensures.joined c.drop_bit.ensures.by_index,
+)

@@ -28,7 +28,7 @@ pub loop-i-preserved : goal.loop-i-preserved
 loop-i-preserved c = let s' = row_has c.if-row_has.rows in
     let hk : c.args.k < max_variables = omega (arith, c.requires.0.few, c.requires.1) in
     elim c.if-row_has.branch [
-      then-row_has w ↦ (
+      | then-row_has w ↦ (
         omega arith,
         ap length w.rows-is ∙ w.join.ensures.rows_len_unchanged ∙ c.loop-i.invariant.1,
         upto_joined s' hk c.loop-i.invariant.2 (sym c.row_has.ensures ∙ w.if-row_has.true) (rw w.rows-is w.join.ensures.joined),

@@ -13,24 +13,35 @@ pub fill_bits-requires : goal.fill_bits-requires
 fill_bits-requires c = (limited c.requires.accepted_as).few_rules
 
 pub hasten-lapped-requires : goal.hasten-lapped-requires
-hasten-lapped-requires c = record { accepted_as = c.requires.accepted_as; some_run = record {
-          program = c.requires.some_way.program;
-          reckoning = c.requires.some_way.reckoning;
-          assigned = c.requires.some_way.assigned;
-          run = all_wait _ _ c.requires.accepted_as c.requires.some_way.way _ c.fill_readers.ensures.readers_are _ _ (none_in row_words) c.fill_bits.ensures.by_index;
-        }; model_len = (c.requires.model_len, c.fill_bits.ensures.words_len_unchanged) }
+hasten-lapped-requires c = record {
+  accepted_as = c.requires.accepted_as;
+  some_run = record {
+    program = c.requires.some_way.program;
+    reckoning = c.requires.some_way.reckoning;
+    assigned = c.requires.some_way.assigned;
+    run = all_wait _ _ c.requires.accepted_as c.requires.some_way.way _ c.fill_readers.ensures.readers_are _ _ (none_in row_words) c.fill_bits.ensures.by_index;
+  };
+  model_len = (c.requires.model_len, c.fill_bits.ensures.words_len_unchanged);
+}
 
 pub returns-in-NoModel : goal.returns-in-NoModel
 returns-in-NoModel c = record { model_len_2 = c.hasten-lapped.ensures.model_len_2.0; ends_with = λ P R θ k. rw c.in-NoModel.is at (c.hasten-lapped.ensures.run_lapped.after P R θ (all_wait _ _ c.requires.accepted_as k _ c.fill_readers.ensures.readers_are _ _ (none_in row_words) c.fill_bits.ensures.by_index)) }
 
 pub solve-requires : goal.solve-requires
-solve-requires c = record { some_run = kept_some (lapped_on c.hasten-lapped.ensures.run_lapped c.in_default.is) (record {
-        program = c.requires.some_way.program;
-        reckoning = c.requires.some_way.reckoning;
-        assigned = c.requires.some_way.assigned;
-        run = all_wait _ _ c.requires.accepted_as c.requires.some_way.way _ c.fill_readers.ensures.readers_are _ _ (none_in row_words) c.fill_bits.ensures.by_index;
-      }); model_len = c.hasten-lapped.ensures.model_len_2.0; waiting_len = c.hasten-lapped.ensures.model_len_2.1 }
+solve-requires c = record {
+  some_run = kept_some (lapped_on c.hasten-lapped.ensures.run_lapped c.in_default.is) (record {
+    program = c.requires.some_way.program;
+    reckoning = c.requires.some_way.reckoning;
+    assigned = c.requires.some_way.assigned;
+    run = all_wait _ _ c.requires.accepted_as c.requires.some_way.way _ c.fill_readers.ensures.readers_are _ _ (none_in row_words) c.fill_bits.ensures.by_index;
+  });
+  model_len = c.hasten-lapped.ensures.model_len_2.0;
+  waiting_len = c.hasten-lapped.ensures.model_len_2.1;
+}
 
 pub returns : goal.returns
-returns c = record { model_len_2 = c.solve.ensures.model_len_2; ends_with = λ P R θ k. c.solve.ensures.ends_with P R θ ((lapped_on c.hasten-lapped.ensures.run_lapped c.in_default.is).on P R θ
-          (all_wait _ _ c.requires.accepted_as k _ c.fill_readers.ensures.readers_are _ _ (none_in row_words) c.fill_bits.ensures.by_index)) }
+returns c = record {
+  model_len_2 = c.solve.ensures.model_len_2;
+  ends_with = λ P R θ k. c.solve.ensures.ends_with P R θ ((lapped_on c.hasten-lapped.ensures.run_lapped c.in_default.is).on P R θ
+      (all_wait _ _ c.requires.accepted_as k _ c.fill_readers.ensures.readers_are _ _ (none_in row_words) c.fill_bits.ensures.by_index));
+}

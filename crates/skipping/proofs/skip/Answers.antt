@@ -36,8 +36,9 @@ loop-need-smaller c = omega (arith, skipping_two c.loop-need.invariant (omega ar
 
 pub loop-need-preserved : goal.loop-need-preserved
 loop-need-preserved c = elim c.if-s-end-ne0.branch [
-    then-s-end-ne0 w ↦ skipping_inner c.loop-need.invariant (omega arith) _ _ w.if-s-end-ne0.true (omega arith) (omega arith)
-  | else-s-end-ne0 w ↦ skipping_leaf c.loop-need.invariant (omega arith) _ _ w.if-s-end-ne0.false (omega arith) (omega arith) ]
+  | then-s-end-ne0 w ↦ skipping_inner c.loop-need.invariant (omega arith) _ _ w.if-s-end-ne0.true (omega arith) (omega arith)
+  | else-s-end-ne0 w ↦ skipping_leaf c.loop-need.invariant (omega arith) _ _ w.if-s-end-ne0.false (omega arith) (omega arith)
+]
 
 pub returns : goal.returns
 returns c = skipping_done c.loop-need.invariant (omega arith)

@@ -1,3 +1,4 @@
+use mathlib.Core.Bool.{not}
 use mathlib.Core.Path.{refl, sym, ap, ◌∙◌}
 use native.Mathlib.Omega.{arith}
 use Rattle.program.specs.Program.{rule}
@@ -7,24 +8,25 @@ use Rattle.treechecks.proofs.TreeValues.{value_long, formed, malformed_of, too_m
 use Rattle.treechecks.proofs.check_tree.Goals as goal
 
 pub returns-then-not-is_well_formed : goal.returns-then-not-is_well_formed
-returns-then-not-is_well_formed c = λ N e z. (refused_18 N _ (malformed_of c.is_well_formed.ensures c.if-not-is_well_formed.true-raw), refl)
+returns-then-not-is_well_formed c = λ N e z. (refused_18 N _ (malformed_of c.is_well_formed.ensures (ap not c.if-not-is_well_formed.true)), refl)
 
 pub added_by-added-requires : goal.added_by-added-requires
-added_by-added-requires c = let t = formed c.is_well_formed.ensures c.if-not-is_well_formed.false-raw in value_long _ t.0 t.1
+added_by-added-requires c = let t = formed c.is_well_formed.ensures (ap not c.if-not-is_well_formed.false) in value_long _ t.0 t.1
 
 pub returns-then-is_too_many : goal.returns-then-is_too_many
 returns-then-is_too_many c = λ N e z.
-    let t = formed c.is_well_formed.ensures c.if-not-is_well_formed.false-raw in
+    let t = formed c.is_well_formed.ensures (ap not c.if-not-is_well_formed.false) in
     let a = too_many_is N _ t.0 t.1 z (c.added_by-added.ensures.value t.0 t.1) in
     (refused_5 N _ t.0 t.1 (sym a ∙ sym c.is_too_many.ensures ∙ c.if-is_too_many.true), refl)
 
 pub is_undeclared-requires : goal.is_undeclared-requires
-is_undeclared-requires c = let t = formed c.is_well_formed.ensures c.if-not-is_well_formed.false-raw in
-    (c.requires.n_in_bounds.0, let l = value_long _ t.0 t.1 in omega arith)
+is_undeclared-requires c = let t = formed c.is_well_formed.ensures (ap not c.if-not-is_well_formed.false) in
+    let l = value_long _ t.0 t.1 in
+    record { n_in_bounds = c.requires.n_in_bounds.0; in_bounds = omega arith }
 
 pub returns-then-is_undeclared : goal.returns-then-is_undeclared
 returns-then-is_undeclared c = λ N e z.
-    let t = formed c.is_well_formed.ensures c.if-not-is_well_formed.false-raw in
+    let t = formed c.is_well_formed.ensures (ap not c.if-not-is_well_formed.false) in
     let a = too_many_is N _ t.0 t.1 z (c.added_by-added.ensures.value t.0 t.1) in (
       refused_9 N _ t.0 t.1 (sym a ∙ sym c.is_too_many.ensures ∙ c.if-is_too_many.false)
           (ap (λ vs. undeclared vs (rule (body_of t.0))) e ∙ sym (c.is_undeclared.ensures t.0 t.1) ∙ c.if-is_undeclared.true),
@@ -32,13 +34,13 @@ returns-then-is_undeclared c = λ N e z.
     )
 
 pub is_twice-requires : goal.is_twice-requires
-is_twice-requires c = let t = formed c.is_well_formed.ensures c.if-not-is_well_formed.false-raw in
+is_twice-requires c = let t = formed c.is_well_formed.ensures (ap not c.if-not-is_well_formed.false) in
     let l = value_long _ t.0 t.1 in
     omega arith
 
 pub returns-then-is_twice : goal.returns-then-is_twice
 returns-then-is_twice c = λ N e z.
-    let t = formed c.is_well_formed.ensures c.if-not-is_well_formed.false-raw in
+    let t = formed c.is_well_formed.ensures (ap not c.if-not-is_well_formed.false) in
     let a = too_many_is N _ t.0 t.1 z (c.added_by-added.ensures.value t.0 t.1) in (
       refused_11 N _ t.0 t.1 (sym a ∙ sym c.is_too_many.ensures ∙ c.if-is_too_many.false)
           (ap (λ vs. undeclared vs (rule (body_of t.0))) e ∙ sym (c.is_undeclared.ensures t.0 t.1) ∙ c.if-is_undeclared.false)
@@ -48,7 +50,7 @@ returns-then-is_twice c = λ N e z.
 
 pub returns : goal.returns
 returns c = λ N e z.
-    let t = formed c.is_well_formed.ensures c.if-not-is_well_formed.false-raw in
+    let t = formed c.is_well_formed.ensures (ap not c.if-not-is_well_formed.false) in
     let n = c.added_by-added.ensures.value t.0 t.1 in
     let a = too_many_is N _ t.0 t.1 z n in
     record {

@@ -18,9 +18,9 @@ mark_edges-requires c = record { counted = c.requires; rows_len = omega arith; v
 
 pub close_for-requires : goal.close_for-requires
 close_for-requires c = let f = variables_few c.requires in (
-      record { few = omega (arith, f); room = omega (arith, f, c.mark_edges.ensures.rows_len_2) },
-      λ v e. acting_declared c.requires v (sym (c.acting_variables-acting.ensures v) ∙ e),
-    )
+  record { few = omega (arith, f); room = omega (arith, f, c.mark_edges.ensures.rows_len_2) },
+  λ v e. acting_declared c.requires v (sym (c.acting_variables-acting.ensures v) ∙ e),
+)
 
 pub first_offending-requires : goal.first_offending-requires
 first_offending-requires c = let f = variables_few c.requires in

@@ -16,10 +16,10 @@ add_bit-requires c = omega arith
 
 pub loop-i-preserved : goal.loop-i-preserved
 loop-i-preserved c = (
-      omega arith,
-      c.add_bit.ensures.words_len_unchanged ∙ c.loop-i.invariant.1,
-      λ j. c.add_bit.ensures.by_index j ∙ ap (λ (b : Bool). eqb j c.loop-i.i || b) (c.loop-i.invariant.2 j) ∙ fill_more (has c.args.words.now j) j c.loop-i.i,
-    )
+  omega arith,
+  c.add_bit.ensures.words_len_unchanged ∙ c.loop-i.invariant.1,
+  λ j. c.add_bit.ensures.by_index j ∙ ap (λ (b : Bool). eqb j c.loop-i.i || b) (c.loop-i.invariant.2 j) ∙ fill_more (has c.args.words.now j) j c.loop-i.i,
+)
 
 pub returns : goal.returns
 returns c = let e : c.loop-i.i ≡ c.args.n = omega arith in

@@ -13,24 +13,33 @@ pub sweep-swept-requires : goal.sweep-swept-requires
 sweep-swept-requires c = record { accepted_as = c.requires.accepted_as; some_climbing = some_on c.requires.some_climbing c.loop-counts.invariant.2; sides_len = c.loop-counts.invariant.1 }
 
 pub returns-in_default : goal.returns-in_default
-returns-in_default c = record { sides_len_2 = c.sweep-swept.ensures.sides_len_2; climb_is = λ P R θ others a k.
-          let e = c.sweep-swept.ensures.sweep_up_is P R θ others a (c.loop-counts.invariant.2 P R θ others a k) in
-          swept_none P R θ others c.args.stops.now c.args.full c.args.counts.rules c.sweep-swept.new.sides e c.in_default.is }
+returns-in_default c = record {
+  sides_len_2 = c.sweep-swept.ensures.sides_len_2;
+  climb_is = λ P R θ others a k.
+      let e = c.sweep-swept.ensures.sweep_up_is P R θ others a (c.loop-counts.invariant.2 P R θ others a k) in
+      swept_none P R θ others c.args.stops.now c.args.full c.args.counts.rules c.sweep-swept.new.sides e c.in_default.is;
+}
 
 pub returns-then-raises-eq0 : goal.returns-then-raises-eq0
-returns-then-raises-eq0 c = record { sides_len_2 = c.sweep-swept.ensures.sides_len_2; climb_is = λ P R θ others a k.
-          let e = c.sweep-swept.ensures.sweep_up_is P R θ others a (c.loop-counts.invariant.2 P R θ others a k) in
-          let u = swept_raises P R θ others c.args.stops.now c.args.full c.args.counts.rules c.sweep-swept.new.sides e c.in-Raises.is in
-          climbing_least u.climbing (u.met c.if-raises-eq0.true) }
+returns-then-raises-eq0 c = record {
+  sides_len_2 = c.sweep-swept.ensures.sides_len_2;
+  climb_is = λ P R θ others a k.
+      let e = c.sweep-swept.ensures.sweep_up_is P R θ others a (c.loop-counts.invariant.2 P R θ others a k) in
+      let u = swept_raises P R θ others c.args.stops.now c.args.full c.args.counts.rules c.sweep-swept.new.sides e c.in-Raises.is in
+      climbing_least u.climbing (u.met c.if-raises-eq0.true);
+}
 
 pub have_arrived-requires : goal.have_arrived-requires
 have_arrived-requires c = let f = limited c.requires.accepted_as in (f.inside, f.few_variables)
 
 pub returns-then-have_arrived : goal.returns-then-have_arrived
-returns-then-have_arrived c = record { sides_len_2 = c.sweep-swept.ensures.sides_len_2; climb_is = λ P R θ others a k.
-          let e = c.sweep-swept.ensures.sweep_up_is P R θ others a (c.loop-counts.invariant.2 P R θ others a k) in
-          let u = swept_raises P R θ others c.args.stops.now c.args.full c.args.counts.rules c.sweep-swept.new.sides e c.in-Raises.is in
-          all_arrived c.requires.accepted_as a u.climbing c.if-full.true (c.have_arrived.ensures c.if-have_arrived.true) }
+returns-then-have_arrived c = record {
+  sides_len_2 = c.sweep-swept.ensures.sides_len_2;
+  climb_is = λ P R θ others a k.
+      let e = c.sweep-swept.ensures.sweep_up_is P R θ others a (c.loop-counts.invariant.2 P R θ others a k) in
+      let u = swept_raises P R θ others c.args.stops.now c.args.full c.args.counts.rules c.sweep-swept.new.sides e c.in-Raises.is in
+      all_arrived c.requires.accepted_as a u.climbing c.if-full.true (c.have_arrived.ensures c.if-have_arrived.true);
+}
 
 pub overflow_add-done : goal.overflow_add-done
 overflow_add-done c = let p = c.pays.ensures c.loop-counts-test.true in

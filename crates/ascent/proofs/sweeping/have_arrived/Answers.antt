@@ -24,8 +24,7 @@ returns-then-is_founded c = λ t. absurd (true≢false (sym t))
 pub loop-v-preserved : goal.loop-v-preserved
 loop-v-preserved c = let b : ℤ = get_or c.args.stops.now c.loop-v.v (pos 0) in
     let r : to_z w64 (of_z w64 c.read-has.result) ≡ c.read-has.result = search rules in
-    let y : to_z w64 (of_z w64 b) ≡ b = search rules in
-    (
+    let y : to_z w64 (of_z w64 b) ≡ b = search rules in (
       omega arith,
       arrived_more (variables_at c.args.file.now c.args.n) c.args.stops.now c.args.sides.now c.loop-v.invariant.1 (c.variable-x.ensures c.args.n (omega arith)) c.is_from_above.ensures c.read-has.ensures refl
           (elim c.else-has-stop.branch [

@@ -36,14 +36,14 @@ next_at-place-requires c = place_inside c.requires.accepted_as c.loop-k-test.tru
 
 pub loop-k-preserved : goal.loop-k-preserved
 loop-k-preserved c = (
-      omega (arith, c.loop-k.invariant.0),
-      omega arith,
-      place_next c.requires.accepted_as c.loop-k-test.true c.loop-k.invariant.2 c.next_at-place.ensures,
-      λ P R θ a f.
-          let m = risen P.variables c.args.sides.now in
-          let s = rule_stands c.requires.accepted_as c.loop-k-test.true c.loop-k.invariant.2 a in
-          one_more (RuleMetIn P R θ m) (c.loop-k.invariant.3 P R θ a f) (demands_enough P R θ m c.loop-k.k (c.look-asked.ensures P R θ c.loop-k.k s (f c.loop-k.k s.among)) c.in_default.is),
-    )
+  omega (arith, c.loop-k.invariant.0),
+  omega arith,
+  place_next c.requires.accepted_as c.loop-k-test.true c.loop-k.invariant.2 c.next_at-place.ensures,
+  λ P R θ a f.
+      let m = risen P.variables c.args.sides.now in
+      let s = rule_stands c.requires.accepted_as c.loop-k-test.true c.loop-k.invariant.2 a in
+      one_more (RuleMetIn P R θ m) (c.loop-k.invariant.3 P R θ a f) (demands_enough P R θ m c.loop-k.k (c.look-asked.ensures P R θ c.loop-k.k s (f c.loop-k.k s.among)) c.in_default.is),
+)
 
 pub returns : goal.returns
 returns c = λ P R θ a f.

@@ -24,7 +24,10 @@ returns-then-is_before c = let z : to_z w64 (of_z w64 c.far.result) ≡ c.far.re
 pub returns : goal.returns
 returns c = let z : to_z w64 (of_z w64 c.far.result) ≡ c.far.result = search rules in
     let y : to_z w64 (of_z w64 c.args.a) ≡ c.args.a = search rules in
-    let e = simp (z ∙ c.far.ensures, y) at c.is_before.ensures in record { sides_len_2 = c.write.ensures.sides_len; raised_side = λ P i s. (
+    let e = simp (z ∙ c.far.ensures, y) at c.is_before.ensures in record {
+      sides_len_2 = c.write.ensures.sides_len;
+      raised_side = λ P i s. (
         is_raised s c.head_at-head.ensures c.variable-x.ensures c.args.a c.args.sides.now (not_past_far c.variable-x.result c.args.a e c.if-is_before.false),
         raised_place s c.head_at-head.ensures c.variable-x.ensures c.args.a c.args.sides.now c.is_from_above.ensures (c.write.ensures.sides_after ∙ ap (set c.args.sides.now _) y),
-      ) }
+      );
+    }

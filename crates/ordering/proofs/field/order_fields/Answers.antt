@@ -24,12 +24,12 @@ order_field-at-requires c = let a = reads_accepts c.requires.accepted_as in
 
 pub loop-i-preserved : goal.loop-i-preserved
 loop-i-preserved c = (
-      omega arith,
-      c.order_field-at.ensures.length_is ∙ c.loop-i.invariant.1,
-      simp length-set c.loop-i.invariant.2,
-      λ P x. let z = counts_of_is c.requires.accepted_as x in
-          one_ordered x (c.loop-i.invariant.3 P x) (omega (arith, z.rules_are, z.constraints_are)) _ (omega (arith, c.requires.text_value.1)) c.narrow.ensures c.order_field-at.ensures,
-    )
+  omega arith,
+  c.order_field-at.ensures.length_is ∙ c.loop-i.invariant.1,
+  simp length-set c.loop-i.invariant.2,
+  λ P x. let z = counts_of_is c.requires.accepted_as x in
+      one_ordered x (c.loop-i.invariant.3 P x) (omega (arith, z.rules_are, z.constraints_are)) _ (omega (arith, c.requires.text_value.1)) c.narrow.ensures c.order_field-at.ensures,
+)
 
 pub returns : goal.returns
 returns c = record { places_len_unchanged = c.loop-i.invariant.2; ordered_file = λ P x. let z = counts_of_is c.requires.accepted_as x in all_ordered x (c.loop-i.invariant.3 P x) (omega arith) (omega (arith, z.rules_are, z.constraints_are)) }

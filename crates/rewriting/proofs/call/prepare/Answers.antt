@@ -1,5 +1,6 @@
 use mathlib.Core.Path.{sym}
 use native.Mathlib.Omega.{arith}
+use borrow.Author.Rules.{rules}
 use lib.Seq.{length-take-le}
 use Rattle.program.proofs.Unique.{reads_accepts}
 use Rattle.reader.proofs.Published.{limited}
@@ -7,13 +8,10 @@ use Rattle.rewriting.proofs.Preparing.{fields_few, fields_inside, prepared, copi
 use Rattle.rewriting.proofs.call.prepare.Goals as goal
 
 pub order_fields-fields-requires : goal.order_fields-fields-requires
-order_fields-fields-requires c = let l = limited c.requires.accepted_as in (
-      c.requires.accepted_as,
-      (
-        copied c.args.file.now c.args.text.now c.put.new.buffer.0 c.requires.text_len.0 c.put.ensures.1,
-        omega (arith, l.few_rules, l.few_constraints),
-      ),
-    )
+order_fields-fields-requires c = let l = limited c.requires.accepted_as in record {
+      accepted_as = c.requires.accepted_as;
+      text_value = (copied c.args.file.now c.args.text.now c.put.new.buffer c.requires.text_len.0 c.put.ensures.1, omega (arith, l.few_rules, l.few_constraints));
+    }
 
 pub slice_bounds-sort-end : goal.slice_bounds-sort-end
 slice_bounds-sort-end c = let k = fields_few c.requires.accepted_as c.order_fields-fields.ensures.ordered_file in
@@ -21,7 +19,7 @@ slice_bounds-sort-end c = let k = fields_few c.requires.accepted_as c.order_fiel
 
 pub slice_bounds-sort-end-2 : goal.slice_bounds-sort-end-2
 slice_bounds-sort-end-2 c = let k = fields_few c.requires.accepted_as c.order_fields-fields.ensures.ordered_file in
-    sym (length-take-le c.order_fields-fields.result c.order_fields-fields.new.text.1.1.0 (omega (arith, c.order_fields-fields.ensures.places_len_unchanged)))
+    sym (length-take-le c.order_fields-fields.result c.order_fields-fields.new.places (omega (arith, c.order_fields-fields.ensures.places_len_unchanged)))
 
 pub slice_bounds-sort-end-3 : goal.slice_bounds-sort-end-3
 slice_bounds-sort-end-3 c = let k = fields_few c.requires.accepted_as c.order_fields-fields.ensures.ordered_file in
@@ -34,14 +32,14 @@ slice_bounds-sort-end-4 c = let k = fields_few c.requires.accepted_as c.order_fi
 pub sort-left-requires : goal.sort-left-requires
 sort-left-requires c = let k = fields_few c.requires.accepted_as c.order_fields-fields.ensures.ordered_file in
     let y = reads_accepts c.requires.accepted_as in
-    let a = length-take-le c.order_fields-fields.result c.order_fields-fields.new.text.1.1.0 (omega (arith, c.order_fields-fields.ensures.places_len_unchanged)) in
+    let a = length-take-le c.order_fields-fields.result c.order_fields-fields.new.places (omega (arith, c.order_fields-fields.ensures.places_len_unchanged)) in
     let b = length-take-le c.order_fields-fields.result c.args.spare.now (omega arith) in
-    (omega arith, fields_inside y.accepts (c.order_fields-fields.ensures.ordered_file y.meant y.accepts) (omega (arith, c.order_fields-fields.ensures.places_len_unchanged)))
+    record { spare_len = omega arith; all_inside = fields_inside y.accepts (c.order_fields-fields.ensures.ordered_file y.meant y.accepts) (omega (arith, c.order_fields-fields.ensures.places_len_unchanged)) }
 
 pub returns : goal.returns
 returns c = let k = fields_few c.requires.accepted_as c.order_fields-fields.ensures.ordered_file in
     let y = reads_accepts c.requires.accepted_as in
-    let a = length-take-le c.order_fields-fields.result c.order_fields-fields.new.text.1.1.0 (omega (arith, c.order_fields-fields.ensures.places_len_unchanged)) in record { text_len_2 = (c.order_fields-fields.ensures.ordered_file y.meant y.accepts).length_is; prepared = λ P x. prepared x (c.order_fields-fields.ensures.ordered_file P x) (omega (arith, c.order_fields-fields.ensures.places_len_unchanged))
-          (λ i. omega (arith, c.type_inv.text i)) c.sort-left.new.places.1.0
+    let a = length-take-le c.order_fields-fields.result c.order_fields-fields.new.places (omega (arith, c.order_fields-fields.ensures.places_len_unchanged)) in record { text_len_2 = (c.order_fields-fields.ensures.ordered_file y.meant y.accepts).length_is; prepared = λ P x. prepared x (c.order_fields-fields.ensures.ordered_file P x) (omega (arith, c.order_fields-fields.ensures.places_len_unchanged))
+          (λ i. search rules) c.sort-left.new.places
           c.sort-left.result (omega (arith, c.sort-left.ensures.places_len_unchanged.0))
           (omega (arith, c.sort-left.ensures.places_len_unchanged.2)) c.sort-left.ensures.sorts }

@@ -25,10 +25,10 @@ next_at-at-requires c = rule_inside c.requires _ (omega arith) c.loop-i.invarian
 
 pub loop-i-preserved : goal.loop-i-preserved
 loop-i-preserved c = let e = field_rule _ _ _ c.loop-i.invariant.1 c.value_at-value.ensures in (
-      omega arith,
-      next_rule _ _ _ c.loop-i.invariant.1 c.next_at-at.ensures,
-      λ v. c.take_acting-found.ensures v ∙ any_more c.loop-i.i _ _ _ (c.loop-i.invariant.2 v) (ap (λ r. acts_on (variables_at c.args.file.now c.args.counts.variables) r v) e),
-    )
+  omega arith,
+  next_rule _ _ _ c.loop-i.invariant.1 c.next_at-at.ensures,
+  λ v. c.take_acting-found.ensures v ∙ any_more c.loop-i.i _ _ _ (c.loop-i.invariant.2 v) (ap (λ r. acts_on (variables_at c.args.file.now c.args.counts.variables) r v) e),
+)
 
 pub returns : goal.returns
 returns c = acting_all _ _ (omega arith) c.loop-i.invariant.2

@@ -28,10 +28,10 @@ next_at-at-requires c = rule_inside c.requires _ (omega arith) c.loop-i.invarian
 
 pub loop-i-preserved : goal.loop-i-preserved
 loop-i-preserved c = let e = field_rule _ _ _ c.loop-i.invariant.1 c.value_at-value.ensures in (
-      omega arith,
-      next_rule _ _ _ c.loop-i.invariant.1 c.next_at-at.ensures,
-      none_more _ _ c.loop-i.invariant.2 (sym (c.is_mixed.ensures ∙ ap (any_mixed _) e) ∙ c.if-is_mixed.false),
-    )
+  omega arith,
+  next_rule _ _ _ c.loop-i.invariant.1 c.next_at-at.ensures,
+  none_more _ _ c.loop-i.invariant.2 (sym (c.is_mixed.ensures ∙ ap (any_mixed _) e) ∙ c.if-is_mixed.false),
+)
 
 pub returns : goal.returns
 returns c = none_mixed_in _ _ _ (omega arith) c.loop-i.invariant.2

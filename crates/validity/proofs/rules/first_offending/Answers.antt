@@ -34,11 +34,11 @@ next_at-at-requires c = rule_inside c.requires.counted _ (omega arith) c.loop-ru
 
 pub loop-rule-preserved : goal.loop-rule-preserved
 loop-rule-preserved c = let e = field_rule _ _ _ c.loop-rule.invariant.1 c.value_at-value.ensures in (
-      omega arith,
-      next_rule _ _ _ c.loop-rule.invariant.1 c.next_at-at.ensures,
-      c.offends.ensures.values_len_2,
-      none_more _ _ c.loop-rule.invariant.3 (sym (c.offends.ensures.value ∙ ap (offends_by _ _) e) ∙ c.if-offends.false),
-    )
+  omega arith,
+  next_rule _ _ _ c.loop-rule.invariant.1 c.next_at-at.ensures,
+  c.offends.ensures.values_len_2,
+  none_more _ _ c.loop-rule.invariant.3 (sym (c.offends.ensures.value ∙ ap (offends_by _ _) e) ∙ c.if-offends.false),
+)
 
 pub returns : goal.returns
 returns c = λ i l. c.loop-rule.invariant.3 i (omega arith)
