@@ -47,8 +47,9 @@ returns-in-Value c = let b : ℤ = get_or c.args.stops.now c.wide.result (pos 0)
     look_more h (head_variable h c.head_at-head.ensures c.variable-x.ensures) c.value_at-value.ensures o (here_head h c.head_at-head.ensures) c.is_from_above.ensures (r ∙ c.read-has.ensures)
     (y ∙ ap (valued c.args.stops.now) c.wide.ensures.0)
     (elim c.else-full.branch [
-      else-full-via-then-full+else-has-stop w ↦ λ e d. w.if-has-stop.false (ap (of_z w64) (sym r ∙ d ∙ y))
-    | else-full-via-else-full w ↦ λ e d. true≢false (sym e ∙ w.if-full.false) ])
+      | else-full-via-then-full+else-has-stop w ↦ λ e d. w.if-has-stop.false (ap (of_z w64) (sym r ∙ d ∙ y))
+      | else-full-via-else-full w ↦ λ e d. true≢false (sym e ∙ w.if-full.false)
+    ])
     c.plain_side-side.ensures c.gives_past-past.ensures (c.in-Value.is ∙ ap Value (sym t)) (q ∙ c.no_further.ensures)
 
 pub returns-in-Nothing : goal.returns-in-Nothing
@@ -59,6 +60,7 @@ returns-in-Nothing c = let b : ℤ = get_or c.args.stops.now c.wide.result (pos 
     look_enough h (head_variable h c.head_at-head.ensures c.variable-x.ensures) c.value_at-value.ensures o (here_head h c.head_at-head.ensures) c.is_from_above.ensures (r ∙ c.read-has.ensures)
     (y ∙ ap (valued c.args.stops.now) c.wide.ensures.0)
     (elim c.else-full.branch [
-      else-full-via-then-full+else-has-stop w ↦ λ e d. w.if-has-stop.false (ap (of_z w64) (sym r ∙ d ∙ y))
-    | else-full-via-else-full w ↦ λ e d. true≢false (sym e ∙ w.if-full.false) ])
+      | else-full-via-then-full+else-has-stop w ↦ λ e d. w.if-has-stop.false (ap (of_z w64) (sym r ∙ d ∙ y))
+      | else-full-via-else-full w ↦ λ e d. true≢false (sym e ∙ w.if-full.false)
+    ])
     c.plain_side-side.ensures c.gives_past-past.ensures c.in-Nothing.is

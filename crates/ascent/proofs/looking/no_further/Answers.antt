@@ -18,7 +18,8 @@ pub returns : goal.returns
 returns c = let y : to_z w64 (of_z w64 c.args.stop) ≡ c.args.stop = search rules in
     let z : to_z w64 (of_z w64 c.args.a) ≡ c.args.a = search rules in
     elim c.else-full.branch [
-      else-full-via-then-full+else-is_before w ↦
-        let e = simp (y, z) at w.is_before.ensures in
-        rw (w.if-full.true, not-false (not_past c.args.x c.args.a c.args.stop) (sym e ∙ w.if-is_before.false)) z
-    | else-full-via-else-full w ↦ rw w.if-full.false z ]
+      | else-full-via-then-full+else-is_before w ↦
+          let e = simp (y, z) at w.is_before.ensures in
+          rw (w.if-full.true, not-false (not_past c.args.x c.args.a c.args.stop) (sym e ∙ w.if-is_before.false)) z
+      | else-full-via-else-full w ↦ rw w.if-full.false z
+    ]

@@ -28,8 +28,9 @@ loop-v-preserved c = let b : ℤ = get_or c.args.stops.now c.loop-v.v (pos 0) in
       omega arith,
       arrived_more (variables_at c.args.file.now c.args.n) c.args.stops.now c.args.sides.now c.loop-v.invariant.1 (c.variable-x.ensures c.args.n (omega arith)) c.is_from_above.ensures c.read-has.ensures refl
           (elim c.else-has-stop.branch [
-            else-has-stop-via-then-has-stop+else-is_founded w ↦ λ t. absurd (true≢false (sym (w.is_founded.ensures ∙ is_true (is_founded c.variable-x.result) t) ∙ w.if-is_founded.false))
-          | else-has-stop-via-else-has-stop w ↦ λ t. sym r ∙ ap (to_z w64) w.if-has-stop.false ∙ y ]),
+            | else-has-stop-via-then-has-stop+else-is_founded w ↦ λ t. absurd (true≢false (sym (w.is_founded.ensures ∙ is_true (is_founded c.variable-x.result) t) ∙ w.if-is_founded.false))
+            | else-has-stop-via-else-has-stop w ↦ λ t. sym r ∙ ap (to_z w64) w.if-has-stop.false ∙ y
+          ]),
     )
 
 pub returns : goal.returns
