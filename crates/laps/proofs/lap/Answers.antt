@@ -15,13 +15,13 @@ returns-in-NoModel c = record { model_len_2 = c.attempt-tried.ensures.model_len;
 
 pub loop-k-preserved : goal.loop-k-preserved
 loop-k-preserved c = (
-      λ P R θ k. went_on _ _ c.attempt-tried.result c.in_default.not-NoModel (c.attempt-tried.ensures.after_try P R θ (c.loop-k.invariant.0 P R θ k)),
-      c.attempt-tried.ensures.model_len.0,
-      c.attempt-tried.ensures.model_len.1,
-      c.note-rose.ensures.0,
-      c.note-rose.ensures.1,
-      omega (arith, c.attempt-tried.ensures.model_bound, c.loop-k.invariant.5),
-    )
+  λ P R θ k. went_on _ _ c.attempt-tried.result c.in_default.not-NoModel (c.attempt-tried.ensures.after_try P R θ (c.loop-k.invariant.0 P R θ k)),
+  c.attempt-tried.ensures.model_len.0,
+  c.attempt-tried.ensures.model_len.1,
+  c.note-rose.ensures.0,
+  c.note-rose.ensures.1,
+  omega (arith, c.attempt-tried.ensures.model_bound, c.loop-k.invariant.5),
+)
 
 pub returns : goal.returns
 returns c = record { model_len_2 = (c.loop-k.invariant.1, c.loop-k.invariant.2); by_len_2 = (c.loop-k.invariant.3, c.loop-k.invariant.4); model_bound = c.loop-k.invariant.5; after_lap = λ P R θ k. c.loop-k.invariant.0 P R θ k }

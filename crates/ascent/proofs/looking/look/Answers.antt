@@ -1,6 +1,5 @@
 -- What the rule gives past its head's value, in the values on their sides, is what it demands; a head that has its stop needs no look.
 use mathlib.Core.Path.{◌≡◌, sym, ap, ◌∙◌}
-use mathlib.Core.Logic.{⊎_elim}
 use mathlib.Core.Bool.{true≢false}
 use lib.IntN.{ℤ, pos}
 use lib.ListN.{get_or}
@@ -13,6 +12,7 @@ use Rattle.program.specs.declared.Given.TheVariants.{Value}
 use Rattle.run.proofs.RunLaws.{head_lies, here_head, here_evaluable, here_headed, head_field, head_variable}
 use Rattle.ascent.proofs.LookLaws.{some_standing, look_full, look_more, look_enough}
 use Rattle.ascent.proofs.looking.look.Goals as goal
+use Rattle.ascent.proofs.looking.look.Goals.{else-full-via-then-full+else-has-stop, else-full-via-else-full}
 
 pub value_at-value-requires : goal.value_at-value-requires
 value_at-value-requires c = (head_lies c.requires.some_rule.here).0
@@ -29,7 +29,7 @@ returns-then-has-stop c = let b : ℤ = get_or c.args.stops.now c.wide.result (p
     let y : to_z w64 (of_z w64 b) ≡ b = search rules in
     λ P R θ i h o.
     look_full h (head_variable h c.head_at-head.ensures c.variable-x.ensures) o (here_head h c.head_at-head.ensures) c.is_from_above.ensures c.read-has.ensures
-    (ap (valued c.args.stops.now) c.wide.ensures.0) c.if-full.true (sym r ∙ ap (to_z w64) (eqb-true (of_z w64 c.read-has.result) (of_z w64 b) c.if-has-stop.true-raw) ∙ y)
+    (ap (valued c.args.stops.now) c.wide.ensures.0) c.if-full.true (sym r ∙ ap (to_z w64) c.if-has-stop.true ∙ y)
 
 pub plain_side-side-requires : goal.plain_side-side-requires
 plain_side-side-requires c = record { some_standing = some_standing c.requires.some_rule.here c.value_at-value.ensures; evaluable = here_evaluable c.requires.some_rule.here c.value_at-value.ensures }
@@ -46,7 +46,10 @@ returns-in-Value c = let b : ℤ = get_or c.args.stops.now c.wide.result (pos 0)
     λ P R θ i h o.
     look_more h (head_variable h c.head_at-head.ensures c.variable-x.ensures) c.value_at-value.ensures o (here_head h c.head_at-head.ensures) c.is_from_above.ensures (r ∙ c.read-has.ensures)
     (y ∙ ap (valued c.args.stops.now) c.wide.ensures.0)
-    (⊎_elim (λ w e d. eqb-false (of_z w64 c.read-has.result) (of_z w64 b) w.1.left (ap (of_z w64) (sym r ∙ d ∙ y))) (λ w e d. true≢false (sym e ∙ w.left)) c.else-full.branch)
+    (elim c.else-full.branch [
+      | else-full-via-then-full+else-has-stop w ↦ λ e d. w.if-has-stop.false (ap (of_z w64) (sym r ∙ d ∙ y))
+      | else-full-via-else-full w ↦ λ e d. true≢false (sym e ∙ w.if-full.false)
+    ])
     c.plain_side-side.ensures c.gives_past-past.ensures (c.in-Value.is ∙ ap Value (sym t)) (q ∙ c.no_further.ensures)
 
 pub returns-in-Nothing : goal.returns-in-Nothing
@@ -56,5 +59,8 @@ returns-in-Nothing c = let b : ℤ = get_or c.args.stops.now c.wide.result (pos 
     λ P R θ i h o.
     look_enough h (head_variable h c.head_at-head.ensures c.variable-x.ensures) c.value_at-value.ensures o (here_head h c.head_at-head.ensures) c.is_from_above.ensures (r ∙ c.read-has.ensures)
     (y ∙ ap (valued c.args.stops.now) c.wide.ensures.0)
-    (⊎_elim (λ w e d. eqb-false (of_z w64 c.read-has.result) (of_z w64 b) w.1.left (ap (of_z w64) (sym r ∙ d ∙ y))) (λ w e d. true≢false (sym e ∙ w.left)) c.else-full.branch)
+    (elim c.else-full.branch [
+      | else-full-via-then-full+else-has-stop w ↦ λ e d. w.if-has-stop.false (ap (of_z w64) (sym r ∙ d ∙ y))
+      | else-full-via-else-full w ↦ λ e d. true≢false (sym e ∙ w.if-full.false)
+    ])
     c.plain_side-side.ensures c.gives_past-past.ensures c.in-Nothing.is

@@ -1,7 +1,6 @@
 -- Invariant: of the variables before v those that are founded have their stops.
 use Prim.Native.Nat.{◌-◌}
 use mathlib.Core.Path.{◌≡◌, refl, sym, ap, ◌∙◌}
-use mathlib.Core.Logic.{⊎_elim}
 use mathlib.Core.Bool.{true≢false}
 use native.Mathlib.Omega.{arith}
 use lib.IntN.{ℤ, pos}
@@ -14,6 +13,7 @@ use Rattle.program.specs.Variables.{is_founded}
 use Rattle.program.proofs.Tests.{is_true}
 use Rattle.ascent.proofs.ClimbLaws.{arrived_more}
 use Rattle.ascent.proofs.sweeping.have_arrived.Goals as goal
+use Rattle.ascent.proofs.sweeping.have_arrived.Goals.{else-has-stop-via-then-has-stop+else-is_founded, else-has-stop-via-else-has-stop}
 
 pub loop-v-init : goal.loop-v-init
 loop-v-init c = (omega arith, λ w l. absurd (omega arith))
@@ -27,8 +27,10 @@ loop-v-preserved c = let b : ℤ = get_or c.args.stops.now c.loop-v.v (pos 0) in
     let y : to_z w64 (of_z w64 b) ≡ b = search rules in (
       omega arith,
       arrived_more (variables_at c.args.file.now c.args.n) c.args.stops.now c.args.sides.now c.loop-v.invariant.1 (c.variable-x.ensures c.args.n (omega arith)) c.is_from_above.ensures c.read-has.ensures refl
-          (⊎_elim (λ w t. absurd (true≢false (sym (w.1.ensures ∙ is_true (is_founded c.variable-x.result) t) ∙ w.2.left)))
-          (λ w t. sym r ∙ ap (to_z w64) w.left ∙ y) c.else-has-stop.branch),
+          (elim c.else-has-stop.branch [
+            | else-has-stop-via-then-has-stop+else-is_founded w ↦ λ t. absurd (true≢false (sym (w.is_founded.ensures ∙ is_true (is_founded c.variable-x.result) t) ∙ w.if-is_founded.false))
+            | else-has-stop-via-else-has-stop w ↦ λ t. sym r ∙ ap (to_z w64) w.if-has-stop.false ∙ y
+          ]),
     )
 
 pub returns : goal.returns

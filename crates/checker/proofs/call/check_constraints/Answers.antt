@@ -11,11 +11,16 @@ pub first_unmet_constraint-unmet-requires : goal.first_unmet_constraint-unmet-re
 first_unmet_constraint-unmet-requires c = record { accepted_as = c.requires.accepted_as; start_value = c.requires.start_value; small = small_in c.args.file.now c.args.counts c.requires.accepted_as c.args.values.now c.requires.within }
 
 pub compare-requires : goal.compare-requires
-compare-requires c = record { accepted_as = c.requires.accepted_as; level_past = c.requires.level_past; meets = λ P x. record {
-            ranges = c.requires.within P x;
-            rules = c.requires.rule_met P x;
-            constraints = unmet_none (ConstraintMet P (valued c.args.values.now)) (c.first_unmet_constraint-unmet.ensures P x) c.in-Nothing.is;
-          }; variables_in_bounds = c.requires.variables_in_bounds }
+compare-requires c = record {
+  accepted_as = c.requires.accepted_as;
+  level_past = c.requires.level_past;
+  meets = λ P x. record {
+    ranges = c.requires.within P x;
+    rules = c.requires.rule_met P x;
+    constraints = unmet_none (ConstraintMet P (valued c.args.values.now)) (c.first_unmet_constraint-unmet.ensures P x) c.in-Nothing.is;
+  };
+  variables_in_bounds = c.requires.variables_in_bounds;
+}
 
 pub returns-in-At : goal.returns-in-At
 returns-in-At c = λ P x. constraint_unmet (c.requires.within P x) (c.requires.rule_met P x)

@@ -30,13 +30,13 @@ next_at-at-requires c = let a = reads_accepts c.requires.accepted_as in
 
 pub loop-i-preserved : goal.loop-i-preserved
 loop-i-preserved c = (
-      omega arith,
-      λ P x. let i = c.loop-i.invariant.1 P x in (
-        next_place c.requires.accepted_as x c.loop-i-test.true i.0 c.next_at-at.ensures,
-        constraint_met_at c.requires.accepted_as x c.loop-i-test.true i.0 c.value_at.ensures c.args.assigned.now c.satisfied.ensures
-            c.if-not-satisfied.false i.1,
-      ),
-    )
+  omega arith,
+  λ P x. let i = c.loop-i.invariant.1 P x in (
+    next_place c.requires.accepted_as x c.loop-i-test.true i.0 c.next_at-at.ensures,
+    constraint_met_at c.requires.accepted_as x c.loop-i-test.true i.0 c.value_at.ensures c.args.assigned.now c.satisfied.ensures
+        c.if-not-satisfied.false i.1,
+  ),
+)
 
 pub returns : goal.returns
 returns c = λ P x. constraints_met c.requires.accepted_as x c.loop-i-test.false (valued c.args.assigned.now) (c.loop-i.invariant.1 P x).1

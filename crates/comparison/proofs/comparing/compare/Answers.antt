@@ -19,13 +19,19 @@ returns-then-count-eq0 c = none_short c.args.file.now c.args.counts c.requires.a
     c.args.report.now (has c.short_set-set.result.words) c.short_set-set.ensures (sym c.count.ensures ∙ c.if-count-eq0.true)
 
 pub in_parts-parts-requires : goal.in_parts-parts-requires
-in_parts-parts-requires c = let f = limited c.requires.accepted_as in record { variables_in_bounds = (f.inside, f.few_variables); by_index = short_few c.args.file.now c.args.counts c.requires.accepted_as c.args.assigned.now c.requires.meets c.run.new.model c.run.result c.run.ensures.ends_with
-          c.args.report.now (has c.short_set-set.result.words) c.short_set-set.ensures }
+in_parts-parts-requires c = let f = limited c.requires.accepted_as in record {
+  variables_in_bounds = (f.inside, f.few_variables);
+  by_index = short_few c.args.file.now c.args.counts c.requires.accepted_as c.args.assigned.now c.requires.meets c.run.new.model c.run.result c.run.ensures.ends_with
+      c.args.report.now (has c.short_set-set.result.words) c.short_set-set.ensures;
+}
 
 pub show-requires : goal.show-requires
-show-requires c = record { words_in_bounds = shown_room c.args.file.now c.args.counts c.requires.accepted_as c.args.assigned.now c.requires.meets c.run.new.model c.run.result c.run.ensures.ends_with
-          c.args.report.now (has c.short_set-set.result.words) c.short_set-set.ensures c.in_parts-parts.result c.in_parts-parts.ensures (has c.asked-conditions.result.most.words) (has c.asked-conditions.result.least.words) c.asked-conditions.ensures.v_value c.asked-conditions.ensures.v_value_2 c.requires.variables_in_bounds; small = shown_small c.args.file.now c.args.counts c.requires.accepted_as c.args.assigned.now c.requires.meets c.run.new.model c.run.result c.run.ensures.ends_with
-          c.args.report.now (has c.short_set-set.result.words) c.short_set-set.ensures c.in_parts-parts.result c.in_parts-parts.ensures (has c.asked-conditions.result.most.words) (has c.asked-conditions.result.least.words) c.asked-conditions.ensures.v_value c.asked-conditions.ensures.v_value_2 }
+show-requires c = record {
+  words_in_bounds = shown_room c.args.file.now c.args.counts c.requires.accepted_as c.args.assigned.now c.requires.meets c.run.new.model c.run.result c.run.ensures.ends_with
+      c.args.report.now (has c.short_set-set.result.words) c.short_set-set.ensures c.in_parts-parts.result c.in_parts-parts.ensures (has c.asked-conditions.result.most.words) (has c.asked-conditions.result.least.words) c.asked-conditions.ensures.v_value c.asked-conditions.ensures.v_value_2 c.requires.variables_in_bounds;
+  small = shown_small c.args.file.now c.args.counts c.requires.accepted_as c.args.assigned.now c.requires.meets c.run.new.model c.run.result c.run.ensures.ends_with
+      c.args.report.now (has c.short_set-set.result.words) c.short_set-set.ensures c.in_parts-parts.result c.in_parts-parts.ensures (has c.asked-conditions.result.most.words) (has c.asked-conditions.result.least.words) c.asked-conditions.ensures.v_value c.asked-conditions.ensures.v_value_2;
+}
 
 pub returns : goal.returns
 returns c = some_short c.args.file.now c.args.counts c.requires.accepted_as c.args.assigned.now c.requires.meets c.run.new.model c.run.result c.run.ensures.ends_with

@@ -6,6 +6,6 @@ use Rattle.comparison.proofs.comparing.show.Goals as goal
 
 pub returns : goal.returns
 returns c = record {
-      answer = ap₂ unfounded (ap₂ ◌+◌ c.count-below.ensures c.count-above.ensures) (ap₂ ◌+◌ c.count-most.ensures c.count-least.ensures);
-      bytes = c.write_report.ensures;
-    }
+  answer = ap₂ unfounded (ap₂ ◌+◌ c.count-below.ensures c.count-above.ensures) (ap₂ ◌+◌ c.count-most.ensures c.count-least.ensures);
+  bytes = c.write_report.ensures;
+}

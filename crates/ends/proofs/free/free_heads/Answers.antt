@@ -20,11 +20,11 @@ next_at-at-requires c = place_inside c.requires.accepted_as c.loop-i-test.true c
 
 pub loop-i-preserved : goal.loop-i-preserved
 loop-i-preserved c = (
-      omega arith,
-      c.free_rule.ensures.sides_len_2,
-      place_next c.requires.accepted_as c.loop-i-test.true c.loop-i.invariant.2 c.next_at-at.ensures,
-      λ P x f. c.free_rule.ensures.freed P _ (rule_stands c.requires.accepted_as c.loop-i-test.true c.loop-i.invariant.2 x) c.requires.fits_ranges c.requires.at_stops (c.loop-i.invariant.3 P x f),
-    )
+  omega arith,
+  c.free_rule.ensures.sides_len_2,
+  place_next c.requires.accepted_as c.loop-i-test.true c.loop-i.invariant.2 c.next_at-at.ensures,
+  λ P x f. c.free_rule.ensures.freed P _ (rule_stands c.requires.accepted_as c.loop-i-test.true c.loop-i.invariant.2 x) c.requires.fits_ranges c.requires.at_stops (c.loop-i.invariant.3 P x f),
+)
 
 pub returns : goal.returns
 returns c = record { sides_len_2 = c.loop-i.invariant.1; freed = λ P x f. freed_whole c.requires.accepted_as (omega (arith, c.loop-i-test.false, c.loop-i.invariant.0)) x (c.loop-i.invariant.3 P x f) }

@@ -24,8 +24,11 @@ variable-x-requires c = head_field c.requires.some_rule.here c.head_at-head.ensu
 pub returns : goal.returns
 returns c = let v : ℤ = get_or c.args.stops.now c.wide.result (pos 0) in
     let z : to_z w64 (of_z w64 v) ≡ v = search rules in
-    record { sides_len_2 = c.write.ensures.sides_len; freed = λ P i h t o f.
+    record {
+      sides_len_2 = c.write.ensures.sides_len;
+      freed = λ P i h t o f.
           let e : c.wide.result ≡ head_of P i = c.wide.ensures.0 ∙ here_head h c.head_at-head.ensures in
           freed_raised h f (t P h.accepts) (sym (c.is_undecided.ensures P i h) ∙ c.if-not-is_undecided.false) c.requires.sides_len (here_head h c.head_at-head.ensures)
           (head_variable h c.head_at-head.ensures c.variable-x.ensures) c.is_from_above.ensures
-          (z ∙ ap (λ (x : ℕ). get_or c.args.stops.now x (pos 0)) e ∙ o P h.accepts (head_of P i)) c.write.ensures.sides_after }
+          (z ∙ ap (λ (x : ℕ). get_or c.args.stops.now x (pos 0)) e ∙ o P h.accepts (head_of P i)) c.write.ensures.sides_after;
+    }

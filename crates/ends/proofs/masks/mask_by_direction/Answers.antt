@@ -22,8 +22,7 @@ moved_up-bits-requires c = mask_small c.loop-i.invariant.1 (omega arith)
 
 pub loop-i-preserved : goal.loop-i-preserved
 loop-i-preserved c = let vs = variables_at c.args.file.now c.args.variables in
-    let r = rule_of c.args.value.now in
-    (
+    let r = rule_of c.args.value.now in (
       omega arith,
       mask_before (in_model vs r) _ _ _ (omega arith) (omega arith) c.loop-i.invariant.1 c.way_at-way.ensures.first_is c.moved_up-bits.ensures,
       some_before (loose_at vs (valued c.args.lows.now) (valued c.args.highs.now) r) _ c.loop-i.i c.loop-i.free (omega arith) c.loop-i.invariant.2 c.way_at-way.ensures.loose_is,

@@ -21,10 +21,10 @@ enter-next-requires c = let a = reads_accepts c.requires.accepted_as in
 
 pub loop-i-preserved : goal.loop-i-preserved
 loop-i-preserved c = (
-      omega arith,
-      (length_stays c.loop-i.offsets c.loop-i.i _ c.enter-next.ensures.placed c.loop-i.invariant.1.0, length_stays c.loop-i.masks c.loop-i.i _ c.enter-next.ensures.masked c.loop-i.invariant.1.1),
-      λ P a. entered_more c.requires.accepted_as _ _ _ _ _ _ _ _ _ c.loop-i-test.true (omega (arith, c.requires.rules_in_bounds.0, c.loop-i.invariant.1.0)) (omega (arith, c.requires.rules_in_bounds.1, c.loop-i.invariant.1.1)) c.enter-next.ensures P a (c.loop-i.invariant.2 P a),
-    )
+  omega arith,
+  (length_stays c.loop-i.offsets c.loop-i.i _ c.enter-next.ensures.placed c.loop-i.invariant.1.0, length_stays c.loop-i.masks c.loop-i.i _ c.enter-next.ensures.masked c.loop-i.invariant.1.1),
+  λ P a. entered_more c.requires.accepted_as _ _ _ _ _ _ _ _ _ c.loop-i-test.true (omega (arith, c.requires.rules_in_bounds.0, c.loop-i.invariant.1.0)) (omega (arith, c.requires.rules_in_bounds.1, c.loop-i.invariant.1.1)) c.enter-next.ensures P a (c.loop-i.invariant.2 P a),
+)
 
 pub returns : goal.returns
 returns c = record { offsets_len_unchanged = c.loop-i.invariant.1.0; masks_len_unchanged = c.loop-i.invariant.1.1; offsets_of = places_whole c.requires.accepted_as _ _ c.loop-i-test.false c.loop-i.invariant.2; lent_masks = masks_whole c.requires.accepted_as _ _ c.loop-i-test.false c.loop-i.invariant.2 }

@@ -28,11 +28,11 @@ bounds-buffer-v-in-loop-v c = lt-length-set c.loop-v.buffer (2 * c.loop-v.v) c.h
 
 pub loop-v-preserved : goal.loop-v-preserved
 loop-v-preserved c = let e : to_z w64 (of_z w64 (get_or c.args.values.now c.loop-v.v (pos 0))) ≡ get_or c.args.values.now c.loop-v.v (pos 0) = search rules in (
-      omega arith,
-      length-set (set c.loop-v.buffer (2 * c.loop-v.v) c.high_byte-high.result) (2 * c.loop-v.v + 1) c.low_byte-low.result ∙ length-set c.loop-v.buffer (2 * c.loop-v.v) c.high_byte-high.result ∙ c.loop-v.invariant.1,
-      written_more (valued c.args.values.now) c.args.buffer.now c.loop-v.v (omega arith) c.loop-v.invariant.2
-          (c.high_byte-high.ensures ∙ ap (λ (z : ℤ). of_z w16 z / 256) e) (c.low_byte-low.ensures ∙ ap (λ (z : ℤ). of_z w16 z % 256) e),
-    )
+  omega arith,
+  length-set (set c.loop-v.buffer (2 * c.loop-v.v) c.high_byte-high.result) (2 * c.loop-v.v + 1) c.low_byte-low.result ∙ length-set c.loop-v.buffer (2 * c.loop-v.v) c.high_byte-high.result ∙ c.loop-v.invariant.1,
+  written_more (valued c.args.values.now) c.args.buffer.now c.loop-v.v (omega arith) c.loop-v.invariant.2
+      (c.high_byte-high.ensures ∙ ap (λ (z : ℤ). of_z w16 z / 256) e) (c.low_byte-low.ensures ∙ ap (λ (z : ℤ). of_z w16 z % 256) e),
+)
 
 pub returns : goal.returns
 returns c = written_done _ _ (omega arith) c.loop-v.invariant.2

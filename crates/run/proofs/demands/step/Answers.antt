@@ -24,20 +24,24 @@ look-found-requires c = let k = takes_at (has c.loop-i.waiting) (has c.take_lowe
 
 pub returns-in-More : goal.returns-in-More
 returns-in-More c = let k = takes_at (has c.loop-i.waiting) (has c.take_lowest.new.waiting) c.take_lowest.ensures.takes c.in-At.is in
-    let z : to_z w64 (of_z w64 c.in-More.a) ≡ c.in-More.a = search rules in record { waiting_len_2 = c.take_lowest.ensures.waiting_len; inside = λ j e. c.loop-i.invariant.1 j (dropped_inside k.dropped j e); stepped = λ P R θ p a o.
-            let h = taken_rule k c.requires.ready c.loop-i.invariant.1 p.accepts in
-            rw z (taken_raise k P R θ _ (c.loop-i.invariant.2 P R θ p a o) h
-            (demands_more P R θ _ _ (reckons_demanded p c.args.model.now a _ h (c.look-found.ensures P (p.stands _ h))) c.in-More.is)) }
+    let z : to_z w64 (of_z w64 c.in-More.a) ≡ c.in-More.a = search rules in record {
+      waiting_len_2 = c.take_lowest.ensures.waiting_len;
+      inside = λ j e. c.loop-i.invariant.1 j (dropped_inside k.dropped j e);
+      stepped = λ P R θ p a o.
+          let h = taken_rule k c.requires.ready c.loop-i.invariant.1 p.accepts in
+          rw z (taken_raise k P R θ _ (c.loop-i.invariant.2 P R θ p a o) h
+          (demands_more P R θ _ _ (reckons_demanded p c.args.model.now a _ h (c.look-found.ensures P (p.stands _ h))) c.in-More.is));
+    }
 
 pub loop-i-smaller : goal.loop-i-smaller
 loop-i-smaller c = taken_less (takes_at (has c.loop-i.waiting) (has c.take_lowest.new.waiting) c.take_lowest.ensures.takes c.in-At.is)
 
 pub loop-i-preserved : goal.loop-i-preserved
 loop-i-preserved c = let k = takes_at (has c.loop-i.waiting) (has c.take_lowest.new.waiting) c.take_lowest.ensures.takes c.in-At.is in (
-      c.take_lowest.ensures.waiting_len,
-      λ j e. c.loop-i.invariant.1 j (dropped_inside k.dropped j e),
-      λ P R θ p a o.
-          let h = taken_rule k c.requires.ready c.loop-i.invariant.1 p.accepts in
-          dropped_met k.dropped P R θ _ (c.loop-i.invariant.2 P R θ p a o)
-          (demands_enough P R θ _ _ (reckons_demanded p c.args.model.now a _ h (c.look-found.ensures P (p.stands _ h))) c.in_default-found.is),
-    )
+  c.take_lowest.ensures.waiting_len,
+  λ j e. c.loop-i.invariant.1 j (dropped_inside k.dropped j e),
+  λ P R θ p a o.
+      let h = taken_rule k c.requires.ready c.loop-i.invariant.1 p.accepts in
+      dropped_met k.dropped P R θ _ (c.loop-i.invariant.2 P R θ p a o)
+      (demands_enough P R θ _ _ (reckons_demanded p c.args.model.now a _ h (c.look-found.ensures P (p.stands _ h))) c.in_default-found.is),
+)

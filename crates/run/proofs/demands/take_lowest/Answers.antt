@@ -13,5 +13,8 @@ pub drop_bit-requires : goal.drop_bit-requires
 drop_bit-requires c = omega (arith, c.requires, (next_at_is (has c.args.waiting.now) 0 _ c.next_bit.ensures c.in-At.is).below)
 
 pub returns : goal.returns
-returns c = record { waiting_len = c.drop_bit.ensures.words_len_unchanged ∙ c.requires; takes = lowest_taken c.requires
-          (next_at_is (has c.args.waiting.now) 0 _ c.next_bit.ensures c.in-At.is) c.drop_bit.ensures.by_index }
+returns c = record {
+  waiting_len = c.drop_bit.ensures.words_len_unchanged ∙ c.requires;
+  takes = lowest_taken c.requires
+      (next_at_is (has c.args.waiting.now) 0 _ c.next_bit.ensures c.in-At.is) c.drop_bit.ensures.by_index;
+}

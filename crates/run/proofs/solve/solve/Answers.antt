@@ -32,8 +32,12 @@ raise-requires c = record { model_len = c.loop-i.invariant.1; waiting_len = c.st
 
 pub returns-then-not-raise : goal.returns-then-not-raise
 returns-then-not-raise c = let z : to_z w64 (of_z w64 c.in-Raise.a) ≡ c.in-Raise.a = search rules in
-    record { model_len_2 = c.raise.ensures.model_len_2; waiting_len_2 = c.raise.ensures.waiting_len_2; ends_with = λ P R θ k₀. let k = c.loop-i.invariant.0 P R θ k₀ in no_lift k _ (run_stepped k _ c.step-next.ensures.stepped c.in-Raise.is) c.head_of-head.ensures c.variable-x.ensures z
-            c.raise.new.model c.raise.new.waiting c.raise.result c.raise.ensures.lifted c.if-not-raise.true }
+    record {
+      model_len_2 = c.raise.ensures.model_len_2;
+      waiting_len_2 = c.raise.ensures.waiting_len_2;
+      ends_with = λ P R θ k₀. let k = c.loop-i.invariant.0 P R θ k₀ in no_lift k _ (run_stepped k _ c.step-next.ensures.stepped c.in-Raise.is) c.head_of-head.ensures c.variable-x.ensures z
+          c.raise.new.model c.raise.new.waiting c.raise.result c.raise.ensures.lifted c.if-not-raise.true;
+    }
 
 pub loop-i-smaller : goal.loop-i-smaller
 loop-i-smaller c = let k = c.loop-i.invariant.0 _ _ _ c.requires.some_run.run in
@@ -43,12 +47,11 @@ loop-i-smaller c = let k = c.loop-i.invariant.0 _ _ _ c.requires.some_run.run in
     c.raise.new.model c.raise.new.waiting c.raise.result c.raise.ensures.lifted c.if-not-raise.false c.step-next.ensures.inside c.loop-i.invariant.1
 
 pub loop-i-preserved : goal.loop-i-preserved
-loop-i-preserved c = let z : to_z w64 (of_z w64 c.in-Raise.a) ≡ c.in-Raise.a = search rules in
-    (
-      λ P R θ k₀.
-          let k = c.loop-i.invariant.0 P R θ k₀ in
-          lift_on k _ (run_stepped k _ c.step-next.ensures.stepped c.in-Raise.is) c.head_of-head.ensures c.variable-x.ensures z
-          c.raise.new.model c.raise.new.waiting c.raise.result c.raise.ensures.lifted c.if-not-raise.false c.step-next.ensures.inside c.loop-i.invariant.1,
-      c.raise.ensures.model_len_2,
-      c.raise.ensures.waiting_len_2,
-    )
+loop-i-preserved c = let z : to_z w64 (of_z w64 c.in-Raise.a) ≡ c.in-Raise.a = search rules in (
+  λ P R θ k₀.
+      let k = c.loop-i.invariant.0 P R θ k₀ in
+      lift_on k _ (run_stepped k _ c.step-next.ensures.stepped c.in-Raise.is) c.head_of-head.ensures c.variable-x.ensures z
+      c.raise.new.model c.raise.new.waiting c.raise.result c.raise.ensures.lifted c.if-not-raise.false c.step-next.ensures.inside c.loop-i.invariant.1,
+  c.raise.ensures.model_len_2,
+  c.raise.ensures.waiting_len_2,
+)

@@ -19,8 +19,8 @@ use borrow.Author.Rules.{rules}
 use Rattle.targets.proofs.aims.draw.Goals as goal
 
 module _
-  (x : Variable) (value target stride : ℤ) (target_fits : SFits w64 target) (stride_fits : SFits w64 stride)
-  (asked : (nat_abs value ≤ max_number) × (pos 1 ≤ℤ stride) × (nat_abs stride ≤ max_number) × T (not (not_past x target value))) where
+    (x : Variable) (value target stride : ℤ) (target_fits : SFits w64 target) (stride_fits : SFits w64 stride)
+    (asked : (nat_abs value ≤ max_number) × (pos 1 ≤ℤ stride) × (nat_abs stride ≤ max_number) × T (not (not_past x target value))) where
   -- a stride is its own size
   size : stride ≡ pos (nat_abs stride)
   size = own_size stride asked.1

@@ -16,7 +16,11 @@ returns-then-before-value c = let m = get_or c.args.model.now c.args.v (pos 0) i
 
 pub returns : goal.returns
 returns c = let q : to_z w64 (of_z w64 c.args.value) ≡ c.args.value = search rules in
-    record { model_len_2 = simp length-set c.requires.model_len; waiting_len_2 = c.join_readers.ensures.waiting_len_2; placed_at = inr (
-          λ e. c.if-before-value.false (ap (of_z w64) e),
-          record { model_is = ap (set c.args.model.now c.args.v) q; waiting_is = c.join_readers.ensures.by_index },
-        ) }
+    record {
+      model_len_2 = simp length-set c.requires.model_len;
+      waiting_len_2 = c.join_readers.ensures.waiting_len_2;
+      placed_at = inr (
+        λ e. c.if-before-value.false (ap (of_z w64) e),
+        record { model_is = ap (set c.args.model.now c.args.v) q; waiting_is = c.join_readers.ensures.by_index },
+      );
+    }
