@@ -21,24 +21,24 @@ returns-in-Refused c = let e = ap₂ (λ (n at : ℕ). line (word "refused " ++ 
 
 pub returns-in-Range : goal.returns-in-Range
 unfolding answer_line
-returns-in-Range c = 
+returns-in-Range c =
     let e = answered_alone c.in-Range.is c.args.report.now refl c.put_one.ensures.appends c.put_one.ensures.upper_bound in record { appends = e.0; upper_bound = e.1 }
 
 pub returns-in-Rule : goal.returns-in-Rule
 unfolding answer_line
-returns-in-Rule c = 
+returns-in-Rule c =
     let e = answered_alone c.in-Rule.is c.args.report.now refl c.put_one-in-Rule.ensures.appends c.put_one-in-Rule.ensures.upper_bound in record { appends = e.0; upper_bound = e.1 }
 
 pub returns-in-Constraint : goal.returns-in-Constraint
 unfolding answer_line
-returns-in-Constraint c = 
+returns-in-Constraint c =
     let e = answered_alone c.in-Constraint.is c.args.report.now refl c.put_one-in-Constraint.ensures.appends c.put_one-in-Constraint.ensures.upper_bound in record { appends = e.0; upper_bound = e.1 }
 
 pub returns-in-Unfounded : goal.returns-in-Unfounded
-returns-in-Unfounded c = 
+returns-in-Unfounded c =
     let e = answered c.in-Unfounded.is c.args.report.now (c.put_unfounded.ensures.appends, c.put_unfounded.ensures.upper_bound) in record { appends = e.0; upper_bound = e.1 }
 
 pub returns-in-Stable : goal.returns-in-Stable
 unfolding answer_line
-returns-in-Stable c = 
+returns-in-Stable c =
     let e = answered_alone c.in-Stable.is c.args.report.now refl c.put_word.ensures (omega (arith, c.put_word.ensures.next)) in record { appends = e.0; upper_bound = e.1 }

@@ -21,14 +21,14 @@ enter_rule-requires c = let h = rule_here c.args.file.now c.args.offsets.now c.a
 
 pub loop-i-preserved : goal.loop-i-preserved
 loop-i-preserved c = (
-      omega arith,
-      omega arith,
-      c.enter_rule.ensures.readers_len_unchanged ∙ c.loop-i.invariant.2,
-      λ P x.
-          let i : c.loop-i.i < length P.rules = omega (arith, (counts_of_is c.requires.accepted_as x).rules_are) in
-          readers_more P c.loop-i.i _ _ c.args.masks.now _ _ x i (c.place_in-at.ensures ∙ c.requires.offsets_of P x c.loop-i.i i)
-          c.mask_in-mask.ensures c.value_at.ensures c.enter_rule.ensures.entered (c.loop-i.invariant.3 P x),
-    )
+  omega arith,
+  omega arith,
+  c.enter_rule.ensures.readers_len_unchanged ∙ c.loop-i.invariant.2,
+  λ P x.
+      let i : c.loop-i.i < length P.rules = omega (arith, (counts_of_is c.requires.accepted_as x).rules_are) in
+      readers_more P c.loop-i.i _ _ c.args.masks.now _ _ x i (c.place_in-at.ensures ∙ c.requires.offsets_of P x c.loop-i.i i)
+      c.mask_in-mask.ensures c.value_at.ensures c.enter_rule.ensures.entered (c.loop-i.invariant.3 P x),
+)
 
 pub returns : goal.returns
 returns c = record { readers_len_unchanged = c.loop-i.invariant.2; readers_are = λ P x. readers_all P c.args.masks.now _ (omega (arith, (counts_of_is c.requires.accepted_as x).rules_are)) (c.loop-i.invariant.3 P x) }

@@ -29,13 +29,13 @@ enter-next-requires c = let f = limited c.requires.accepted_as in
 
 pub loop-i-preserved : goal.loop-i-preserved
 loop-i-preserved c = (
-      omega arith,
-      (length_stays c.loop-i.offsets c.loop-i.i _ c.enter-next.ensures.placed c.loop-i.invariant.1.0, length_stays c.loop-i.masks c.loop-i.i _ c.enter-next.ensures.masked c.loop-i.invariant.1.1),
-      λ P a. let e = c.loop-i.invariant.2 P a in
-          let o : c.loop-i.i < length c.loop-i.offsets = omega (arith, c.requires.rules_in_bounds.0, c.loop-i.invariant.1.0) in
-          let m : c.loop-i.i < length c.loop-i.masks = omega (arith, c.requires.rules_in_bounds.1, c.loop-i.invariant.1.1) in
-          (next_place c.requires.accepted_as a _ _ _ _ _ _ _ c.loop-i-test.true e.0 o m c.enter-next.ensures e.1, placed_more c.requires.accepted_as a _ _ _ _ _ _ _ c.loop-i-test.true e.0 o m c.enter-next.ensures e.1),
-    )
+  omega arith,
+  (length_stays c.loop-i.offsets c.loop-i.i _ c.enter-next.ensures.placed c.loop-i.invariant.1.0, length_stays c.loop-i.masks c.loop-i.i _ c.enter-next.ensures.masked c.loop-i.invariant.1.1),
+  λ P a. let e = c.loop-i.invariant.2 P a in
+      let o : c.loop-i.i < length c.loop-i.offsets = omega (arith, c.requires.rules_in_bounds.0, c.loop-i.invariant.1.0) in
+      let m : c.loop-i.i < length c.loop-i.masks = omega (arith, c.requires.rules_in_bounds.1, c.loop-i.invariant.1.1) in
+      (next_place c.requires.accepted_as a _ _ _ _ _ _ _ c.loop-i-test.true e.0 o m c.enter-next.ensures e.1, placed_more c.requires.accepted_as a _ _ _ _ _ _ _ c.loop-i-test.true e.0 o m c.enter-next.ensures e.1),
+)
 
 pub returns : goal.returns
 returns c = let e = last c.loop-i.invariant.0 c.loop-i-test.false in
