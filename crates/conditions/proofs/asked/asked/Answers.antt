@@ -27,11 +27,11 @@ next_at-at-requires c = let a = reads_accepts c.requires in
 
 pub loop-i-preserved : goal.loop-i-preserved
 loop-i-preserved c = (
-      omega arith,
-      λ P x.
-          let e = (c.loop-i.invariant.1 P x).0 in
-          (c.next_at-at.ensures ∙ ap (next_at c.args.file.now) e ∙ sym (next_rule c.args.file.now P _), grown_more _ _ (c.loop-i.invariant.1 P x).1 (rw e at c.ask_field-next.ensures)),
-    )
+  omega arith,
+  λ P x.
+      let e = (c.loop-i.invariant.1 P x).0 in
+      (c.next_at-at.ensures ∙ ap (next_at c.args.file.now) e ∙ sym (next_rule c.args.file.now P _), grown_more _ _ (c.loop-i.invariant.1 P x).1 (rw e at c.ask_field-next.ensures)),
+)
 
 pub returns : goal.returns
 returns c = record { v_value = λ P x v. asked_all c.args.file.now c.args.counts c.requires (has c.args.set.words) asks_most P x v (omega arith) c.empty-none.ensures (c.loop-i.invariant.1 P x).1.most; v_value_2 = λ P x v. asked_all c.args.file.now c.args.counts c.requires (has c.args.set.words) asks_least P x v (omega arith) c.empty-none.ensures (c.loop-i.invariant.1 P x).1.least }
