@@ -56,12 +56,7 @@ fn rounds<W: Write>(out: &mut W, sets: &mut [u64], n: usize) -> io::Result<()>
 }
 
 // The components that the sets of n variables say, written into a part of the room.
-fn components<W: Write>(
-    out: &mut W,
-    sets: &[u64],
-    n: usize,
-    room: &mut [u8],
-) -> io::Result<()>
+fn components<W: Write>(out: &mut W, sets: &[u64], n: usize, room: &mut [u8]) -> io::Result<()>
     requires { (16 + n ≤ length room.old) × (n ≤ 512) }
 {
     let end = GUARD + n;

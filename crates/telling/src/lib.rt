@@ -122,11 +122,7 @@ pub fn read_full<R: Read>(input: &mut R, table: &mut [u8]) -> io::Result<usize>
 }
 
 // Reads the table and answers how many bytes it has; of one that does not fit nothing is taken.
-pub fn taken<R: Read, W: Write>(
-    input: &mut R,
-    out: &mut W,
-    table: &mut [u8],
-) -> io::Result<usize>
+pub fn taken<R: Read, W: Write>(input: &mut R, out: &mut W, table: &mut [u8]) -> io::Result<usize>
     ensures { IfOk result (λ r. Counts r table.new) }
 {
     let n = read_full(input, table)?;

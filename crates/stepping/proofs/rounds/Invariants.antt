@@ -5,4 +5,4 @@ use lib.ListN.{length}
 use Rattle.stepping.proofs.rounds.Given as goal
 
 abbrev pub invariant-loop-k : goal.invariant-loop-k
-invariant-loop-k l = (length l.sets ≡ length l.initial.sets) × (l.end ≤ length l.initial.sets)
+invariant-loop-k g l = (length l.sets ≡ length l.initial.sets) × (l.end ≤ length l.initial.sets)
