@@ -53,10 +53,11 @@ loop-place-smaller c = omega arith
 
 pub loop-place-preserved : goal.loop-place-preserved
 loop-place-preserved c = elim c.if-s-place-ne0.branch [
-    then-s-place-ne0 w ↦ ?
+  | then-s-place-ne0 w ↦ ?
   | else-s-place-ne0 w ↦
-        rw (w.rows-is, w.values-is, w.number-is)
-            (c.loop-place.invariant.0, c.loop-place.invariant.1, marks_leaf c.loop-place.invariant.2 (omega arith) w.if-s-place-ne0.false) ]
+      rw (w.rows-is, w.values-is, w.number-is)
+      (c.loop-place.invariant.0, c.loop-place.invariant.1, marks_leaf c.loop-place.invariant.2 (omega arith) w.if-s-place-ne0.false)
+]
 
 pub returns : goal.returns
 returns c = record { rows_len_2 = c.loop-place.invariant.0; values_len_2 = c.loop-place.invariant.1; grown_by = flat_drawn _ _ _ _ c.root.ensures.writable.1 c.mark_node.ensures.grown_by (marks_done c.loop-place.invariant.2 (omega arith)) }
