@@ -34,13 +34,17 @@ pub slice_bounds-tree-start : goal.slice_bounds-tree-start
 slice_bounds-tree-start c = let l = value_long _ _ (sound _ (c.check_tree.ensures c.requires.so_far.program c.requires.so_far.declared (so_far_sizes c.requires.so_far)) c.in-Fine.is).means in omega arith
 
 pub fill_tree-requires : goal.fill_tree-requires
-fill_tree-requires c = fill_asked c.requires.so_far (sound _ (c.check_tree.ensures c.requires.so_far.program c.requires.so_far.declared (so_far_sizes c.requires.so_far)) c.in-Fine.is) _ (part_rest 1 c.args.value.now)
+fill_tree-requires c =
+    let a = fill_asked c.requires.so_far (sound _ (c.check_tree.ensures c.requires.so_far.program c.requires.so_far.declared (so_far_sizes c.requires.so_far)) c.in-Fine.is) _ (part_rest 1 c.args.value.now) in
+    record { one_tree = a.0; all = a.1.0; tables = a.1.1 }
 
 pub returns-then-not-fill_tree : goal.returns-then-not-fill_tree
 returns-then-not-fill_tree c = λ x. turned_down (fill_refused x (sound _ (c.check_tree.ensures x.program x.declared (so_far_sizes x)) c.in-Fine.is) _ (part_rest 1 c.args.value.now) _ c.fill_tree.ensures.value (ap not c.if-not-fill_tree.true)) refl
 
 pub more-requires : goal.more-requires
-more-requires c = more_asked c.requires.so_far (sound _ (c.check_tree.ensures c.requires.so_far.program c.requires.so_far.declared (so_far_sizes c.requires.so_far)) c.in-Fine.is) _ (part_rest 1 c.args.value.now) c.requires.n_in_bounds.2 c.requires.n_in_bounds.1
+more-requires c =
+    let a = more_asked c.requires.so_far (sound _ (c.check_tree.ensures c.requires.so_far.program c.requires.so_far.declared (so_far_sizes c.requires.so_far)) c.in-Fine.is) _ (part_rest 1 c.args.value.now) c.requires.n_in_bounds.2 c.requires.n_in_bounds.1 in
+    record { variables_le_max_file = a.0; one_tree = a.1 }
 
 pub returns-in-Bad : goal.returns-in-Bad
 returns-in-Bad c = λ x. let e = subst (Checks x.program c.args.value.now c.args.at) c.in-Bad.is (c.check_tree.ensures x.program x.declared (so_far_sizes x)) in
