@@ -53,15 +53,13 @@ loop-place-smaller c = omega arith
 
 pub loop-place-preserved : goal.loop-place-preserved
 loop-place-preserved c = elim c.if-s-place-ne0.branch [
-<<<<<<< HEAD
-  | then-s-place-ne0 w ↦ ?
-=======
-    then-s-place-ne0 w ↦
-        let m = w.mark_node-then-s-place-ne0.ensures in
-        rw (w.rows-is, w.values-is, w.number-is)
-            (m.rows_len_2, m.values_len_2,
-            marks_inner c.loop-place.invariant.2 (omega arith) w.if-s-place-ne0.true (rw w.inner_at.ensures at m.grown_by))
->>>>>>> 0189c3d1e19d8ce3df1f84e55677aec41711ecc0
+  | then-s-place-ne0 w ↦
+      let m = w.mark_node-then-s-place-ne0.ensures in
+      rw (w.rows-is, w.values-is, w.number-is) (
+        m.rows_len_2,
+        m.values_len_2,
+        marks_inner c.loop-place.invariant.2 (omega arith) w.if-s-place-ne0.true (rw w.inner_at.ensures at m.grown_by),
+      )
   | else-s-place-ne0 w ↦
       rw (w.rows-is, w.values-is, w.number-is)
       (c.loop-place.invariant.0, c.loop-place.invariant.1, marks_leaf c.loop-place.invariant.2 (omega arith) w.if-s-place-ne0.false)
