@@ -1,19 +1,24 @@
 -- The root's rule, then one inner node after the other.
 use Prim.Native.Nat.{◌-◌}
 use mathlib.Core.Path.{sym, subst}
-use mathlib.Core.Logic.{⊎_elim}
 use native.Mathlib.Omega.{arith}
 use Rattle.noderules.proofs.Lefts.{left_begun, left_free, left_writable}
 use Rattle.linking.specs.Drawing.{FineRule}
 use Rattle.linking.proofs.TreeMarks.{marks_begun, marks_done, marks_leaf, marks_one, marks_inner, flat_all, flat_drawn}
 use Rattle.linking.proofs.mark_tree.Goals as goal
+use Rattle.linking.proofs.mark_tree.Goals.{then-s-place-ne0, else-s-place-ne0}
 
 pub root-requires : goal.root-requires
 root-requires c = c.requires.one_tree.0
 
 pub mark_node-requires : goal.mark_node-requires
 mark_node-requires c = let f = flat_all _ _ _ (FineRule c.args.records.now c.args.variables) c.requires.one_tree.1 in
-    ((c.root.ensures.writable.0, subst (FineRule c.args.records.now c.args.variables) (sym c.root.ensures.writable.1) f.0), c.requires.1)
+    record {
+      writable = (c.root.ensures.writable.0, subst (FineRule c.args.records.now c.args.variables) (sym c.root.ensures.writable.1) f.0);
+      recorded = c.requires.recorded;
+      rows_len = c.requires.rows_len;
+      values_len = c.requires.values_len;
+    }
 
 pub loop-place-init : goal.loop-place-init
 loop-place-init c = (c.mark_node.ensures.rows_len_2, c.mark_node.ensures.values_len_2, marks_begun _ _ (left_begun c.requires.one_tree.0.0 _ c.requires.one_tree.0.1))
@@ -30,7 +35,12 @@ inner_at-requires c = (omega arith, left_free c.loop-place.invariant.2.left (ome
 pub mark_node-requires-then-s-place-ne0 : goal.mark_node-requires-then-s-place-ne0
 mark_node-requires-then-s-place-ne0 c = let p = FineRule c.args.records.now c.args.variables in
     let f = marks_one c.loop-place.invariant.2 (omega arith) c.if-s-place-ne0.true p (flat_all _ _ _ p c.requires.one_tree.1).1 in
-    rw c.inner_at.ensures ((left_writable c.loop-place.invariant.2.left (omega arith) c.if-s-place-ne0.true, f), (c.requires.recorded, (c.loop-place.invariant.0, c.loop-place.invariant.1)))
+    record {
+      writable = rw c.inner_at.ensures (left_writable c.loop-place.invariant.2.left (omega arith) c.if-s-place-ne0.true, f);
+      recorded = c.requires.recorded;
+      rows_len = c.loop-place.invariant.0;
+      values_len = c.loop-place.invariant.1;
+    }
 
 pub overflow_add-number : goal.overflow_add-number
 overflow_add-number c = omega (arith, left_free c.loop-place.invariant.2.left (omega arith) c.if-s-place-ne0.true)
@@ -42,10 +52,12 @@ pub loop-place-smaller : goal.loop-place-smaller
 loop-place-smaller c = omega arith
 
 pub loop-place-preserved : goal.loop-place-preserved
-loop-place-preserved c = ⊎_elim
-    (λ w. rw (w.5, w.6, w.7) (w.4.ensures.0, w.4.ensures.1.0, marks_inner c.loop-place.invariant.2 (omega arith) w.0.taken (rw w.3.ensures at w.4.ensures.1.1)))
-    (λ w. rw (w.1, w.2, w.3) (c.loop-place.invariant.0, c.loop-place.invariant.1, marks_leaf c.loop-place.invariant.2 (omega arith) w.0.left))
-    c.if-s-place-ne0.branch
+loop-place-preserved c = elim c.if-s-place-ne0.branch [
+  | then-s-place-ne0 w ↦ ?
+  | else-s-place-ne0 w ↦
+      rw (w.rows-is, w.values-is, w.number-is)
+      (c.loop-place.invariant.0, c.loop-place.invariant.1, marks_leaf c.loop-place.invariant.2 (omega arith) w.if-s-place-ne0.false)
+]
 
 pub returns : goal.returns
 returns c = record { rows_len_2 = c.loop-place.invariant.0; values_len_2 = c.loop-place.invariant.1; grown_by = flat_drawn _ _ _ _ c.root.ensures.writable.1 c.mark_node.ensures.grown_by (marks_done c.loop-place.invariant.2 (omega arith)) }

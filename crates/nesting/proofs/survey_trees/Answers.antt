@@ -3,7 +3,7 @@ use Prim.Native.Nat.{◌-◌}
 use mathlib.Core.Path.{sym, subst₂, ◌∙◌}
 use native.Mathlib.Omega.{arith}
 use lib.Seq.{length-take-le}
-use Rattle.fields.proofs.ScanLaws.{Stands, field_ended, field_cut, field_stands, not_whole}
+use Rattle.fields.proofs.ScanLaws.{field_ended, field_cut, field_stands, not_whole}
 use Rattle.nested.specs.NestedReading.{NestedRefuses}
 use Rattle.nesting.specs.Surveying.{passed, refused}
 use Rattle.nesting.proofs.Surveys.{plain_inside, reach_start, stretch_value, stretch-length, so_far}
@@ -20,16 +20,14 @@ pub returns-in-End : goal.returns-in-End
 returns-in-End c = passed (survey_ended c.loop-tag.invariant (field_ended _ _ (sym c.in-End.is ∙ c.field-field.ensures)))
 
 pub returns-in_default-field : goal.returns-in_default-field
-returns-in_default-field c = let e = field_cut _ _ (sym (not_whole _ c.in_default.keys2 c.in_default-field.keys2) ∙ c.field-field.ensures) in
+returns-in_default-field c = let e = field_cut _ _ (sym (not_whole _ c.in_default.not-End c.in_default-field.not-Whole) ∙ c.field-field.ensures) in
     refused (survey_cut c.loop-tag.invariant e.0 e.1)
 
 pub returns-then-tag-ne-TREE : goal.returns-then-tag-ne-TREE
-returns-then-tag-ne-TREE c = refused (subst₂ (NestedRefuses c.args.file.now) (sym c.stray.ensures.0) (sym c.stray.ensures.1) (survey_stray c.loop-tag.invariant ((let it : Stands c.args.file.now c.loop-tag.cursor.at
-    c.in-Whole.tag c.in-Whole.start c.in-Whole.len c.in-Whole.next.at = field_stands _ _ _ _ _ _ (sym c.in-Whole.is ∙ c.field-field.ensures) in it)) (λ e. omega arith)))
+returns-then-tag-ne-TREE c = refused (subst₂ (NestedRefuses c.args.file.now) (sym c.stray.ensures.0) (sym c.stray.ensures.1) (survey_stray c.loop-tag.invariant (field_stands _ _ _ _ _ _ (sym c.in-Whole.is ∙ c.field-field.ensures)) (λ e. omega arith)))
 
 pub overflow_add-start : goal.overflow_add-start
-overflow_add-start c = let w = (let it : Stands c.args.file.now c.loop-tag.cursor.at
-    c.in-Whole.tag c.in-Whole.start c.in-Whole.len c.in-Whole.next.at = field_stands _ _ _ _ _ _ (sym c.in-Whole.is ∙ c.field-field.ensures) in it) in omega arith
+overflow_add-start c = let w = field_stands _ _ _ _ _ _ (sym c.in-Whole.is ∙ c.field-field.ensures) in omega arith
 
 pub slice_bounds-take_in-count : goal.slice_bounds-take_in-count
 slice_bounds-take_in-count c = omega arith
@@ -38,23 +36,20 @@ pub slice_bounds-take_in-start : goal.slice_bounds-take_in-start
 slice_bounds-take_in-start c = omega arith
 
 pub slice_bounds-take_in-end : goal.slice_bounds-take_in-end
-slice_bounds-take_in-end c = let w = (let it : Stands c.args.file.now c.loop-tag.cursor.at
-    c.in-Whole.tag c.in-Whole.start c.in-Whole.len c.in-Whole.next.at = field_stands _ _ _ _ _ _ (sym c.in-Whole.is ∙ c.field-field.ensures) in it) in omega arith
+slice_bounds-take_in-end c = let w = field_stands _ _ _ _ _ _ (sym c.in-Whole.is ∙ c.field-field.ensures) in omega arith
 
 pub take_in-requires : goal.take_in-requires
-take_in-requires c = let w = (let it : Stands c.args.file.now c.loop-tag.cursor.at
-    c.in-Whole.tag c.in-Whole.start c.in-Whole.len c.in-Whole.next.at = field_stands _ _ _ _ _ _ (sym c.in-Whole.is ∙ c.field-field.ensures) in it) in
+take_in-requires c = let w = field_stands _ _ _ _ _ _ (sym c.in-Whole.is ∙ c.field-field.ensures) in
     let v = stretch-length w in
     record { n_in_bounds = (plain_inside c.requires.plain_counted, omega (arith, v, w.fits, w.len_is, c.loop-tag.invariant.passed.short), omega (arith, c.loop-tag.invariant.bounded, c.loop-tag.invariant.inside, c.loop-tag.invariant.passed.short)); so_far = so_far c.loop-tag.invariant }
 
 pub returns-in-Refused : goal.returns-in-Refused
-returns-in-Refused c = let w = stands (c) in
+returns-in-Refused c = let w = field_stands _ _ _ _ _ _ (sym c.in-Whole.is ∙ c.field-field.ensures) in
     refused (survey_refused c.loop-tag.invariant w (omega arith) (stretch_value w) (c.take_in.ensures (so_far c.loop-tag.invariant)) c.in-Refused.is)
 
 pub loop-tag-smaller : goal.loop-tag-smaller
-loop-tag-smaller c = let w = (let it : Stands c.args.file.now c.loop-tag.cursor.at
-    c.in-Whole.tag c.in-Whole.start c.in-Whole.len c.in-Whole.next.at = field_stands _ _ _ _ _ _ (sym c.in-Whole.is ∙ c.field-field.ensures) in it) in omega (arith, w.more, w.next_is)
+loop-tag-smaller c = let w = field_stands _ _ _ _ _ _ (sym c.in-Whole.is ∙ c.field-field.ensures) in omega (arith, w.more, w.next_is)
 
 pub loop-tag-preserved : goal.loop-tag-preserved
-loop-tag-preserved c = let w = stands (c) in
+loop-tag-preserved c = let w = field_stands _ _ _ _ _ _ (sym c.in-Whole.is ∙ c.field-field.ensures) in
     survey_more c.loop-tag.invariant w (omega arith) (stretch_value w) (c.take_in.ensures (so_far c.loop-tag.invariant)) c.in-Whole-take_in.is

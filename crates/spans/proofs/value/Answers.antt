@@ -1,5 +1,8 @@
 use Prim.Native.Nat.{ℕ}
-use mathlib.Core.Path.{◌≡◌}
+use mathlib.Core.Path.{◌≡◌, ◌∙◌}
+use mir.Syntax.{w64}
+use mir.Val.{to_z, of_z}
+use borrow.Author.Rules.{rules}
 use native.Mathlib.Omega.{arith}
 use Rattle.noderules.proofs.Putting.{puts_length}
 use Rattle.noderules.proofs.Rules.{node_size}
@@ -11,14 +14,15 @@ slice_bounds-gives-end c = omega (arith, c.put_node-end.ensures.ends, puts_lengt
 
 pub gives-requires : goal.gives-requires
 gives-requires c = record {
-    evaluable = value_evaluable _ _ c.requires.writable.0 c.requires.writable.1 c.requires.writable.2 c.requires.writable.3 c.put_node-end.ensures;
-    rule_header_in_bounds = value_headed _ _ c.requires.writable.0 c.requires.writable.1 c.requires.writable.2 c.requires.writable.3 c.put_node-end.ensures;
-    small = (c.requires.small, c.requires.small);
+  evaluable = value_evaluable _ _ c.requires.writable.0 c.requires.writable.1 c.requires.writable.2 c.requires.writable.3 c.put_node-end.ensures;
+  rule_header_in_bounds = value_headed _ _ c.requires.writable.0 c.requires.writable.1 c.requires.writable.2 c.requires.writable.3 c.put_node-end.ensures;
+  small = (c.requires.small, c.requires.small);
 }
 
 pub returns-in-Value : goal.returns-in-Value
 returns-in-Value c = let v = value_given _ _ c.requires.writable.0 c.requires.writable.1 c.requires.writable.2 c.requires.writable.3 c.put_node-end.ensures c.args.table.now c.gives.ensures in
-    cc (c.in-Value.is, v)
+    let z : to_z w64 (of_z w64 c.in-Value.a) ≡ c.in-Value.a = search rules in
+    z ∙ cc (c.in-Value.is, v)
 
 pub returns-in-Nothing : goal.returns-in-Nothing
 returns-in-Nothing c = let v = value_given _ _ c.requires.writable.0 c.requires.writable.1 c.requires.writable.2 c.requires.writable.3 c.put_node-end.ensures c.args.table.now c.gives.ensures in

@@ -23,13 +23,13 @@ first_outside-outside-requires c = let f = limited c.requires.accepted_as in
 pub solve-requires : goal.solve-requires
 solve-requires c = let l = loaded_whole c.args.assignment.now c.args.counts.variables c.requires.assignment_len.0 c.load.ensures.filled (zeros max_variables) in
     let o = subst (λ (q : Outside).
-    OutsideIs (variables_at c.args.file.now c.args.counts.variables) (valued c.load.new.values.0) c.args.counts.variables q)
+    OutsideIs (variables_at c.args.file.now c.args.counts.variables) (valued c.load.new.values) c.args.counts.variables q)
     c.in-Nowhere.is c.first_outside-outside.ensures in
     record { accepted_as = c.requires.accepted_as; assignment_len = (c.requires.assignment_len.0, c.requires.assignment_len.1); by_index = l; all_inside = right_range c.args.file.now c.args.counts c.requires.accepted_as c.args.assignment.now _ (one_valuation _ _ l) o }
 
 pub returns-in-At : goal.returns-in-At
 returns-in-At c = let l = loaded_whole c.args.assignment.now c.args.counts.variables c.requires.assignment_len.0 c.load.ensures.filled (zeros max_variables) in
     let o = subst (λ (q : Outside).
-    OutsideIs (variables_at c.args.file.now c.args.counts.variables) (valued c.load.new.values.0) c.args.counts.variables q)
+    OutsideIs (variables_at c.args.file.now c.args.counts.variables) (valued c.load.new.values) c.args.counts.variables q)
     c.in-At.is c.first_outside-outside.ensures in
     wrong_range c.args.file.now c.args.counts c.requires.accepted_as c.args.assignment.now c.args.buffer.now c.requires.assignment_len.0 c.requires.assignment_len.1 _ _ (one_valuation _ _ l) o
