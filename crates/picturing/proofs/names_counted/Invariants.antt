@@ -1,6 +1,6 @@
 -- Each of the bytes passed adds 255 at most, and 1 at most to the count.
 use mathlib.Core.Path.{◌≡◌}
-use Prim.Native.Nat.{◌-◌, ◌*◌, ◌≤◌}
+use Prim.Native.Nat.{◌*◌, ◌≤◌}
 use lib.ListN.{length}
 use Rattle.picturing.proofs.names_counted.Given as goal
 

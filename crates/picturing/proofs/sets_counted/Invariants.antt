@@ -1,6 +1,6 @@
 -- Each of the words passed adds less than 2^32 elements, whose sum is 16,320 at most.
 use mathlib.Core.Path.{◌≡◌}
-use Prim.Native.Nat.{◌-◌, ◌*◌, ◌≤◌}
+use Prim.Native.Nat.{◌*◌, ◌≤◌}
 use lib.ListN.{length}
 use Rattle.picturing.proofs.sets_counted.Given as goal
 

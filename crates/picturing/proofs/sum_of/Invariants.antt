@@ -1,5 +1,5 @@
 -- Each of the elements passed adds 255 at most.
-use Prim.Native.Nat.{◌-◌, ◌*◌, ◌≤◌}
+use Prim.Native.Nat.{◌*◌, ◌≤◌}
 use Rattle.picturing.proofs.sum_of.Given as goal
 
 abbrev pub invariant-loop-y : goal.invariant-loop-y

@@ -1,6 +1,6 @@
 -- A step keeps the length.
 use mathlib.Core.Path.{◌≡◌}
-use Prim.Native.Nat.{◌-◌, ◌≤◌}
+use Prim.Native.Nat.{◌≤◌}
 use lib.ListN.{length}
 use Rattle.stepping.proofs.rounds.Given as goal
 
