@@ -46,9 +46,12 @@ put-old-requires c = let k : Bytes c.args.file.now = λ i. omega (arith, c.type_
     )
 
 pub put_trees-all-requires : goal.put_trees-all-requires
-put_trees-all-requires c = let k : Bytes c.args.file.now = λ i. omega (arith, c.type_inv.file i) in record { settled = c.requires.sized.settled; trees_fit = trees_fit c.requires.sized k _ _
-          (omega (arith, c.put-old.ensures.0, c.put-added.ensures.0, ap length c.requires.sized.settled.records_are, ap length (old_rules c.requires.sized k _ c.rules_end-rules.ensures)))
-          (omega (arith, c.requires.bytes_in_bounds, c.buffer-1.given, c.buffer-2-1.given)) }
+put_trees-all-requires c = let k : Bytes c.args.file.now = λ i. omega (arith, c.type_inv.file i) in record {
+  settled = c.requires.sized.settled;
+  trees_fit = trees_fit c.requires.sized k _ _
+      (omega (arith, c.put-old.ensures.0, c.put-added.ensures.0, ap length c.requires.sized.settled.records_are, ap length (old_rules c.requires.sized k _ c.rules_end-rules.ensures)))
+      (omega (arith, c.requires.bytes_in_bounds, c.buffer-1.given, c.buffer-2-1.given));
+}
 
 pub slice_bounds-put-count-2 : goal.slice_bounds-put-count-2
 slice_bounds-put-count-2 c = let i = ends_inside c.requires.sized (λ i. omega (arith, c.type_inv.file i)) _ c.rules_end-rules.ensures in omega (arith, i.1)

@@ -30,11 +30,14 @@ returns-then-is_idle c = let r = rule_at c.args.s.now c.args.node in
 
 pub mark_operands-requires : goal.mark_operands-requires
 mark_operands-requires c = let r = rule_at c.args.s.now c.args.node in
-    let v = value_put r c.put_node-end.ensures in record { standing = (
+    let v = value_put r c.put_node-end.ensures in record {
+      standing = (
         (ready c.requires.recorded r c.requires.writable.1 v).standing,
         node_value_lem _ _ (operands_in c.args.node.next c.args.node.n (drop c.args.node.at c.args.s.now)) c.requires.writable.1
             (ap rule_of v ∙ value_means c.requires.recorded r c.requires.writable.1),
-      ); rows_len = c.requires.rows_len }
+      );
+      rows_len = c.requires.rows_len;
+    }
 
 pub returns : goal.returns
 returns c = let r = rule_at c.args.s.now c.args.node in

@@ -53,14 +53,17 @@ loop-place-smaller c = omega arith
 
 pub loop-place-preserved : goal.loop-place-preserved
 loop-place-preserved c = elim c.if-s-place-ne0.branch [
-    then-s-place-ne0 w ↦
-        let m = w.mark_node-then-s-place-ne0.ensures in
-        rw (w.rows-is, w.values-is, w.number-is)
-            (m.rows_len_2, m.values_len_2,
-            marks_inner c.loop-place.invariant.2 (omega arith) w.if-s-place-ne0.true (rw w.inner_at.ensures at m.grown_by))
+  | then-s-place-ne0 w ↦
+      let m = w.mark_node-then-s-place-ne0.ensures in
+      rw (w.rows-is, w.values-is, w.number-is) (
+        m.rows_len_2,
+        m.values_len_2,
+        marks_inner c.loop-place.invariant.2 (omega arith) w.if-s-place-ne0.true (rw w.inner_at.ensures at m.grown_by),
+      )
   | else-s-place-ne0 w ↦
-        rw (w.rows-is, w.values-is, w.number-is)
-            (c.loop-place.invariant.0, c.loop-place.invariant.1, marks_leaf c.loop-place.invariant.2 (omega arith) w.if-s-place-ne0.false) ]
+      rw (w.rows-is, w.values-is, w.number-is)
+      (c.loop-place.invariant.0, c.loop-place.invariant.1, marks_leaf c.loop-place.invariant.2 (omega arith) w.if-s-place-ne0.false)
+]
 
 pub returns : goal.returns
 returns c = record { rows_len_2 = c.loop-place.invariant.0; values_len_2 = c.loop-place.invariant.1; grown_by = flat_drawn _ _ _ _ c.root.ensures.writable.1 c.mark_node.ensures.grown_by (marks_done c.loop-place.invariant.2 (omega arith)) }

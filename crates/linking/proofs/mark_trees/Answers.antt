@@ -24,10 +24,10 @@ bounds-value-0 c = omega (arith, seen_long c.loop-at.invariant.2.seen (omega ari
 
 pub mark_tree-requires : goal.mark_tree-requires
 mark_tree-requires c = record {
-    one_tree = rw (part_rest 1 c.value_at-value.result.now) (seen_tree c.loop-at.invariant.2.seen (omega arith) c.value_at-value.ensures);
-    recorded = recorded c.requires.settled;
-    rows_len = c.loop-at.invariant.0;
-    values_len = c.loop-at.invariant.1;
+  one_tree = rw (part_rest 1 c.value_at-value.result.now) (seen_tree c.loop-at.invariant.2.seen (omega arith) c.value_at-value.ensures);
+  recorded = recorded c.requires.settled;
+  rows_len = c.loop-at.invariant.0;
+  values_len = c.loop-at.invariant.1;
 }
 
 pub added_by-next-requires : goal.added_by-next-requires

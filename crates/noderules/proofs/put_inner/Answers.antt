@@ -31,10 +31,11 @@ loop-place-smaller c = omega arith
 
 pub loop-place-preserved : goal.loop-place-preserved
 loop-place-preserved c = elim c.if-s-place-ne0.branch [
-    then-s-place-ne0 w ↦
-        inner_same (inner_more c.loop-place.invariant (omega arith) w.if-s-place-ne0.true (rw w.inner_at.ensures at w.put_node-end.ensures))
-            w.out-is w.number-is w.end-is
-  | else-s-place-ne0 w ↦ inner_same (inner_leaf c.loop-place.invariant (omega arith) w.if-s-place-ne0.false) w.out-is w.number-is w.end-is ]
+  | then-s-place-ne0 w ↦
+      inner_same (inner_more c.loop-place.invariant (omega arith) w.if-s-place-ne0.true (rw w.inner_at.ensures at w.put_node-end.ensures))
+      w.out-is w.number-is w.end-is
+  | else-s-place-ne0 w ↦ inner_same (inner_leaf c.loop-place.invariant (omega arith) w.if-s-place-ne0.false) w.out-is w.number-is w.end-is
+]
 
 pub shape_of-out : goal.shape_of-out
 shape_of-out c = inner_length c.loop-place.invariant

@@ -20,7 +20,7 @@ returns-then-is_number_beyond c =
     let x : to_z w64 (of_z w64 c.value-low.result) ≡ c.value-low.result = search rules in
     let y : to_z w64 (of_z w64 c.value-high.result) ≡ c.value-high.result = search rules in
     let e = ap₂ ◌||◌ (c.is_number_beyond.ensures ∙ ap (beyond max_number) (x ∙ c.value-low.ensures))
-        (c.is_number_beyond-2.ensures ∙ ap (beyond max_number) (y ∙ c.value-high.ensures)) in
+    (c.is_number_beyond-2.ensures ∙ ap (beyond max_number) (y ∙ c.value-high.ensures)) in
     record { far = sym e ∙ c.if-is_number_beyond.true; lows_kept = refl; highs_kept = refl; records_kept = refl }
 
 pub put_record-requires : goal.put_record-requires
@@ -28,7 +28,7 @@ put_record-requires c =
     let x : to_z w64 (of_z w64 c.value-low.result) ≡ c.value-low.result = search rules in
     let y : to_z w64 (of_z w64 c.value-high.result) ≡ c.value-high.result = search rules in
     let e = ap₂ ◌||◌ (c.is_number_beyond.ensures ∙ ap (beyond max_number) (x ∙ c.value-low.ensures))
-        (c.is_number_beyond-2.ensures ∙ ap (beyond max_number) (y ∙ c.value-high.ensures)) in
+    (c.is_number_beyond-2.ensures ∙ ap (beyond max_number) (y ∙ c.value-high.ensures)) in
     let near = neither _ _ (sym e ∙ c.if-is_number_beyond.false) in
     record {
       records_len = (c.requires.tables.1, c.wide-v.ensures.1);
@@ -40,7 +40,7 @@ returns c =
     let x : to_z w64 (of_z w64 c.value-low.result) ≡ c.value-low.result = search rules in
     let y : to_z w64 (of_z w64 c.value-high.result) ≡ c.value-high.result = search rules in
     let e = ap₂ ◌||◌ (c.is_number_beyond.ensures ∙ ap (beyond max_number) (x ∙ c.value-low.ensures))
-        (c.is_number_beyond-2.ensures ∙ ap (beyond max_number) (y ∙ c.value-high.ensures)) in
+    (c.is_number_beyond-2.ensures ∙ ap (beyond max_number) (y ∙ c.value-high.ensures)) in
     let low = x ∙ c.value-low.ensures in
     let high = y ∙ c.value-high.ensures in
     record {

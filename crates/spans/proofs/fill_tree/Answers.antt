@@ -55,14 +55,14 @@ pub shape_of-records-then-not-fill_node : goal.shape_of-records-then-not-fill_no
 shape_of-records-then-not-fill_node c =
     let k = filling_apart c.loop-at.invariant (omega arith) c.if-s-at-ne0.true in
     let x = filling_stops (c.loop-at.at - 2) (omega arith) (c.loop-at.number - 1) c.if-s-at-ne0.true k c.requires.one_tree.0 c.requires.one_tree.1 c.requires.all
-        c.inner_at.ensures _ c.fill_node.result c.fill_node.ensures (ap not c.if-not-fill_node.true) in
+    c.inner_at.ensures _ c.fill_node.result c.fill_node.ensures (ap not c.if-not-fill_node.true) in
     x.1.1 ∙ sym c.requires.tables.1
 
 pub returns-then-not-fill_node : goal.returns-then-not-fill_node
 returns-then-not-fill_node c =
     let k = filling_apart c.loop-at.invariant (omega arith) c.if-s-at-ne0.true in
     let x = filling_stops (c.loop-at.at - 2) (omega arith) (c.loop-at.number - 1) c.if-s-at-ne0.true k c.requires.one_tree.0 c.requires.one_tree.1 c.requires.all
-        c.inner_at.ensures _ c.fill_node.result c.fill_node.ensures (ap not c.if-not-fill_node.true) in
+    c.inner_at.ensures _ c.fill_node.result c.fill_node.ensures (ap not c.if-not-fill_node.true) in
     record { value = x.0; tables_2 = x.1; tabled = λ vs e t z. let y : ◌≡◌ {A = ℕ} 0 1 = cc in absurd (omega arith) }
 
 pub loop-at-smaller-else-not-fill_node : goal.loop-at-smaller-else-not-fill_node

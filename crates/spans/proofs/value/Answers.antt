@@ -14,9 +14,9 @@ slice_bounds-gives-end c = omega (arith, c.put_node-end.ensures.ends, puts_lengt
 
 pub gives-requires : goal.gives-requires
 gives-requires c = record {
-    evaluable = value_evaluable _ _ c.requires.writable.0 c.requires.writable.1 c.requires.writable.2 c.requires.writable.3 c.put_node-end.ensures;
-    rule_header_in_bounds = value_headed _ _ c.requires.writable.0 c.requires.writable.1 c.requires.writable.2 c.requires.writable.3 c.put_node-end.ensures;
-    small = (c.requires.small, c.requires.small);
+  evaluable = value_evaluable _ _ c.requires.writable.0 c.requires.writable.1 c.requires.writable.2 c.requires.writable.3 c.put_node-end.ensures;
+  rule_header_in_bounds = value_headed _ _ c.requires.writable.0 c.requires.writable.1 c.requires.writable.2 c.requires.writable.3 c.put_node-end.ensures;
+  small = (c.requires.small, c.requires.small);
 }
 
 pub returns-in-Value : goal.returns-in-Value

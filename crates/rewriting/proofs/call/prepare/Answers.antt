@@ -9,9 +9,9 @@ use Rattle.rewriting.proofs.call.prepare.Goals as goal
 
 pub order_fields-fields-requires : goal.order_fields-fields-requires
 order_fields-fields-requires c = let l = limited c.requires.accepted_as in record {
-      accepted_as = c.requires.accepted_as;
-      text_value = (copied c.args.file.now c.args.text.now c.put.new.buffer c.requires.text_len.0 c.put.ensures.1, omega (arith, l.few_rules, l.few_constraints));
-    }
+  accepted_as = c.requires.accepted_as;
+  text_value = (copied c.args.file.now c.args.text.now c.put.new.buffer c.requires.text_len.0 c.put.ensures.1, omega (arith, l.few_rules, l.few_constraints));
+}
 
 pub slice_bounds-sort-end : goal.slice_bounds-sort-end
 slice_bounds-sort-end c = let k = fields_few c.requires.accepted_as c.order_fields-fields.ensures.ordered_file in
@@ -39,7 +39,10 @@ sort-left-requires c = let k = fields_few c.requires.accepted_as c.order_fields-
 pub returns : goal.returns
 returns c = let k = fields_few c.requires.accepted_as c.order_fields-fields.ensures.ordered_file in
     let y = reads_accepts c.requires.accepted_as in
-    let a = length-take-le c.order_fields-fields.result c.order_fields-fields.new.places (omega (arith, c.order_fields-fields.ensures.places_len_unchanged)) in record { text_len_2 = (c.order_fields-fields.ensures.ordered_file y.meant y.accepts).length_is; prepared = λ P x. prepared x (c.order_fields-fields.ensures.ordered_file P x) (omega (arith, c.order_fields-fields.ensures.places_len_unchanged))
+    let a = length-take-le c.order_fields-fields.result c.order_fields-fields.new.places (omega (arith, c.order_fields-fields.ensures.places_len_unchanged)) in record {
+      text_len_2 = (c.order_fields-fields.ensures.ordered_file y.meant y.accepts).length_is;
+      prepared = λ P x. prepared x (c.order_fields-fields.ensures.ordered_file P x) (omega (arith, c.order_fields-fields.ensures.places_len_unchanged))
           (λ i. search rules) c.sort-left.new.places
           c.sort-left.result (omega (arith, c.sort-left.ensures.places_len_unchanged.0))
-          (omega (arith, c.sort-left.ensures.places_len_unchanged.2)) c.sort-left.ensures.sorts }
+          (omega (arith, c.sort-left.ensures.places_len_unchanged.2)) c.sort-left.ensures.sorts;
+    }
