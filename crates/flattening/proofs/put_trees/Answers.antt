@@ -23,8 +23,8 @@ bounds-value-0 c = omega (arith, seen_long c.loop-place.invariant.seen (omega ar
 
 pub put_tree-end-requires : goal.put_tree-end-requires
 put_tree-end-requires c = record {
-    one_tree = rw (part_rest 1 c.value_at-value.result.now) (seen_tree c.loop-place.invariant.seen (omega arith) c.value_at-value.ensures).0;
-    s_in_bounds = rw (part_rest 1 c.value_at-value.result.now) (put_room c.loop-place.invariant (omega arith) c.value_at-value.ensures);
+  one_tree = rw (part_rest 1 c.value_at-value.result.now) (seen_tree c.loop-place.invariant.seen (omega arith) c.value_at-value.ensures).0;
+  s_in_bounds = rw (part_rest 1 c.value_at-value.result.now) (put_room c.loop-place.invariant (omega arith) c.value_at-value.ensures);
 }
 
 pub added_by-next-requires : goal.added_by-next-requires
