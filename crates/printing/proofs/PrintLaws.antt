@@ -11,7 +11,7 @@ use lib.Seq.{take_all, take_at}
 use Rattle.program.specs.Program.{Program, variable_in}
 use Rattle.program.specs.Reading.{Accepts}
 use Rattle.meaning.specs.Stable.{assigned}
-use Rattle.verdict.specs.Checks.{Answer, refusal, unfounded, outside, rule_unmet, constraint_unmet, some_shown, is_stable, Checks, turned_down, judged}
+use Rattle.verdict.specs.Checks.{Answer, refusal, unfounded, outside, rule_unmet, constraint_unmet, some_shown, is_stable, Judged, Checks, turned_down, judged}
 use Rattle.verdict.specs.Demands.{variable_at, mark_at, number_at, Shows, Demands}
 use Rattle.verdict.proofs.Demanded.{checks_demands}
 use Rattle.verdict.proofs.Determined.{checks_unique}
@@ -31,13 +31,17 @@ use Rattle.entries.proofs.TextLaws.{most_line, least_line, at_most_line, at_leas
 shown_by : {f a b : List ℕ} {n k : ℕ} {r : List ℕ} → Checks f a b (unfounded n k) r → (P : Program) × Shows P (assigned a) r n k
 shown_by {a = a} (judged d j) = (_, (checks_demands {a = a} (judged d j)).shows _ d.accepts _ _ refl)
 
+judged_fit : {s a b : List ℕ} {P : Program} {r : Answer} {b' : List ℕ} → Accepts s P → Judged P (assigned a) b r b' → Demands s a b r b'
+    → 4 * entries_of r ≤ length b'
+judged_fit x (outside o) d = omega arith
+judged_fit x (rule_unmet w f) d = omega arith
+judged_fit x (constraint_unmet w h f) d = omega arith
+judged_fit x (some_shown t l s) d = (d.shows _ x _ _ refl).inside
+judged_fit x (is_stable st) d = omega arith
+
 pub entries_fit : {s a b : List ℕ} {r : Answer} {b' : List ℕ} → Checks s a b r b' → Demands s a b r b' → 4 * entries_of r ≤ length b'
 entries_fit (turned_down p) d = omega arith
-entries_fit (judged c (outside o)) d = omega arith
-entries_fit (judged c (rule_unmet w f)) d = omega arith
-entries_fit (judged c (constraint_unmet w h f)) d = omega arith
-entries_fit (judged c (some_shown t l s)) d = (d.shows _ c.accepts _ _ refl).inside
-entries_fit (judged c (is_stable st)) d = omega arith
+entries_fit (judged c j) d = judged_fit c.accepts j d
 
 -- ---- the lines of `unfounded n k`: `most` or `least` for the first n entries, by the variable's kind, `when` for the k after them
 
