@@ -1,7 +1,26 @@
 #!/usr/bin/env bash
-# Builds the archive that the tests in C and Rust link with, target/staticlib/libfounded.a, from the crates as they stand.
+# Builds the archive that the tests in C and Rust link with, target/staticlib/libfounded.a, from the crates as they stand: over the libraries that a
+# plain `rt ci` proved and left in this checkout, where it did, else over those that rt proves for it.
 set -eu
 cd "$(dirname "$0")/.."
-(cd crates/founded_c && rt lib) >&2
 mkdir -p target/staticlib
-cp crates/founded_c/out/libfounded_c.a target/staticlib/libfounded.a
+archive="$PWD/target/staticlib/libfounded.a"
+left=crates/founded/out/rlib
+changed() { # FILE: a source is newer
+    [ -n "$(find crates -name out -prune -o -newer "$1" \( -name '*.rt' -o -name '*.antt' \) -print -quit)" ]
+}
+if [ -e "$left/founded.rlib/format" ] && [ ! -e "$left/stamp" ] && ! changed "$left/founded.rlib/format"; then
+    kit=$(dirname "$(dirname "$(readlink -f "$(command -v rt)")")")
+    words=(--crate-name founded_c src/lib.rt --crate-type staticlib --extern "std=$kit/rlibs/std.rlib" -L "dependency=$kit/rlibs")
+    for library in walks reach sharing founded; do
+        words+=(--extern "$library=$PWD/crates/$library/out/rlib/$library.rlib")
+    done
+    for rlib in crates/*/out/rlib; do
+        words+=(-L "dependency=$PWD/$rlib")
+    done
+    words+=(--antt-project "$kit/rattle/logic/antt-project.json" --logic-built "$kit/logic_built" --toolchain "$kit/toolchain" --backend llvm)
+    (cd crates/founded_c && "$kit/bin/rattle" build "${words[@]}" -o "$archive") >&2
+else
+    (cd crates/founded_c && rt lib) >&2
+    cp crates/founded_c/out/libfounded_c.a "$archive"
+fi

@@ -1,11 +1,15 @@
 #!/usr/bin/env bash
-# Proves and builds the programs whose names are given, or all four, and lays them into target/bin.
+# Lays the programs whose names are given, or all four, into target/bin: as a plain `rt ci` proved and built them in this checkout, where it did and no
+# source is newer, else proved and built for it.
 set -eu
 cd "$(dirname "$0")/.."
 [ $# -gt 0 ] || set -- print_verdict normalize flatten bounds
 mkdir -p target/bin
 for program in "$@"; do
-    rm -f "crates/$program/out/$program"
-    (cd "crates/$program" && rt run <stdin >/dev/null) >&2
-    cp "crates/$program/out/$program" target/bin/
+    built="crates/$program/out/$program"
+    if [ ! -e "$built.by-rattle" ] || [ -n "$(find crates -name out -prune -o -newer "$built" \( -name '*.rt' -o -name '*.antt' \) -print -quit)" ]; then
+        rm -f "$built"
+        (cd "crates/$program" && rt run <stdin >/dev/null) >&2
+    fi
+    cp "$built" target/bin/
 done
