@@ -1,15 +1,12 @@
 #!/usr/bin/env bash
-# Builds the archive that the tests in C and Rust link with, target/staticlib/libfounded.a, from the crates as they stand: over the libraries that a
-# plain `rt ci` proved and left in this checkout, where it did, else over those that rt proves for it.
+# Builds the archive that the tests in C and Rust link with, target/staticlib/libfounded.a, from the crates as they stand. The gate sets LEFT_BY_RT_CI:
+# then it is built over the libraries that `rt ci` has just proved and left in this checkout, else over those that rt proves for it.
 set -eu
 cd "$(dirname "$0")/.."
 mkdir -p target/staticlib
 archive="$PWD/target/staticlib/libfounded.a"
 left=crates/founded/out/rlib
-changed() { # FILE: a source is newer
-    [ -n "$(find crates -name out -prune -o -newer "$1" \( -name '*.rt' -o -name '*.antt' \) -print -quit)" ]
-}
-if [ -e "$left/founded.rlib/format" ] && [ ! -e "$left/stamp" ] && ! changed "$left/founded.rlib/format"; then
+if [ -n "${LEFT_BY_RT_CI:-}" ] && [ -e "$left/founded.rlib/format" ] && [ ! -e "$left/stamp" ]; then
     kit=$(dirname "$(dirname "$(readlink -f "$(command -v rt)")")")
     words=(--crate-name founded_c src/lib.rt --crate-type staticlib --extern "std=$kit/rlibs/std.rlib" -L "dependency=$kit/rlibs")
     for library in walks reach sharing founded; do
