@@ -1,7 +1,7 @@
 // A line's case: its head printed before it is tried, and its answer after.
 #![tactic(auto)]
 
-ghost use Rattle.std.specs.Prelude.{◌≤◌, length, IfOk};
+ghost use Rattle.std.specs.Prelude.{◌≡◌, ◌≤◌, length, IfOk, OnErr};
 
 use guarding::{guarded, guarded_file};
 use packing::{Parts, Word};
@@ -51,6 +51,7 @@ pub fn opened<W: Write>(
     ensures all_in_bounds { IfOk result (λ r. r.all ≤ length bytes.new) }
     ensures from_le_to { IfOk result (λ r. r.from ≤ r.to) }
     ensures to_le_room { IfOk result (λ r. r.to ≤ room) }
+    ensures err { OnErr result (length bytes.new ≡ length bytes.old) }
 {
     let line = parsed(bytes, begun, table, at, room);
     let start = line.start;

@@ -1,7 +1,7 @@
 // Reads the table, and prints an answer's word and numbers, and the text of the printing program.
 #![tactic(auto)]
 
-ghost use Rattle.std.specs.Prelude.{◌≡◌, length, IfOk};
+ghost use Rattle.std.specs.Prelude.{◌≡◌, length, IfOk, OnErr};
 ghost use Rattle.telling.specs.Counts.{Counts};
 
 use packing::{Parts, Word};
@@ -108,7 +108,8 @@ pub fn large_buffer() -> [u8; 65536]
 
 // Reads until the table is full or the input ends, and answers how many bytes stand at the table's start.
 pub fn read_full<R: Read>(input: &mut R, table: &mut [u8]) -> io::Result<usize>
-    ensures { IfOk result (λ r. Counts r table.new) }
+    ensures ok { IfOk result (λ r. Counts r table.new) }
+    ensures err { OnErr result (length table.new ≡ length table.old) }
 {
     let mut done = 0;
     while done < table.len() {
@@ -123,7 +124,8 @@ pub fn read_full<R: Read>(input: &mut R, table: &mut [u8]) -> io::Result<usize>
 
 // Reads the table and answers how many bytes it has; of one that does not fit nothing is taken.
 pub fn taken<R: Read, W: Write>(input: &mut R, out: &mut W, table: &mut [u8]) -> io::Result<usize>
-    ensures { IfOk result (λ r. Counts r table.new) }
+    ensures ok { IfOk result (λ r. Counts r table.new) }
+    ensures err { OnErr result (length table.new ≡ length table.old) }
 {
     let n = read_full(input, table)?;
     if n < table.len() {
