@@ -1,4 +1,5 @@
 -- Values that stand on two sides, on the way: what a raise keeps, one rule after the other, and where a run ends.
+use Rattle.std.specs.Prelude.{Result, Ok, Err}
 use Prim.Native.Nat.{ℕ, ◌+◌, ◌<◌, ◌≤◌}
 use mathlib.Core.Path.{◌≡◌, refl, sym, ap, ◌∙◌, subst}
 use mathlib.Core.Logic.{◌⊎◌, inl, inr}
@@ -34,15 +35,13 @@ use Rattle.meaning.proofs.Theory.{Progress, under_given, progress_raise, progres
 use Rattle.sided.specs.Sides.{sides_length, side_place, on_side}
 use Rattle.sided.specs.Reached.{own_side, risen}
 use Rattle.run.specs.Running.{head_of, RuleMetIn, Exceeds, RuleStands, SomeRule, EndsWith}
-use Rattle.run.specs.declared.Ending.TheVariants as ending
-use Rattle.ascent.specs.declared.Sweep.{Sweep}
-use Rattle.ascent.specs.declared.Sweep.TheVariants as sweep
 use Rattle.run.proofs.RunLaws.{head_lies, here_head, head_variable}
 use Rattle.ascent.specs.Ascending.{FoundOn, AllReadOn, Climbing, SomeClimbing, RaisedSide, FirstMore, NoneMore, NextIs, SweptUp, SweepUpIs, ArrivedBelow}
 use Rattle.ascent.specs.declared.sweeping.Next.{Next}
 use Rattle.ascent.specs.declared.sweeping.Next.TheVariants as next
 use Rattle.ascent.proofs.PlaceLaws.{not_other, side_of_lem, set_same, set_other, place_few}
 use Rattle.ascent.proofs.LookLaws.{own_above, read_full}
+use Rattle.run.specs.declared.NoModel.{NoModel}
 
 -- ---- what stands on the two sides
 
@@ -257,11 +256,11 @@ module _ (x : Variable) (h : ℕ) (a : ℤ) (sides sides⁺ : List ℤ) {t : Boo
   pub side_past : t ≡ false → T (not (not_past x a (far x))) × (sides⁺ ≡ sides)
   side_past e = rw e at o
 
-module _ (P : Program) (R : Reckoning) (θ others : Valuation) (stops : List ℤ) (full : Bool) (n : ℕ) (sides : List ℤ) {r : Sweep} (h : SweepUpIs P R θ others stops full n sides r) where
-  pub swept_raises : {k : ℕ} → r ≡ sweep.Raises k → SweptUp P R θ others stops full n k sides
+module _ (P : Program) (R : Reckoning) (θ others : Valuation) (stops : List ℤ) (full : Bool) (n : ℕ) (sides : List ℤ) {r : Result ℕ NoModel} (h : SweepUpIs P R θ others stops full n sides r) where
+  pub swept_raises : {k : ℕ} → r ≡ Ok k → SweptUp P R θ others stops full n k sides
   swept_raises e = rw e at h
 
-  pub swept_none : r ≡ sweep.NoModel → EndsWith P R θ (risen P.variables sides) ending.NoModel
+  pub swept_none : r ≡ (Err (record {})) → EndsWith P R θ (risen P.variables sides) (Err (record {}))
   swept_none e = rw e at h
 
 -- ---- one turn of a sweep

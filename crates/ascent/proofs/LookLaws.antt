@@ -1,4 +1,5 @@
 -- What a rule is found to demand is what it demands in the reckoning.
+use Rattle.std.specs.Prelude.{Option, Some, None}
 use Prim.Native.Nat.{ℕ, ◌<◌}
 use mathlib.Core.Path.{◌≡◌, refl, sym, ap, ap₂, ◌∙◌, subst}
 use mathlib.Core.Logic.{◌⊎◌, inl, inr}
@@ -14,8 +15,6 @@ use Rattle.program.specs.Variables.{is_founded, from_above, not_past, no_more}
 use Rattle.program.specs.Evaluate.{evaluate}
 use Rattle.program.specs.Evaluable.{Evaluable}
 use Rattle.program.specs.Readings.{Valuation, body_variable, valued}
-use Rattle.program.specs.declared.Given.{Given}
-use Rattle.program.specs.declared.Given.TheVariants.{Nothing, Value}
 use Rattle.program.specs.declared.Variable.{Variable}
 use Rattle.program.proofs.Gives.{enough_of}
 use Rattle.program.proofs.Promises.{accepts_promises}
@@ -28,7 +27,6 @@ use Rattle.evaluation.specs.Past.{past_only}
 use Rattle.meaning.specs.Reduct.{Reckoning}
 use Rattle.meaning.proofs.Monotone.{head_founded}
 use Rattle.run.specs.Running.{head_of, RuleMetIn, RuleStands, Demanded}
-use Rattle.run.specs.declared.Demand.TheVariants.{More, Enough}
 use Rattle.run.proofs.RunLaws.{lies}
 use Rattle.sided.specs.Sides.{on_side, sided_reading}
 use Rattle.sided.specs.Reached.{own_side, risen, size_side, plain_side, rule_side, sided_gives}
@@ -63,28 +61,28 @@ size_some v e q = enough_of e 5 (rw q)
 
 -- ---- what is past
 
-value_in : Given → ℤ
-value_in Nothing = pos 0
-value_in (Value a) = a
+value_in : Option ℤ → ℤ
+value_in None = pos 0
+value_in (Some a) = a
 
-is_nothing : Given → Bool
-is_nothing Nothing = true
-is_nothing (Value a) = false
+is_nothing : Option ℤ → Bool
+is_nothing None = true
+is_nothing (Some a) = false
 
 module _ (x : Variable) (z : ℤ) where
-  past_value : (g : Given) (a : ℤ) → past_only x z g ≡ Value a → (g ≡ Value a) × T (not (not_past x a z))
+  past_value : (g : Option ℤ) (a : ℤ) → past_only x z g ≡ Some a → (g ≡ Some a) × T (not (not_past x a z))
   unfolding past_only value_in is_nothing
-  past_value Nothing a e = absurd (true≢false (ap is_nothing e))
-  past_value (Value b) a e = go (not_past x b z) refl e
+  past_value None a e = absurd (true≢false (ap is_nothing e))
+  past_value (Some b) a e = go (not_past x b z) refl e
     where
-      go : (t : Bool) → not_past x b z ≡ t → cond t Nothing (Value b) ≡ Value a → (Value b ≡ Value a) × T (not (not_past x a z))
+      go : (t : Bool) → not_past x b z ≡ t → cond t None (Some b) ≡ Some a → (Some b ≡ Some a) × T (not (not_past x a z))
       go true q f = absurd (true≢false (ap is_nothing f))
       go false q f = let p : b ≡ a = ap value_in f in (f, rw (← p, q) tt)
 
-  past_nothing : (g : Given) → past_only x z g ≡ Nothing → T (no_more x g z)
+  past_nothing : (g : Option ℤ) → past_only x z g ≡ None → T (no_more x g z)
   unfolding past_only is_nothing
-  past_nothing Nothing e = tt
-  past_nothing (Value b) e = cases (not_past x b z) (λ t. cond t Nothing (Value b) ≡ Nothing → T t) (λ t q. tt) (λ t q. absurd (true≢false (sym (ap is_nothing q)))) e
+  past_nothing None e = tt
+  past_nothing (Some b) e = cases (not_past x b z) (λ t. cond t None (Some b) ≡ None → T t) (λ t q. tt) (λ t q. absurd (true≢false (sym (ap is_nothing q)))) e
 
 -- ---- the head
 
@@ -108,7 +106,7 @@ read_full {P} {R} {θ} {stops} {full} {sides} {i} o f e = go o.found
     x : Variable
     x = variable_in P.variables h
 
-    found : Given
+    found : Option ℤ
     found = sided_gives P.variables sides (rule_in P.rules i)
 
     go : FoundOn P R θ stops full sides i → RuleMetIn P R θ (risen P.variables sides) i
@@ -140,7 +138,7 @@ module _ {s : List ℕ} {P : Program} {i at : ℕ} (h : RuleStands s P i at) {x 
   -- the head has its stop, which the code read as z and b
   pub look_full : {R : Reckoning} {θ : Valuation} {stops : List ℤ} {full : Bool} {sides : List ℤ} → ReadOn P R θ stops full sides i
       → {head : ℕ} {above : Bool} {z b : ℤ} → head ≡ head_of P i → above ≡ from_above x → z ≡ on_side sides above head → b ≡ valued stops head → full ≡ true → z ≡ b
-      → Demanded P R θ (risen P.variables sides) i Enough
+      → Demanded P R θ (risen P.variables sides) i None
   look_full {stops = stops} {sides = sides} o a d e k f w = read_full o f (sym (here_value sides a d e) ∙ w ∙ k ∙ ap (valued stops) a)
 
   module _ {v : List ℕ} (q : v ≡ value_at s at) where
@@ -155,7 +153,7 @@ module _ {s : List ℕ} {P : Program} {i at : ℕ} (h : RuleStands s P i at) {x 
         ∙ ap (λ (y : Variable). plain_side (term_form (rule_in P.rules i).form) y (variable_in P.variables (body_variable (rule_in P.rules i) 0))) p
 
     -- the head has not its stop
-    module _ {R : Reckoning} {θ : Valuation} {stops : List ℤ} {full : Bool} {sides : List ℤ} (o : ReadOn P R θ stops full sides i) {head : ℕ} {above side : Bool} {z b : ℤ} {g : Given}
+    module _ {R : Reckoning} {θ : Valuation} {stops : List ℤ} {full : Bool} {sides : List ℤ} (o : ReadOn P R θ stops full sides i) {head : ℕ} {above side : Bool} {z b : ℤ} {g : Option ℤ}
         (a : head ≡ head_of P i) (d : above ≡ from_above x) (e : z ≡ on_side sides above head) (w : b ≡ valued stops head) (n : full ≡ true → z ≡ b → ⊥)
         (f : (n : ℕ) → Standing s n v → side ≡ plain_side (term_form (rule_of v).form) x (variable_in (variables_at s n) (body_variable (rule_of v) 0)))
         (k : g ≡ past_only x z (evaluate (rule_of v) (sided_reading sides (term_form (rule_of v).form) side (rule_of v).terms))) where
@@ -165,7 +163,7 @@ module _ {s : List ℕ} {P : Program} {i at : ℕ} (h : RuleStands s P i at) {x 
       abbrev y : Variable
       y = variable_in P.variables (head_of P i)
 
-      abbrev found : Given
+      abbrev found : Option ℤ
       found = sided_gives P.variables sides (rule_in P.rules i)
 
       as_found : g ≡ past_only y (m (head_of P i)) found
@@ -185,7 +183,7 @@ module _ {s : List ℕ} {P : Program} {i at : ℕ} (h : RuleStands s P i at) {x 
       given (inl t) = t
       given (inr t) = absurd (apart t.0 t.1)
 
-      pub look_more : {c r : ℤ} → g ≡ Value c → r ≡ cond full (cond (not_past x c b) c b) c → Demanded P R θ m i (More r)
+      pub look_more : {c r : ℤ} → g ≡ Some c → r ≡ cond full (cond (not_past x c b) c b) c → Demanded P R θ m i (Some r)
       look_more {c} {r} t u =
           let l = past_value y (m (head_of P i)) found c (sym as_found ∙ t) in
           rw (u, p, stop_is)
@@ -197,7 +195,7 @@ module _ {s : List ℕ} {P : Program} {i at : ℕ} (h : RuleStands s P i at) {x 
             };
           }
 
-      pub look_enough : g ≡ Nothing → Demanded P R θ m i Enough
+      pub look_enough : g ≡ None → Demanded P R θ m i None
       look_enough t =
           let u = past_nothing y (m (head_of P i)) found (sym as_found ∙ t) in
           rw (given o.found)

@@ -1,4 +1,5 @@
 -- Where the values begin, and what they have reached.
+use Rattle.std.specs.Prelude.{Option, Some, None, Result, Ok, Err}
 use Prim.Native.Nat.{ℕ, ◌+◌, ◌<◌, ◌≤◌}
 use mathlib.Core.Path.{◌≡◌, refl, sym, ap, fun_ext, ◌∙◌}
 use mathlib.Core.Bool.{Bool, true, false, not, cond}
@@ -27,12 +28,9 @@ use Rattle.meaning.proofs.Theory.{Progress, progress_start}
 use Rattle.sided.specs.Sides.{sides_length, side_place, on_side}
 use Rattle.sided.specs.Reached.{own_side, risen, Sided}
 use Rattle.run.specs.Running.{EndsWith}
-use Rattle.run.specs.declared.Ending.{Ending}
-use Rattle.run.specs.declared.Ending.TheVariants as ending
-use Rattle.ascent.specs.declared.Climbed.{Climbed}
-use Rattle.ascent.specs.declared.Climbed.TheVariants.{Ended, Open}
 use Rattle.ascent.specs.Ascending.{SidesStart, ClimbIs}
 use Rattle.ascent.proofs.PlaceLaws.{both, both_own, both_other, both_else}
+use Rattle.run.specs.declared.NoModel.{NoModel}
 
 -- ---- two values of one variable are stored
 
@@ -151,15 +149,15 @@ module _ {s : List ℕ} {k : Counts} (r : AcceptedAs s k) {P : Program} (a : Acc
   reached_as : ((v : ℕ) → T (not (is_founded (R.variable v))) → risen P.variables sides v ≡ θ v) → valued m ≡ risen P.variables sides
   reached_as h = fun_ext (risen_values r a sides (λ v t. h v (rw (narrows_founded n v) t)) z f)
 
-  pub reached_end : (e : Ending) → EndsWith P R θ (risen P.variables sides) e → EndsWith P R θ (valued m) e
-  reached_end ending.Model h = rw (reached_as h.model.standard) h
-  reached_end ending.NoModel h = h
+  pub reached_end : (e : Result (Unit {0}) NoModel) → EndsWith P R θ (risen P.variables sides) e → EndsWith P R θ (valued m) e
+  reached_end (Ok _) h = rw (reached_as h.model.standard) h
+  reached_end (Err _) h = h
 
   pub reached_way : Progress (reckoned P R) θ (risen P.variables sides) → Progress (reckoned P R) θ (valued m)
   reached_way h = rw (reached_as h.standard) h
 
-  pub reached_ended : {b : Climbed} → ClimbIs P R θ sides b → {e : Ending} → b ≡ Ended e → EndsWith P R θ (valued m) e
+  pub reached_ended : {b : Option (Result (Unit {0}) NoModel)} → ClimbIs P R θ sides b → {e : Result (Unit {0}) NoModel} → b ≡ Some e → EndsWith P R θ (valued m) e
   reached_ended h {e} q = reached_end e (rw q at h)
 
-  pub reached_open : {b : Climbed} → ClimbIs P R θ sides b → b ≡ Open → Progress (reckoned P R) θ (valued m)
+  pub reached_open : {b : Option (Result (Unit {0}) NoModel)} → ClimbIs P R θ sides b → b ≡ None → Progress (reckoned P R) θ (valued m)
   reached_open h q = reached_way (rw q at h)

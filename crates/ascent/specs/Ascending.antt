@@ -1,13 +1,11 @@
 -- Values on the way to the least model of a reckoning, kept for each variable on two sides: where the positions that are kept read it the value that it has
 -- reached, beside it the one at which all others read it. The reduct is one reckoning, in which these read the assignment; a file with lent ranges is another.
-use Rattle.std.specs.Prelude.{ℕ, ◌<◌, ◌≤◌, ◌≡◌, ◌⊎◌, Bool, true, false, not, cond, List, T, ℤ, nat_abs, length, set}
+use Rattle.std.specs.Prelude.{ℕ, ◌<◌, ◌≤◌, ◌≡◌, ◌⊎◌, Bool, true, false, not, cond, List, T, ℤ, nat_abs, length, set, Option, Some, None, Result, Ok, Err}
 use Rattle.format.specs.Limits.{max_number}
 use Rattle.program.specs.Program.{Program, rule_in, variable_in}
 use Rattle.program.specs.Reading.{Accepts}
 use Rattle.program.specs.Readings.{Valuation, valued}
 use Rattle.program.specs.Variables.{is_founded, from_above, far, not_past, cut_off, started}
-use Rattle.program.specs.declared.Given.{Given}
-use Rattle.program.specs.declared.Given.TheVariants.{Value}
 use Rattle.program.specs.declared.Variable.{Variable}
 use Rattle.reader.specs.Parts.{rule_place}
 use Rattle.meaning.specs.Founded.{AtOrBefore, Within}
@@ -18,18 +16,14 @@ use Rattle.meaning.proofs.Theory.{Progress}
 use Rattle.sided.specs.Sides.{side_place, on_side}
 use Rattle.sided.specs.Reached.{own_side, risen, Sided, sided_gives}
 use Rattle.run.specs.Running.{head_of, RuleMetIn, Exceeds, RuleStands, EndsWith}
-use Rattle.ascent.specs.declared.Sweep.{Sweep}
-use Rattle.ascent.specs.declared.Sweep.TheVariants as sweep
-use Rattle.ascent.specs.declared.Climbed.{Climbed}
-use Rattle.ascent.specs.declared.Climbed.TheVariants as climbed
-use Rattle.run.specs.declared.Ending.TheVariants as ending
 use Rattle.ascent.specs.declared.sweeping.Next.{Next}
 use Rattle.ascent.specs.declared.sweeping.Next.TheVariants as next
+use Rattle.run.specs.declared.NoModel.{NoModel}
 
 -- ---- one rule
 
 -- what is given to the head x: with `full` no further than its stop
-unfoldable pub capped : Bool → Variable → ℤ → Given → Given
+unfoldable pub capped : Bool → Variable → ℤ → Option ℤ → Option ℤ
 capped full x stop g = cond full (cut_off x stop g) g
 
 -- what rule i gives in the reckoning is what is found on the two sides; or, with `full`, its head has its stop and it is met
@@ -83,7 +77,7 @@ pub record Scales (P : Program) (R : Reckoning) (θ others : Valuation) (stops :
   pub assigned : Within (reckoned P R) θ
   pub small : (v : ℕ) → nat_abs (others v) ≤ max_number
   -- what is given inside the head's declared range is inside that of the reckoning
-  pub inside : (i : ℕ) → i < length P.rules → (m : Valuation) (a : ℤ) → R.gives i m θ ≡ Value a
+  pub inside : (i : ℕ) → i < length P.rules → (m : Valuation) (a : ℤ) → R.gives i m θ ≡ Some a
       → T (not_past (variable_in P.variables (head_of P i)) a (far (variable_in P.variables (head_of P i))))
       → AtOrBefore (reckoned P R) (head_of P i) a (far (R.variable (head_of P i)))
   -- with `full` no value on the way passes its stop
@@ -124,18 +118,18 @@ pub record SweptUp (P : Program) (R : Reckoning) (θ others : Valuation) (stops 
   pub few : raises ≤ n
   pub met : raises ≡ 0 → (i : ℕ) → i < length P.rules → RuleMetIn P R θ (risen P.variables sides) i
 
-abbrev pub SweepUpIs : Program → Reckoning → Valuation → Valuation → List ℤ → Bool → ℕ → List ℤ → Sweep → Type 0
-SweepUpIs P R θ others stops full n sides (sweep.Raises k) = SweptUp P R θ others stops full n k sides
-SweepUpIs P R θ others stops full n sides sweep.NoModel = EndsWith P R θ (risen P.variables sides) ending.NoModel
+abbrev pub SweepUpIs : Program → Reckoning → Valuation → Valuation → List ℤ → Bool → ℕ → List ℤ → Result ℕ NoModel → Type 0
+SweepUpIs P R θ others stops full n sides (Ok k) = SweptUp P R θ others stops full n k sides
+SweepUpIs P R θ others stops full n sides (Err _) = EndsWith P R θ (risen P.variables sides) (Err (record {}))
 
 -- the first n variables, those that are founded, have their stops
 abbrev pub ArrivedBelow : List Variable → ℕ → List ℤ → List ℤ → Type 0
 ArrivedBelow vs n stops sides = (v : ℕ) → v < n → T (is_founded (variable_in vs v)) → on_side sides (from_above (variable_in vs v)) v ≡ valued stops v
 
 -- what climbing ends with
-abbrev pub ClimbIs : Program → Reckoning → Valuation → List ℤ → Climbed → Type 0
-ClimbIs P R θ sides (climbed.Ended e) = EndsWith P R θ (risen P.variables sides) e
-ClimbIs P R θ sides climbed.Open = Progress (reckoned P R) θ (risen P.variables sides)
+abbrev pub ClimbIs : Program → Reckoning → Valuation → List ℤ → Option (Result (Unit {0}) NoModel) → Type 0
+ClimbIs P R θ sides (Some e) = EndsWith P R θ (risen P.variables sides) e
+ClimbIs P R θ sides None = Progress (reckoned P R) θ (risen P.variables sides)
 
 -- ---- where the values begin
 

@@ -19,8 +19,7 @@ pub fn level_sides(
     ensures sides_len_2 { length sides.new ≡ sides_length }
     ensures level_sides { LevelSides n (valued assigned.now) sides.old sides.new }
 {
-    for v in 0..n {
-        let given = assigned[v];
+    for (v, &given) in assigned[..n].iter().enumerate() {
         write(sides, false, v as u8, given);
         write(sides, true, v as u8, given);
     }

@@ -14,8 +14,7 @@ ghost use Rattle.ascent.specs.Looking.{SomeStanding};
 use format::Format;
 use parts::places::value_at;
 use parts::{rules, variables};
-use program::{Given, Variable};
-use run::Demand;
+use program::Variable;
 use run::demands::head_at;
 use sided::rules::gives_past;
 use sided::{Sides, read};
@@ -66,7 +65,7 @@ pub fn look(
     sides: &[i64; Sides::LENGTH],
     stops: &[i64; Format::MAX_VARIABLES],
     full: bool,
-) -> Demand
+) -> Option<i64>
     requires some_rule { SomeRule file.now at }
     requires small { Small sides.now }
     ensures { (P : Program) (R : Reckoning) (θ : Valuation) (i : ℕ) → RuleStands file.now P i at
@@ -78,12 +77,12 @@ pub fn look(
     let has = read(sides, x.is_from_above(), head);
     let stop = stops[format::wide(head)];
     if full && has == stop {
-        return Demand::Enough;
+        return None;
     }
     let side = plain_side(file, value, x);
     let past = gives_past(value, side, sides, x, has);
     match past {
-        Given::Value(a) => Demand::More(no_further(full, x, stop, a)),
-        Given::Nothing => Demand::Enough,
+        Some(a) => Some(no_further(full, x, stop, a)),
+        None => None,
     }
 }

@@ -13,13 +13,12 @@ ghost use Rattle.run.specs.Running.{head_of, RuleStands, SomeRule};
 ghost use Rattle.ascent.specs.Ascending.{most_sweeps, AllReadOn, Climbing, SomeClimbing, RaisedSide, NextIs, ArrivedBelow, SweepUpIs, ClimbIs};
 
 use crate::looking::look;
-use crate::{Climbed, Sweep};
 use format::Format;
 use parts::places::next_at;
 use parts::variables;
 use program::Counts;
+use run::NoModel;
 use run::demands::head_at;
-use run::{Demand, Ending};
 use sided::{Sides, read, write};
 
 // The next rule that demands more than its head has, where its field stands and what it demands; or that there is none, and where the field after the last rule stands.
@@ -59,15 +58,13 @@ pub fn next_more(
         → AllReadOn P R θ stops.now full sides.now → NextIs file.now P R θ (risen P.variables sides.now) i result }
 {
     let rules = counts.rules;
-    let mut k = i;
     let mut place = at;
-    while k < rules {
+    for k in i..rules {
         let asked = look(file, place, sides, stops, full);
-        if let Demand::More(a) = asked {
+        if let Some(a) = asked {
             return Next::More(k, place, a);
         }
         place = next_at(file, place);
-        k += 1;
     }
     Next::Nothing(place)
 }
@@ -96,7 +93,7 @@ fn sweep(
     sides: &mut [i64; Sides::LENGTH],
     stops: &[i64; Format::MAX_VARIABLES],
     full: bool,
-) -> Sweep
+) -> Result<usize, NoModel>
     requires accepted_as { AcceptedAs file.now counts }
     requires some_climbing { SomeClimbing file.now stops.now full sides.old }
     requires sides_len { length sides.old ≡ sides_length }
@@ -111,10 +108,10 @@ fn sweep(
     loop {
         let next = next_more(file, counts, i, at, sides, stops, full);
         let Next::More(j, place, a) = next else {
-            return Sweep::Raises(raises);
+            return Ok(raises);
         };
         if !raise(file, place, a, sides) {
-            return Sweep::NoModel;
+            return Err(NoModel);
         }
         raises += 1;
         i = j + 1;
@@ -132,15 +129,12 @@ fn have_arrived(
     requires { (8 * n ≤ length file.now) × (n ≤ max_variables) }
     ensures { result ≡ true → ArrivedBelow (variables_at file.now n) n stops.now sides.now }
 {
-    let mut v = 0;
-    while v < n {
+    for (v, &stop) in stops[..n].iter().enumerate() {
         let x = variables::variable(file, v as u8);
         let has = read(sides, x.is_from_above(), v as u8);
-        let stop = stops[v];
         if has != stop && x.is_founded() {
             return false;
         }
-        v += 1;
     }
     true
 }
@@ -167,7 +161,7 @@ pub fn climb(
     sides: &mut [i64; Sides::LENGTH],
     stops: &[i64; Format::MAX_VARIABLES],
     full: bool,
-) -> Climbed
+) -> Option<Result<(), NoModel>>
     requires accepted_as { AcceptedAs file.now counts }
     requires some_climbing { SomeClimbing file.now stops.now full sides.old }
     requires sides_len { length sides.old ≡ sides_length }
@@ -181,18 +175,18 @@ pub fn climb(
     let mut last = 0;
     while pays(full, done, before, last) {
         let swept = sweep(file, counts, sides, stops, full);
-        let Sweep::Raises(raises) = swept else {
-            return Climbed::Ended(Ending::NoModel);
+        let Ok(raises) = swept else {
+            return Some(Err(NoModel));
         };
         if raises == 0 {
-            return Climbed::Ended(Ending::Model);
+            return Some(Ok(()));
         }
         if full && have_arrived(file, n, sides, stops) {
-            return Climbed::Ended(Ending::Model);
+            return Some(Ok(()));
         }
         before = last;
         last = raises;
         done += 1;
     }
-    Climbed::Open
+    None
 }

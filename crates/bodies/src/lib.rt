@@ -1,4 +1,4 @@
-// A body read in two valuations: position i in `first` where bit i of `kept` is set, and in `second` else.
+// A body read in two valuations.
 #![tactic(auto)]
 
 ghost use Rattle.std.specs.Prelude.{◌≡◌, ◌+◌, ◌-◌, ◌*◌, ◌/◌, ◌<◌, ◌≤◌, length, nat_abs, ◌+ℤ◌, ◌*ℤ◌};
@@ -13,172 +13,130 @@ use format::Format;
 
 pub mod numbers;
 
-// The value of variable x at position i.
-fn read(
-    x: u8,
-    i: usize,
-    kept: u32,
-    first: &[i64; Format::MAX_VARIABLES],
-    second: &[i64; Format::MAX_VARIABLES],
-) -> i64
-    requires { i < max_terms }
-    ensures { result ≡ read_at kept first.now second.now i x }
-{
-    let v = format::wide(x);
-    if (kept >> i) % 2 == 1 {
-        first[v]
-    } else {
-        second[v]
+// Position i of a body is read in `first` where bit i of `kept` is set, and in `second` else.
+#[derive(Clone, Copy)]
+pub struct Readings<'a> {
+    pub kept: u32,
+    pub first: &'a [i64; Format::MAX_VARIABLES],
+    pub second: &'a [i64; Format::MAX_VARIABLES],
+}
+
+impl Readings<'_> {
+    // The value of variable x at position i.
+    fn read(self, x: u8, i: usize) -> i64
+        requires { i < max_terms }
+        ensures { result ≡ read_at self.entry.kept self.entry.first.now self.entry.second.now i x }
+    {
+        let v = format::wide(x);
+        if (self.kept >> i) % 2 == 1 {
+            self.first[v]
+        } else {
+            self.second[v]
+        }
+    }
+
+    // The value at position i of a body.
+    pub fn read_position(self, body: &[u8], i: usize) -> i64
+        requires { (4 * i + 4 ≤ length body.now) × (i < max_terms) }
+        ensures { result ≡ reading_of self.entry.kept self.entry.first.now self.entry.second.now (terms_of body.now) i }
+    {
+        let term = parts::terms::term(body, i);
+        self.read(term.variable, i)
     }
 }
 
-// The value at position i of a body.
-pub fn read_position(
-    body: &[u8],
-    i: usize,
-    kept: u32,
-    first: &[i64; Format::MAX_VARIABLES],
-    second: &[i64; Format::MAX_VARIABLES],
-) -> i64
-    requires { (4 * i + 4 ≤ length body.now) × (i < max_terms) }
-    ensures { result ≡ reading_of kept first.now second.now (terms_of body.now) i }
-{
-    let term = parts::terms::term(body, i);
-    read(term.variable, i, kept, first, second)
-}
-
 // What term i adds to a sum.
-fn weigh(
-    body: &[u8],
-    i: usize,
-    kept: u32,
-    first: &[i64; Format::MAX_VARIABLES],
-    second: &[i64; Format::MAX_VARIABLES],
-) -> i64
+fn weigh(body: &[u8], i: usize, readings: Readings) -> i64
     requires i_in_bounds { (4 * i + 4 ≤ length body.now) × (i < max_terms) }
     requires i_bound { nat_abs (term_in (terms_of body.now) i).number ≤ max_coefficient }
-    requires small { Small first.now × Small second.now }
-    ensures { result ≡ weighted (terms_of body.now) (reading_of kept first.now second.now (terms_of body.now)) i }
+    requires small { Small readings.first.now × Small readings.second.now }
+    ensures { result ≡ weighted (terms_of body.now)
+        (reading_of readings.entry.kept readings.entry.first.now readings.entry.second.now (terms_of body.now)) i }
 {
     let term = parts::terms::term(body, i);
-    numbers::times(term.number, read(term.variable, i, kept, first, second))
+    numbers::times(term.number, readings.read(term.variable, i))
 }
 
 // Whether the literal at position i holds.
-fn is_met(
-    body: &[u8],
-    i: usize,
-    kept: u32,
-    first: &[i64; Format::MAX_VARIABLES],
-    second: &[i64; Format::MAX_VARIABLES],
-) -> bool
+fn is_met(body: &[u8], i: usize, readings: Readings) -> bool
     requires { (4 * i + 4 ≤ length body.now) × (i < max_terms) }
-    ensures { result ≡ holds (term_in (terms_of body.now) i) (reading_of kept first.now second.now (terms_of body.now) i) }
+    ensures { result ≡ holds (term_in (terms_of body.now) i)
+        (reading_of readings.entry.kept readings.entry.first.now readings.entry.second.now (terms_of body.now) i) }
 {
     let term = parts::terms::term(body, i);
-    numbers::holds(term, read(term.variable, i, kept, first, second))
+    numbers::holds(term, readings.read(term.variable, i))
 }
 
 // c and, for each term, its number times its value.
-pub fn sum(
-    c: i64,
-    body: &[u8],
-    kept: u32,
-    first: &[i64; Format::MAX_VARIABLES],
-    second: &[i64; Format::MAX_VARIABLES],
-) -> i64
+pub fn sum(c: i64, body: &[u8], readings: Readings) -> i64
     requires c_bound { (nat_abs c ≤ max_number) × (length body.now / 4 ≤ max_terms) }
     requires coefficients { Coefficients (terms_of body.now) }
-    requires small { Small first.now × Small second.now }
+    requires small { Small readings.first.now × Small readings.second.now }
     ensures { result ≡ c +ℤ sum_below (weighted (terms_of body.now)
-        (reading_of kept first.now second.now (terms_of body.now))) (length (terms_of body.now)) }
+        (reading_of readings.entry.kept readings.entry.first.now readings.entry.second.now (terms_of body.now))) (length (terms_of body.now)) }
 {
     let terms = body.len() / 4;
     let mut total: i64 = 0;
     for i in 0..terms {
-        total = numbers::plus(total, weigh(body, i, kept, first, second));
+        total = numbers::plus(total, weigh(body, i, readings));
     }
     numbers::plus(c, total)
 }
 
 // The largest value of a body that has a term where `most` says so, else the smallest.
-fn extreme(
-    most: bool,
-    body: &[u8],
-    kept: u32,
-    first: &[i64; Format::MAX_VARIABLES],
-    second: &[i64; Format::MAX_VARIABLES],
-) -> i64
+fn extreme(most: bool, body: &[u8], readings: Readings) -> i64
     requires { (4 ≤ length body.now) × (length body.now / 4 ≤ max_terms) }
-    ensures { result ≡ pick_to (extreme most) (reading_of kept first.now second.now (terms_of body.now))
-        (length (terms_of body.now) - 1) }
+    ensures { result ≡ pick_to (extreme most)
+        (reading_of readings.entry.kept readings.entry.first.now readings.entry.second.now (terms_of body.now)) (length (terms_of body.now) - 1) }
 {
     let n = body.len() / 4;
-    let mut found = read_position(body, 0, kept, first, second);
+    let mut found = readings.read_position(body, 0);
     for i in 1..n {
-        found = numbers::extreme(most, found, read_position(body, i, kept, first, second));
+        found = numbers::extreme(most, found, readings.read_position(body, i));
     }
     found
 }
 
 // The largest value of a body that has a term.
-pub fn largest(
-    body: &[u8],
-    kept: u32,
-    first: &[i64; Format::MAX_VARIABLES],
-    second: &[i64; Format::MAX_VARIABLES],
-) -> i64
+pub fn largest(body: &[u8], readings: Readings) -> i64
     requires { (4 ≤ length body.now) × (length body.now / 4 ≤ max_terms) }
-    ensures { result ≡ largest_to (reading_of kept first.now second.now (terms_of body.now)) (length (terms_of body.now) - 1) }
+    ensures { result ≡ largest_to
+        (reading_of readings.entry.kept readings.entry.first.now readings.entry.second.now (terms_of body.now)) (length (terms_of body.now) - 1) }
 {
-    extreme(true, body, kept, first, second)
+    extreme(true, body, readings)
 }
 
 // The smallest value of a body that has a term.
-pub fn smallest(
-    body: &[u8],
-    kept: u32,
-    first: &[i64; Format::MAX_VARIABLES],
-    second: &[i64; Format::MAX_VARIABLES],
-) -> i64
+pub fn smallest(body: &[u8], readings: Readings) -> i64
     requires { (4 ≤ length body.now) × (length body.now / 4 ≤ max_terms) }
-    ensures { result ≡ smallest_to (reading_of kept first.now second.now (terms_of body.now)) (length (terms_of body.now) - 1) }
+    ensures { result ≡ smallest_to
+        (reading_of readings.entry.kept readings.entry.first.now readings.entry.second.now (terms_of body.now)) (length (terms_of body.now) - 1) }
 {
-    extreme(false, body, kept, first, second)
+    extreme(false, body, readings)
 }
 
 // The first value times the second.
-pub fn product(
-    body: &[u8],
-    kept: u32,
-    first: &[i64; Format::MAX_VARIABLES],
-    second: &[i64; Format::MAX_VARIABLES],
-) -> i64
+pub fn product(body: &[u8], readings: Readings) -> i64
     requires in_bounds { 8 ≤ length body.now }
-    requires small { Small first.now × Small second.now }
-    ensures { result ≡ reading_of kept first.now second.now (terms_of body.now) 0
-        *ℤ reading_of kept first.now second.now (terms_of body.now) 1 }
+    requires small { Small readings.first.now × Small readings.second.now }
+    ensures { result ≡ reading_of readings.entry.kept readings.entry.first.now readings.entry.second.now (terms_of body.now) 0
+        *ℤ reading_of readings.entry.kept readings.entry.first.now readings.entry.second.now (terms_of body.now) 1 }
 {
     numbers::times(
-        read_position(body, 0, kept, first, second),
-        read_position(body, 1, kept, first, second),
+        readings.read_position(body, 0),
+        readings.read_position(body, 1),
     )
 }
 
 // Whether every literal of a body holds.
-pub fn all_hold(
-    body: &[u8],
-    kept: u32,
-    first: &[i64; Format::MAX_VARIABLES],
-    second: &[i64; Format::MAX_VARIABLES],
-) -> bool
+pub fn all_hold(body: &[u8], readings: Readings) -> bool
     requires { length body.now / 4 ≤ max_terms }
     ensures { result ≡ all_hold (terms_of body.now)
-        (reading_of kept first.now second.now (terms_of body.now)) (length (terms_of body.now)) }
+        (reading_of readings.entry.kept readings.entry.first.now readings.entry.second.now (terms_of body.now)) (length (terms_of body.now)) }
 {
     let n = body.len() / 4;
     for i in 0..n {
-        if !is_met(body, i, kept, first, second) {
+        if !is_met(body, i, readings) {
             return false;
         }
     }
@@ -186,19 +144,15 @@ pub fn all_hold(
 }
 
 // Whether some literal of a body holds.
-pub fn any_holds(
-    body: &[u8],
-    kept: u32,
-    first: &[i64; Format::MAX_VARIABLES],
-    second: &[i64; Format::MAX_VARIABLES],
-) -> bool
+pub fn any_holds(body: &[u8], readings: Readings) -> bool
     requires { length body.now / 4 ≤ max_terms }
     ensures { result ≡ any_below (length (terms_of body.now))
-        (λ i. holds (term_in (terms_of body.now) i) (reading_of kept first.now second.now (terms_of body.now) i)) }
+        (λ i. holds (term_in (terms_of body.now) i)
+        (reading_of readings.entry.kept readings.entry.first.now readings.entry.second.now (terms_of body.now) i)) }
 {
     let n = body.len() / 4;
     for i in 0..n {
-        if is_met(body, i, kept, first, second) {
+        if is_met(body, i, readings) {
             return true;
         }
     }

@@ -1,4 +1,5 @@
 -- The call bounds, from a file that was accepted: when it is turned down, and what it writes.
+use Rattle.std.specs.Prelude.{Option, Some, None, Result, Ok, Err}
 use Prim.Native.Nat.{ℕ, ◌+◌, ◌*◌, ◌/◌, ◌<◌, ◌≤◌}
 use mathlib.Core.Path.{◌≡◌, refl, sym, ap, subst, fun_ext, ◌∙◌}
 use mathlib.Core.Logic.{inl, inr}
@@ -38,10 +39,6 @@ use Rattle.meaning.specs.Reduct.{Reckoning}
 use Rattle.sided.specs.Sides.{sides_length, side_place}
 use Rattle.sided.specs.Reached.{risen}
 use Rattle.run.specs.Running.{Underway, SomeWay}
-use Rattle.run.specs.declared.Ending.{Ending}
-use Rattle.run.specs.declared.Ending.TheVariants as ending
-use Rattle.ascent.specs.declared.Climbed.{Climbed}
-use Rattle.ascent.specs.declared.Climbed.TheVariants.{Ended, Open}
 use Rattle.ascent.specs.Ascending.{SidesStart, Climbing, SomeClimbing, ClimbIs}
 use Rattle.ascent.proofs.ValueLaws.{start_progress, reached_ended, reached_open}
 use Rattle.ends.specs.Ends.{other_end, other_ends, stop_end, stop_ends, FitIs, LentMasks}
@@ -49,6 +46,7 @@ use Rattle.ends.specs.Freed.{FitsRanges, AtStops, Freed}
 use Rattle.ends.proofs.ScaleLaws.{lent_climbing}
 use Rattle.ends.proofs.TaskLaws.{lent_basis}
 use Rattle.bounding.specs.Writing.{BoundsWritten, AtOthers, OnTheWay, EndsBounded}
+use Rattle.run.specs.declared.NoModel.{NoModel}
 
 -- ---- the ranges as loaded
 
@@ -151,16 +149,16 @@ module _ {s : List ℕ} {k : Counts} (r : AcceptedAs s k) where
           }
 
       -- what climbing ended with, in the values that were written
-      module _ (sides⁺⁺ : List ℤ) (b : Climbed) {m₀ m : List ℤ}
+      module _ (sides⁺⁺ : List ℤ) (b : Option (Result (Unit {0}) NoModel)) {m₀ m : List ℤ}
           (c : (P : Program) (R : Reckoning) (θ others : Valuation) → Accepts s P → Climbing P R θ others stops true sides⁺ → ClimbIs P R θ sides⁺⁺ b)
           (z : (v : ℕ) → k.variables ≤ v → valued m₀ v ≡ low v) (f : Filled (risen (variables_at s k.variables) sides⁺⁺) k.variables m₀ m) where
         ends : (P : Program) → Accepts s P → ClimbIs P (lent P low high) low sides⁺⁺ b
         ends P x = c P (lent P low high) low (other_ends P.variables low high) x (climbs P x)
 
-        pub climbed_ended : {a : Ending} → b ≡ Ended a → EndsBounded s low high (valued m) a
+        pub climbed_ended : {a : Result (Unit {0}) NoModel} → b ≡ Some a → EndsBounded s low high (valued m) a
         climbed_ended q P x = reached_ended r x (lent_narrows (fit P x)) low sides⁺⁺ z f (ends P x) q
 
-        pub climbed_open : b ≡ Open → OnTheWay s low high (valued m)
+        pub climbed_open : b ≡ None → OnTheWay s low high (valued m)
         climbed_open q P x = reached_open r x (lent_narrows (fit P x)) low sides⁺⁺ z f (ends P x) q
 
     -- what is left open
@@ -175,10 +173,10 @@ module _ {s : List ℕ} {k : Counts} (r : AcceptedAs s k) where
           record { program = x.meant; reckoning = lent x.meant low high; assigned = low; way = underway x.meant x.accepts }
 
   -- the run ends in the bounds, for there is a model
-  pub ends_bounds : {low high : Valuation} → FitsRanges s low high → (m : Valuation) (e : Ending) → EndsBounded s low high m e
+  pub ends_bounds : {low high : Valuation} → FitsRanges s low high → (m : Valuation) (e : Result (Unit {0}) NoModel) → EndsBounded s low high m e
       → (P : Program) → Accepts s P → Bounds P low high m
-  ends_bounds fit m ending.Model h P x = h P x
-  ends_bounds fit m ending.NoModel h P x = absurd (h P x _ (ends_model (accepts_promises x) (fit P x)))
+  ends_bounds fit m (Ok _) h P x = h P x
+  ends_bounds fit m (Err _) h P x = absurd (h P x _ (ends_model (accepts_promises x) (fit P x)))
 
   pub bounds_small : {low high : Valuation} → FitsRanges s low high → (m : Valuation) → ((P : Program) → Accepts s P → Bounds P low high m) → (v : ℕ) → v < k.variables
       → nat_abs (m v) ≤ max_number

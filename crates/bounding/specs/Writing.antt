@@ -1,5 +1,5 @@
 -- The bounds of a program with lent ranges, written to a buffer.
-use Rattle.std.specs.Prelude.{ℕ, ◌*◌, ◌≡◌, List, ◌++◌, ℤ, length, drop}
+use Rattle.std.specs.Prelude.{ℕ, ◌*◌, ◌≡◌, List, ◌++◌, ℤ, length, drop, Result}
 use Rattle.program.specs.Program.{Program}
 use Rattle.program.specs.Reading.{Accepts}
 use Rattle.program.specs.Readings.{Valuation, valued}
@@ -8,8 +8,8 @@ use Rattle.meaning.specs.Reduct.{reckoned}
 use Rattle.meaning.proofs.Theory.{Progress}
 use Rattle.lent.specs.Lent.{lent, Bounds}
 use Rattle.run.specs.Running.{EndsWith}
-use Rattle.run.specs.declared.Ending.{Ending}
 use Rattle.ends.specs.Ends.{other_ends}
+use Rattle.run.specs.declared.NoModel.{NoModel}
 
 -- b' is b with the bounds in its first bytes
 pub record BoundsWritten (P : Program) (low high : Valuation) (b b' : List ℕ) : Type 0 where
@@ -26,5 +26,5 @@ abbrev pub OnTheWay : List ℕ → Valuation → Valuation → Valuation → Typ
 OnTheWay s low high m = (P : Program) → Accepts s P → Progress (reckoned P (lent P low high)) low m
 
 -- what a run to the bounds ends with
-abbrev pub EndsBounded : List ℕ → Valuation → Valuation → Valuation → Ending → Type 0
+abbrev pub EndsBounded : List ℕ → Valuation → Valuation → Valuation → Result (Unit {0}) NoModel → Type 0
 EndsBounded s low high m e = (P : Program) → Accepts s P → EndsWith P (lent P low high) low m e

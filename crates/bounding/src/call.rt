@@ -9,7 +9,6 @@ ghost use Rattle.lent.specs.BoundsCall.{BoundsCall, answer_of, range_bytes};
 ghost use Rattle.ends.specs.Freed.{FitsRanges, AtStops};
 ghost use Rattle.bounding.specs.Writing.{BoundsWritten, AtOthers, OnTheWay, EndsBounded};
 
-use ascent::Climbed;
 use ascent::starts::{start_sides, values_of};
 use ascent::sweeping::climb;
 use ends::free::free_heads;
@@ -17,10 +16,9 @@ use ends::masks::set_masks;
 use ends::ranges;
 use format::Format;
 use least::writing::write_values;
-use lent::Bounding;
 use meaning::Denied;
-use program::{Counts, Reading};
-use run::Ending;
+use program::Counts;
+use run::{NoModel, Source};
 use settling::settle;
 use sided::Sides;
 use tables::Tables;
@@ -54,7 +52,7 @@ fn finish_in(
     others: &[i64; Format::MAX_VARIABLES],
     stops: &[i64; Format::MAX_VARIABLES],
     model: &mut [i64; Format::MAX_VARIABLES],
-) -> Ending
+) -> Result<(), NoModel>
     requires accepted_as { AcceptedAs file.now counts }
     requires rules_in_bounds { (counts.rules ≤ length offsets.old) × (counts.rules ≤ length masks.old) }
     requires fits_ranges { FitsRanges file.now (valued lows.now) (valued highs.now) }
@@ -67,7 +65,16 @@ fn finish_in(
 {
     set_masks(file, counts, lows, highs, offsets, masks);
     let cut = true;
-    settle(file, counts, offsets, masks, model, others, stops, cut)
+    let source = Source {
+        file,
+        counts,
+        offsets,
+        masks,
+        others,
+        stops,
+        cut,
+    };
+    settle(&source, model)
 }
 
 // The same, the tables made by size.
@@ -79,7 +86,7 @@ fn finish(
     others: &[i64; Format::MAX_VARIABLES],
     stops: &[i64; Format::MAX_VARIABLES],
     model: &mut [i64; Format::MAX_VARIABLES],
-) -> Ending
+) -> Result<(), NoModel>
     requires accepted_as { AcceptedAs file.now counts }
     requires fits_ranges { FitsRanges file.now (valued lows.now) (valued highs.now) }
     requires at_others { AtOthers file.now (valued lows.now) (valued highs.now) others.now }
@@ -128,7 +135,7 @@ fn run(
     others: &[i64; Format::MAX_VARIABLES],
     stops: &[i64; Format::MAX_VARIABLES],
     model: &mut [i64; Format::MAX_VARIABLES],
-) -> Ending
+) -> Result<(), NoModel>
     requires accepted_as { AcceptedAs file.now counts }
     requires fits_ranges { FitsRanges file.now (valued lows.now) (valued highs.now) }
     requires at_others { AtOthers file.now (valued lows.now) (valued highs.now) others.now }
@@ -146,8 +153,8 @@ fn run(
     let climbed = climb(file, counts, &mut sides, stops, full);
     values_of(file, n, &sides, model);
     match climbed {
-        Climbed::Ended(ending) => ending,
-        Climbed::Open => finish(file, counts, lows, highs, others, stops, model),
+        Some(ending) => ending,
+        None => finish(file, counts, lows, highs, others, stops, model),
     }
 }
 
@@ -170,12 +177,12 @@ fn bound(
     let mut stops = [0i64; Format::MAX_VARIABLES];
     let mut model = [0i64; Format::MAX_VARIABLES];
     ranges::set_ends(file, n, lows, highs, &mut others, &mut stops);
-    run(file, counts, lows, highs, &others, &stops, &mut model);
+    let _ = run(file, counts, lows, highs, &others, &stops, &mut model);
     write_values(&model, n, buffer);
 }
 
 // Ranges of the right length.
-fn bound_ranges(file: &[u8], ranges: &[u8], buffer: &mut [u8], counts: Counts) -> Bounding
+fn bound_ranges(file: &[u8], ranges: &[u8], buffer: &mut [u8], counts: Counts) -> Result<(), Denied>
     requires accepted_as { AcceptedAs file.now counts }
     requires ranges_len { length ranges.now ≡ range_bytes * counts.variables }
     ensures { BoundsCall file.now ranges.now buffer.old (answer_of result) buffer.new }
@@ -185,32 +192,30 @@ fn bound_ranges(file: &[u8], ranges: &[u8], buffer: &mut [u8], counts: Counts) -
     let mut highs = [0i64; Format::MAX_VARIABLES];
     ranges::load(ranges, &mut lows, &mut highs);
     if !ranges::all_fit(file, n, &lows, &highs) {
-        return Bounding::Refused(Denied::Ranges);
+        return Err(Denied::Ranges);
     }
     if buffer.len() < Asks::BYTES * n {
-        return Bounding::Refused(Denied::Buffer);
+        return Err(Denied::Buffer);
     }
     bound(file, counts, &lows, &highs, buffer);
-    Bounding::Bounded
+    Ok(())
 }
 
 // A file that is accepted with these counts.
-fn bound_file(file: &[u8], ranges: &[u8], buffer: &mut [u8], counts: Counts) -> Bounding
+fn bound_file(file: &[u8], ranges: &[u8], buffer: &mut [u8], counts: Counts) -> Result<(), Denied>
     requires { AcceptedAs file.now counts }
     ensures { BoundsCall file.now ranges.now buffer.old (answer_of result) buffer.new }
 {
     if ranges.len() != Asks::RANGE * counts.variables {
-        return Bounding::Refused(Denied::Assignment);
+        return Err(Denied::Assignment);
     }
     bound_ranges(file, ranges, buffer, counts)
 }
 
 // How far each founded variable can still be lifted inside the ranges, written from the buffer's first byte on, for every file, ranges and buffer.
-pub fn bounds(file: &[u8], ranges: &[u8], buffer: &mut [u8]) -> Bounding
+pub fn bounds(file: &[u8], ranges: &[u8], buffer: &mut [u8]) -> Result<(), Denied>
     ensures { BoundsCall file.now ranges.now buffer.old (answer_of result) buffer.new }
 {
-    match reader::read(file) {
-        Reading::Refused(why, at) => Bounding::Refused(Denied::File(why, at)),
-        Reading::Accepted(counts) => bound_file(file, ranges, buffer, counts),
-    }
+    let counts = reader::read(file)?;
+    bound_file(file, ranges, buffer, counts)
 }

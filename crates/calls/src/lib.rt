@@ -7,8 +7,8 @@ ghost use Rattle.program.specs.Reading.{AcceptedAs};
 ghost use Rattle.meaning.specs.Calls.{denial_number, denial_place, Opened};
 ghost use Rattle.calls.specs.Asked.{most_asked};
 
-use meaning::{Denied, Opening};
-use program::{Counts, Reading};
+use meaning::Denied;
+use program::Counts;
 
 // The number of a call's refusal, and its place.
 pub fn denial_number(why: Denied) -> usize
@@ -40,27 +40,25 @@ pub fn denial_place(why: Denied) -> usize
 }
 
 // A file that is accepted with these counts.
-fn fitted(assignment: &[u8], room: usize, bytes: usize, counts: Counts) -> Opening
+fn fitted(assignment: &[u8], room: usize, bytes: usize, counts: Counts) -> Result<Counts, Denied>
     requires { (bytes ≤ most_asked) × (counts.variables ≤ max_variables) }
     ensures { (s b : List ℕ) → length b ≡ room → AcceptedAs s counts → Opened bytes s assignment.now b result }
 {
     let n = counts.variables;
     if assignment.len() != 2 * n {
-        return Opening::Closed(Denied::Assignment);
+        return Err(Denied::Assignment);
     }
     if room < bytes * n {
-        return Opening::Closed(Denied::Buffer);
+        return Err(Denied::Buffer);
     }
-    Opening::Open(counts)
+    Ok(counts)
 }
 
 // So many bytes for each variable are asked of a buffer that has `room`.
-pub fn open(file: &[u8], assignment: &[u8], room: usize, bytes: usize) -> Opening
+pub fn open(file: &[u8], assignment: &[u8], room: usize, bytes: usize) -> Result<Counts, Denied>
     requires { bytes ≤ most_asked }
     ensures { (b : List ℕ) → length b ≡ room → Opened bytes file.now assignment.now b result }
 {
-    match reader::read(file) {
-        Reading::Refused(why, at) => Opening::Closed(Denied::File(why, at)),
-        Reading::Accepted(counts) => fitted(assignment, room, bytes, counts),
-    }
+    let counts = reader::read(file)?;
+    fitted(assignment, room, bytes, counts)
 }

@@ -4,7 +4,7 @@
 ghost use Rattle.std.specs.Prelude.{◌≤◌, length};
 
 use guarding::patterned;
-use parsing::{Line, again, is_said, next};
+use parsing::{Case, Line, again, is_said, next};
 use showing::{opened, show};
 use std::io;
 use std::io::Write;
@@ -31,8 +31,8 @@ fn case<W: Write>(out: &mut W, room: &mut [u8], bytes: &[u8], line: Line) -> io:
     requires to_in_bounds { line.to ≤ length room.old }
 {
     let file = line.file;
-    if line.letter == b'b' {
-        return searched(out, &bytes[0..file], line.from, line.to);
+    if line.case == Case::Begin {
+        return searched(out, &bytes[..file], line.from, line.to);
     }
     once(out, room, bytes, line)?;
     if is_said(line) {

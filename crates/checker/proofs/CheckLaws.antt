@@ -1,4 +1,5 @@
 -- The call check, from a file that was accepted.
+use Rattle.std.specs.Prelude.{Some, None}
 use Prim.Native.Nat.{ℕ, ◌*◌, ◌≤◌}
 use mathlib.Core.Path.{◌≡◌, subst}
 use mathlib.Core.List.{List}
@@ -13,7 +14,6 @@ use Rattle.meaning.specs.Founded.{Within}
 use Rattle.meaning.specs.Reduct.{system}
 use Rattle.meaning.specs.Stable.{assigned}
 use Rattle.reduct.specs.Filling.{OutsideIs}
-use Rattle.reduct.specs.declared.loading.Outside.TheVariants.{At, Nowhere}
 use Rattle.reader.proofs.Published.{reads_accepts, variables_are}
 use Rattle.calls.proofs.Turned.{called}
 use Rattle.reduct.proofs.AssignedLaws.{right_range, in_ranges}
@@ -32,12 +32,12 @@ module _ (s : List ℕ) (k : Counts) (r : AcceptedAs s k) where
     enough : 2 * k.variables ≤ length b
     enough = omega arith
 
-    pub out_of_range : (v : ℕ) → OutsideIs (variables_at s k.variables) θ k.variables (At v) → Checks s a b (range v) b
+    pub out_of_range : (v : ℕ) → OutsideIs (variables_at s k.variables) θ k.variables (Some v) → Checks s a b (range v) b
     out_of_range v o =
         let x = reads_accepts r in
         judged (called s k r a b check_bytes e h) (outside (first_outside x.meant s k.variables (assigned a) (variables_are r x.accepts) (rw p at o)))
 
-    pub all_within : OutsideIs (variables_at s k.variables) θ k.variables Nowhere → (P : Program) → Accepts s P → Within (system P) θ
+    pub all_within : OutsideIs (variables_at s k.variables) θ k.variables None → (P : Program) → Accepts s P → Within (system P) θ
     all_within o = in_ranges s k r a e (right_range s k r a θ p o) θ p
 
     pub checked : {x : Answer} {b' : List ℕ} → ((P : Program) → Accepts s P → Judged P θ b x b') → Checks s a b x b'

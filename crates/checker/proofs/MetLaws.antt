@@ -1,4 +1,5 @@
 -- The rules and constraints of a file, looked at one after the other.
+use Rattle.std.specs.Prelude.{Option, Some, None}
 use Prim.Native.Nat.{ℕ, ◌+◌, ◌<◌, ◌≤◌}
 use mathlib.Core.Path.{◌≡◌, sym, ap, subst, ◌∙◌}
 use mathlib.Core.Bool.{Bool, true, false}
@@ -21,8 +22,6 @@ use Rattle.reader.specs.Parts.{constraint_place, ConstraintLies}
 use Rattle.reader.proofs.Published.{counts_of_is, constraint_lies, next_constraint, first_constraint}
 use Rattle.run.specs.Running.{head_of, RuleMetIn, Exceeds}
 use Rattle.ascent.specs.Ascending.{FirstMore, NoneMore}
-use Rattle.words.specs.declared.Found.{Found}
-use Rattle.words.specs.declared.Found.TheVariants.{At, Nothing}
 use Rattle.verdict.specs.Checks.{FirstUnmet}
 use Rattle.checker.specs.Met.{UnmetIs, RulesAre}
 use Rattle.checker.specs.declared.rules.Rules.{Rules}
@@ -77,11 +76,11 @@ module _ {s : List ℕ} {n m c : ℕ} (r : Reads s (accepted n m c)) {P : Progra
 
 -- ---- what a search found
 
-module _ (Met : ℕ → Type 0) {n : ℕ} {f : Found} (u : UnmetIs Met n f) where
-  pub unmet_at : {i : ℕ} → f ≡ At i → FirstUnmet Met n i
+module _ (Met : ℕ → Type 0) {n : ℕ} {f : Option ℕ} (u : UnmetIs Met n f) where
+  pub unmet_at : {i : ℕ} → f ≡ Some i → FirstUnmet Met n i
   unmet_at e = rw e at u
 
-  pub unmet_none : f ≡ Nothing → (i : ℕ) → i < n → Met i
+  pub unmet_none : f ≡ None → (i : ℕ) → i < n → Met i
   unmet_none e = rw e at u
 
 -- and a search of the rules

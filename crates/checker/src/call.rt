@@ -1,5 +1,5 @@
 // The call check.
-ghost use Rattle.std.specs.Prelude.{◌≡◌, ℕ, ◌*◌, ◌<◌, ◌≤◌, length};
+ghost use Rattle.std.specs.Prelude.{◌≡◌, ℕ, ◌*◌, ◌<◌, ◌≤◌, length, Ok};
 ghost use Rattle.program.specs.Program.{Program};
 ghost use Rattle.program.specs.Reading.{AcceptedAs, Accepts};
 ghost use Rattle.meaning.specs.Founded.{Within};
@@ -17,13 +17,11 @@ use crate::rules::{Rules, first_unmet_rule};
 use calls::open;
 use comparison::comparing::compare;
 use format::Format;
-use meaning::Opening;
+use meaning::Denied;
 use program::Counts;
 use reduct::loading;
-use reduct::loading::Outside;
 use sided::Sides;
 use verdict::Verdict;
-use words::Found;
 
 // What the call asks of its report.
 #[derive(Drop)]
@@ -54,12 +52,12 @@ fn check_constraints(
     requires within { (P : Program) → Accepts file.now P → Within (system P) (valued values.now) }
     requires rule_met { (P : Program) → Accepts file.now P → (i : ℕ) → i < length P.rules → RuleMet P (valued values.now) i }
     requires variables_in_bounds { check_bytes * counts.variables ≤ length report.old }
-    ensures { (P : Program) → Accepts file.now P → Judged P (valued values.now) report.old (answer_of result) report.new }
+    ensures { (P : Program) → Accepts file.now P → Judged P (valued values.now) report.old (answer_of (Ok result)) report.new }
 {
     let unmet = first_unmet_constraint(file, start, counts, values);
     match unmet {
-        Found::At(i) => Verdict::Constraint(i),
-        Found::Nothing => compare(file, counts, values, sides, report),
+        Some(i) => Verdict::Constraint(i),
+        None => compare(file, counts, values, sides, report),
     }
 }
 
@@ -73,7 +71,7 @@ fn check_rules(
     requires accepted_as { AcceptedAs file.now counts }
     requires within { (P : Program) → Accepts file.now P → Within (system P) (valued values.now) }
     requires variables_in_bounds { check_bytes * counts.variables ≤ length report.old }
-    ensures { (P : Program) → Accepts file.now P → Judged P (valued values.now) report.old (answer_of result) report.new }
+    ensures { (P : Program) → Accepts file.now P → Judged P (valued values.now) report.old (answer_of (Ok result)) report.new }
 {
     let mut sides = [0i64; Sides::LENGTH];
     let rules = first_unmet_rule(file, counts, values, &mut sides);
@@ -87,25 +85,23 @@ fn check_rules(
 fn check_ranges(file: &[u8], assignment: &[u8], report: &mut [u8], counts: Counts) -> Verdict
     requires accepted_as { AcceptedAs file.now counts }
     requires assignment_len { (length assignment.now ≡ 2 * counts.variables) × (check_bytes * counts.variables ≤ length report.old) }
-    ensures { Checks file.now assignment.now report.old (answer_of result) report.new }
+    ensures { Checks file.now assignment.now report.old (answer_of (Ok result)) report.new }
 {
     let n = counts.variables;
     let mut loaded = [0i64; Format::MAX_VARIABLES];
     loading::load(assignment, &mut loaded);
     let outside = loading::first_outside(file, n, &loaded);
     match outside {
-        Outside::At(v) => Verdict::Range(v),
-        Outside::Nowhere => check_rules(file, counts, &loaded, report),
+        Some(v) => Verdict::Range(v),
+        None => check_rules(file, counts, &loaded, report),
     }
 }
 
 // The verdict on an assignment, and for an unfounded one the report, from its first byte on, for every file, assignment and lent report.
-pub fn check(file: &[u8], assignment: &[u8], report: &mut [u8]) -> Verdict
+pub fn check(file: &[u8], assignment: &[u8], report: &mut [u8]) -> Result<Verdict, Denied>
     ensures checks { Checks file.now assignment.now report.old (answer_of result) report.new }
     ensures demands { Demands file.now assignment.now report.old (answer_of result) report.new }
 {
-    match open(file, assignment, report.len(), Asks::BYTES) {
-        Opening::Closed(why) => Verdict::Refused(why),
-        Opening::Open(counts) => check_ranges(file, assignment, report, counts),
-    }
+    let counts = open(file, assignment, report.len(), Asks::BYTES)?;
+    Ok(check_ranges(file, assignment, report, counts))
 }

@@ -12,7 +12,6 @@ use evaluation::constraints;
 use format::Format;
 use parts::places::{next_at, value_at};
 use program::Counts;
-use words::Found;
 
 // The first constraint that is not met, or that there is none; the first of all stands at `start`.
 pub fn first_unmet_constraint(
@@ -20,7 +19,7 @@ pub fn first_unmet_constraint(
     start: usize,
     counts: Counts,
     assigned: &[i64; Format::MAX_VARIABLES],
-) -> Found
+) -> Option<usize>
     requires accepted_as { AcceptedAs file.now counts }
     requires start_value { (P : Program) → Accepts file.now P → start ≡ constraint_place file.now P 0 }
     requires small { Small assigned.now }
@@ -28,13 +27,11 @@ pub fn first_unmet_constraint(
 {
     let n = counts.constraints;
     let mut at = start;
-    let mut i = 0;
-    while i < n {
+    for i in 0..n {
         if !constraints::satisfied(value_at(file, at), assigned) {
-            return Found::At(i);
+            return Some(i);
         }
         at = next_at(file, at);
-        i += 1;
     }
-    Found::Nothing
+    None
 }

@@ -1,4 +1,5 @@
 -- The least model compared with the assignment: what the code's sets and counts say.
+use Rattle.std.specs.Prelude.{Result, Ok, Err}
 use Prim.Native.Nat.{ℕ, zero, suc, ◌+◌, ◌*◌, ◌<◌, ◌≤◌}
 use mathlib.Core.Path.{◌≡◌, refl, sym, ap, ap₂, subst, ◌∙◌}
 use mathlib.Core.Bool.{Bool, true, false, not, ◌&&◌}
@@ -23,8 +24,6 @@ use Rattle.meaning.specs.Founded.{Model, Least}
 use Rattle.meaning.specs.Reduct.{reduct, system}
 use Rattle.meaning.specs.Stable.{Meets}
 use Rattle.run.specs.Running.{EndsWith}
-use Rattle.run.specs.declared.Ending.{Ending}
-use Rattle.run.specs.declared.Ending.TheVariants as ending
 use Rattle.meaning.proofs.InRanges.{founded_declared, past_zero, within_small}
 use Rattle.meaning.proofs.Theory.{self_model, self_least_iff}
 use Rattle.meaning.proofs.Monotone.{laws}
@@ -43,6 +42,7 @@ use Rattle.program.specs.declared.Variable.{Variable}
 use Rattle.program.specs.Evaluable.{Small}
 use Rattle.program.proofs.Tests.{cases, is_true, is_test}
 use Rattle.program.proofs.Variables.{short_founded}
+use Rattle.run.specs.declared.NoModel.{NoModel}
 
 -- ---- counts
 
@@ -114,9 +114,9 @@ module _ {P : Program} (promised : Promises P) where
 -- ---- the verdict
 
 -- the run ends in the least model
-pub ends_least : (P : Program) {θ m : Valuation} → Meets P θ → (r : Ending) → EndsWith P (reduct P) θ m r → Least (system P) θ m
-ends_least P t ending.Model l = l
-ends_least P {θ} t ending.NoModel n = absurd (n θ (self_model t.ranges t.rules))
+pub ends_least : (P : Program) {θ m : Valuation} → Meets P θ → (r : Result (Unit {0}) NoModel) → EndsWith P (reduct P) θ m r → Least (system P) θ m
+ends_least P t (Ok _) l = l
+ends_least P {θ} t (Err _) n = absurd (n θ (self_model t.ranges t.rules))
 
 module _ {P : Program} (promised : Promises P) (few : length P.variables ≤ max_variables) {θ m : Valuation} (meets : Meets P θ) (least : Least (system P) θ m)
     (set : ℕ → Bool) (is : (v : ℕ) → set v ≡ shown P θ m v) (b : List ℕ) where
@@ -173,13 +173,13 @@ module _ {P : Program} (promised : Promises P) (few : length P.variables ≤ max
         let y = count_few most n (λ v l. most_is v ∙ asked_past promised set asks_most v l) few in
         let z = count_few lower n (λ v l. least_is v ∙ asked_past promised set asks_least v l) few in omega (arith, parts_count)
 
-    pub all_shown : (count_from set 0 max_variables ≡ 0 → ⊥) → (b' : List ℕ) (r : Verdict) → ShowsSets below above most lower m θ b b' r → Judged P θ b (answer_of r) b'
+    pub all_shown : (count_from set 0 max_variables ≡ 0 → ⊥) → (b' : List ℕ) (r : Verdict) → ShowsSets below above most lower m θ b b' r → Judged P θ b (answer_of (Ok r)) b'
     all_shown some b' r w =
-        subst (λ (x : List ℕ). Judged P θ b (answer_of r) x) (sym bytes)
+        subst (λ (x : List ℕ). Judged P θ b (answer_of (Ok r)) x) (sym bytes)
         (subst (λ (x : Answer). Judged P θ b x (reported P θ m b)) (sym answer)
         (some_shown meets least (let v = count_some set 0 max_variables some in (v.0, subst (λ (p : ℕ → Bool). T (p v.0)) same_set v.1))))
       where
-        answer : answer_of r ≡ unfounded (length (bounds P θ m)) (length (conditions P θ m))
+        answer : answer_of (Ok r) ≡ unfounded (length (bounds P θ m)) (length (conditions P θ m))
         answer = w.answer ∙ ap₂ unfounded bounds_length conditions_length
 
         bytes : b' ≡ reported P θ m b
@@ -199,7 +199,7 @@ module _ (s : List ℕ) (k : Counts) (r : AcceptedAs s k) (θ : List ℤ)
   assigned_small = let a = reads_accepts r in within_small (accepts_promises a.accepts) θ (meets a.meant a.accepts).ranges
 
   -- the run has ended in m
-  module _ (m : List ℤ) (e : Ending) (ends : (P : Program) → Accepts s P → EndsWith P (reduct P) (valued θ) (valued m) e) (b : List ℕ) where
+  module _ (m : List ℤ) (e : Result (Unit {0}) NoModel) (ends : (P : Program) → Accepts s P → EndsWith P (reduct P) (valued θ) (valued m) e) (b : List ℕ) where
     least : (P : Program) (x : Accepts s P) → Least (system P) (valued θ) (valued m)
     least P x = ends_least P (meets P x) e (ends P x)
 
@@ -243,7 +243,7 @@ module _ (s : List ℕ) (k : Counts) (r : AcceptedAs s k) (θ : List ℤ)
 
         pub some_short : (count_from set 0 max_variables ≡ 0 → ⊥) → (b' : List ℕ) (v : Verdict)
             → ShowsSets (has parts.below.words) (has parts.above.words) most lower (valued m) (valued θ) b b' v
-            → (P : Program) → Accepts s P → Judged P (valued θ) b (answer_of v) b'
+            → (P : Program) → Accepts s P → Judged P (valued θ) b (answer_of (Ok v)) b'
         some_short q b' v w P x =
             all_shown (accepts_promises x) (few_in P x) (meets P x) (least P x) set (set_is P x) b _ _ (below_is P x) (above_is P x) most lower (most_is P x) (least_is P x)
             q b' v w

@@ -1,5 +1,5 @@
 -- A report that shows sets, and the answer with it.
-use Rattle.std.specs.Prelude.{ℕ, ◌+◌, ◌*◌, ◌≡◌, Bool, List, ◌++◌, drop}
+use Rattle.std.specs.Prelude.{ℕ, ◌+◌, ◌*◌, ◌≡◌, Bool, List, ◌++◌, drop, Ok}
 use Rattle.format.specs.Limits.{max_variables}
 use Rattle.words.specs.Bit.{count_from}
 use Rattle.report.specs.Report.{bytes_in, bound, bound_above, at_most, at_least}
@@ -23,5 +23,5 @@ with_sets below above most least m θ b =
 
 -- the answer and the report b' show them
 pub record ShowsSets (below above most least : ℕ → Bool) (m θ : Valuation) (b b' : List ℕ) (r : Verdict) : Type 0 where
-  pub answer : answer_of r ≡ unfounded (size_of below + size_of above) (size_of most + size_of least)
+  pub answer : answer_of (Ok r) ≡ unfounded (size_of below + size_of above) (size_of most + size_of least)
   pub bytes : b' ≡ with_sets below above most least m θ b

@@ -1,5 +1,5 @@
 // An assignment that lies in its ranges and meets every rule and constraint: stable or unfounded.
-ghost use Rattle.std.specs.Prelude.{◌≡◌, ◌*◌, ◌≤◌, length};
+ghost use Rattle.std.specs.Prelude.{◌≡◌, ◌*◌, ◌≤◌, length, Ok};
 ghost use Rattle.words.specs.Bit.{has};
 ghost use Rattle.program.specs.Program.{Program};
 ghost use Rattle.program.specs.Reading.{AcceptedAs, Accepts};
@@ -54,11 +54,12 @@ pub fn compare(
     requires level_past { LevelPast counts.variables (valued assigned.now) sides.old × (length sides.old ≡ sides_length) }
     requires meets { (P : Program) → Accepts file.now P → Meets P (valued assigned.now) }
     requires variables_in_bounds { check_bytes * counts.variables ≤ length report.old }
-    ensures { (P : Program) → Accepts file.now P → Judged P (valued assigned.now) report.old (answer_of result) report.new }
+    ensures { (P : Program) → Accepts file.now P → Judged P (valued assigned.now) report.old (answer_of (Ok result)) report.new }
 {
     let n = counts.variables;
     let mut model = [0i64; Format::MAX_VARIABLES];
-    run(file, counts, assigned, true, sides, &mut model);
+    // The assignment meets every rule, so there is a model.
+    let _ = run(file, counts, assigned, true, sides, &mut model);
     let set = short_set(file, n, assigned, &model);
     if set.count() == 0 {
         return Verdict::Stable;

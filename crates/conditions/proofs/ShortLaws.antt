@@ -1,58 +1,37 @@
 -- The founded variables whose value in the model comes before their assigned one, one variable after the other.
 use Prim.Native.Nat.{ℕ, ◌≤◌}
-use mathlib.Core.Path.{◌≡◌, refl, sym, ap, ap₂, ◌∙◌}
-use mathlib.Core.Bool.{Bool, true, false, not, cond, ◌||◌, ◌&&◌, and-true, and-false}
+use mathlib.Core.Path.{◌≡◌, refl, sym, ap, ◌∙◌}
+use mathlib.Core.Bool.{Bool, true, false, not, ◌&&◌, and-true, and-false}
 use mathlib.Core.List.{List}
 use native.Mathlib.Omega.{arith}
 use lib.Dec.{ltb}
-use lib.IntN.{ℤ}
 use lib.ListN.{get_or-eq_default}
 use borrow.Author.Tests.{ltb-true, ltb-false}
 use Rattle.program.specs.Tables.{any_below}
 use Rattle.program.specs.Program.{no_variable, variable_in, variables_at}
 use Rattle.program.proofs.Conditions.{none_below}
 use Rattle.report.specs.Written.{from_below_in, from_above_in}
-use Rattle.program.specs.Variables.{from_above, short}
+use Rattle.program.specs.Variables.{from_above}
 use Rattle.program.specs.Readings.{Valuation}
 use Rattle.program.specs.declared.Variable.{Variable}
 use Rattle.reader.proofs.Published.{variables_length}
 use Rattle.conditions.specs.Shortfall.{short_in, part_in}
 
 module _ (s : List ℕ) (n : ℕ) (θ m : Valuation) where
-  -- the record that was read is that of the variable
-  pub short_variable : (v : ℕ) {a b : ℤ} {x : Variable} → x ≡ variable_in (variables_at s n) v → a ≡ θ v → b ≡ m v → short x a b ≡ short_in (variables_at s n) θ m v
-  short_variable v e p q = rw (e, p, q)
-
   -- past the last variable stands a standard one
   short_past : (v : ℕ) → n ≤ v → short_in (variables_at s n) θ m v ≡ false
   short_past v h = rw (get_or-eq_default (variables_at s n) no_variable {n = v} (omega (arith, variables_length s n)))
 
-  pub short_all : {u : ℕ} {r : ℕ → Bool} → u ≡ n → ((v : ℕ) → r v ≡ (ltb v u && short_in (variables_at s n) θ m v)) → (v : ℕ) → r v ≡ short_in (variables_at s n) θ m v
-  short_all {u} e h v = h v ∙ go (ltb v u) refl
+  pub short_all : {r : ℕ → Bool} → ((v : ℕ) → r v ≡ (ltb v n && short_in (variables_at s n) θ m v)) → (v : ℕ) → r v ≡ short_in (variables_at s n) θ m v
+  short_all h v = h v ∙ go (ltb v n) refl
     where
-      go : (t : Bool) → ltb v u ≡ t → (t && short_in (variables_at s n) θ m v) ≡ short_in (variables_at s n) θ m v
+      go : (t : Bool) → ltb v n ≡ t → (t && short_in (variables_at s n) θ m v) ≡ short_in (variables_at s n) θ m v
       go true q = refl
-      go false q = let l : u ≤ v = ltb-false v u q in sym (short_past v (omega arith))
+      go false q = sym (short_past v (ltb-false v n q))
 
 -- ---- the parts of a set
 
 module _ (above : Bool) (vs : List Variable) (set : ℕ → Bool) where
-  -- whether variable v belongs to the part, by the record that was read
-  pub part_variable : (v : ℕ) {x : Variable} {down inside : Bool} → x ≡ variable_in vs v → down ≡ from_above x → inside ≡ set v
-      → (inside && ((down && above) || (not down && not above))) ≡ part_in above vs set v
-  part_variable v {x} e p q = ap₂ (λ (d i : Bool). i && ((d && above) || (not d && not above))) (p ∙ ap from_above e) q ∙ go above (set v) (from_above (variable_in vs v))
-    where
-      go : (a s d : Bool) → (s && ((d && a) || (not d && not a))) ≡ cond a (s && d) (s && not d)
-      go true true true = refl
-      go true true false = refl
-      go true false d = refl
-      go false true true = refl
-      go false true false = refl
-      go false false d = refl
-
-  pub part_done : {u n : ℕ} {r : ℕ → Bool} → u ≡ n → ((v : ℕ) → r v ≡ (ltb v u && part_in above vs set v)) → (v : ℕ) → r v ≡ (ltb v n && part_in above vs set v)
-  part_done e h = rw e at h
-
   pub part_all : {n : ℕ} {r : ℕ → Bool} → ((v : ℕ) → n ≤ v → set v ≡ false) → ((v : ℕ) → r v ≡ (ltb v n && part_in above vs set v)) → (v : ℕ) → r v ≡ part_in above vs set v
   part_all {n} past h v = h v ∙ go (ltb v n) refl
     where

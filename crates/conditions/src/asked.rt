@@ -41,12 +41,10 @@ pub fn asked(file: &[u8], counts: Counts, set: Set) -> Asked
         least: none,
     };
     let mut at = 8 * n;
-    let mut i = 0;
-    while i < rules {
+    for i in 0..rules {
         let next = ask_field(all, file, n, at, set);
         all = next;
         at = next_at(file, at);
-        i += 1;
     }
     all
 }

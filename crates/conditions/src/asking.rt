@@ -78,11 +78,9 @@ pub fn ask_rule(before: Asked, file: &[u8], variables: usize, value: &[u8], set:
     let rule = open_rule(file, variables, value);
     let n = rules::positions(value);
     let mut all = before;
-    let mut j = 0;
-    while j < n {
+    for j in 0..n {
         let next = ask_position(all, file, variables, value, rule, set, j);
         all = next;
-        j += 1;
     }
     all
 }

@@ -8,7 +8,7 @@ ghost use Rattle.program.specs.Variables.{from_above, short};
 ghost use Rattle.program.specs.Readings.{valued};
 ghost use Rattle.conditions.specs.Shortfall.{part_in, PartsAre};
 
-use crate::members::add_if;
+use crate::members;
 use format::Format;
 use parts::variables;
 use sets::Set;
@@ -24,17 +24,10 @@ pub fn short_set(
     ensures { (v : ℕ)
         → has result.words v ≡ short (variable_in (variables_at file.now variables) v) (valued assigned.now v) (valued model.now v) }
 {
-    let mut words = [0u64; Set::WORDS];
-    let mut v = 0;
-    while v < variables {
-        let given = assigned[v];
-        let least = model[v];
+    members::passing(variables, |v| {
         let variable = variables::variable(file, v as u8);
-        let short = variable.is_short(given, least);
-        add_if(&mut words, v, short);
-        v += 1;
-    }
-    Set { words: words }
+        variable.is_short(assigned[v], model[v])
+    })
 }
 
 // A set in two parts: the variables that are not founded from above, and those that are.
@@ -49,15 +42,13 @@ fn any_above(file: &[u8], variables: usize) -> bool
     requires { (8 * variables ≤ length file.now) × (variables ≤ max_variables) }
     ensures { result ≡ any_below variables (λ v. from_above (variable_in (variables_at file.now variables) v)) }
 {
-    let mut found = false;
-    let mut v = 0;
-    while v < variables {
+    for v in 0..variables {
         let variable = variables::variable(file, v as u8);
-        let above = variable.is_from_above();
-        found = found | above;
-        v += 1;
+        if variable.is_from_above() {
+            return true;
+        }
     }
-    found
+    false
 }
 
 // The members of a set that are founded from above, where `above` says so, or the others.
@@ -65,18 +56,13 @@ fn part(file: &[u8], variables: usize, set: Set, above: bool) -> Set
     requires { (8 * variables ≤ length file.now) × (variables ≤ max_variables) }
     ensures { (v : ℕ) → has result.words v ≡ (ltb v variables && part_in above (variables_at file.now variables) (has set.words) v) }
 {
-    let mut words = [0u64; Set::WORDS];
-    let mut v = 0;
-    while v < variables {
+    members::passing(variables, |v| {
         let x = v as u8;
         let variable = variables::variable(file, x);
         let down = variable.is_from_above();
-        let inside = set.contains(x);
         let wanted = (down & above) | (!down & !above);
-        add_if(&mut words, v, inside & wanted);
-        v += 1;
-    }
-    Set { words: words }
+        set.contains(x) & wanted
+    })
 }
 
 // Both parts of a set of the file's variables; a file without variables founded from above pays no search for them.

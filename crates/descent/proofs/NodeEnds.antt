@@ -1,4 +1,5 @@
 -- A node from its two bytes on: what it is, and where it ends.
+use Rattle.std.specs.Prelude.{Option, Some, None}
 use Prim.Native.Nat.{ℕ, zero, suc, ◌+◌, ◌-◌, ◌<◌}
 use mathlib.Core.Path.{◌≡◌, refl, ap, ◌∙◌, subst}
 use mathlib.Core.Bool.{Bool, true, false, cond}
@@ -10,8 +11,6 @@ use borrow.Author.Tests.{eq-eqb, ne_eqb}
 use Rattle.trees.specs.Tree.{Front, nothing, ◌then◌, map_front, several, tree_in, Tree, leaf, inner, inner_bytes}
 use Rattle.trees.proofs.TwoBytes.{drop_two, drop_less}
 use Rattle.descent.specs.Ends.{Ended, Ends}
-use Rattle.descent.specs.declared.End.{End}
-use Rattle.descent.specs.declared.End.TheVariants.{Malformed, At}
 
 -- a tree of a level and l more, the two bytes being a and b
 abbrev node_in : (l : ℕ) → Bool → Bool → ℕ → ℕ → List ℕ → Front (Tree (suc l))
@@ -49,17 +48,17 @@ module _ (s : List ℕ) (at : ℕ) where
     not_node zero e f = refl
     not_node (suc l) e f = node_is l ∙ simp (ne_eqb a 0 e, f)
 
-    pub inner_ends : (l : ℕ) (r : End) → (l ≡ 0 → ⊥) → (a ≡ 0 → ⊥) → inner_bytes a b ≡ true → Ends (several (tree_in (l - 1)) b (drop (at + 2) s)) s (at + 2) r
+    pub inner_ends : (l : ℕ) (r : Option ℕ) → (l ≡ 0 → ⊥) → (a ≡ 0 → ⊥) → inner_bytes a b ≡ true → Ends (several (tree_in (l - 1)) b (drop (at + 2) s)) s (at + 2) r
         → Ends (tree_in l (drop at s)) s at r
     inner_ends zero r z e f w = absurd (z refl)
     inner_ends (suc l) r z e f w =
         let q : suc l - 1 ≡ l = omega arith in
         go r (subst (λ (k : ℕ). Ends (several (tree_in k) b (drop (at + 2) s)) s (at + 2) r) q w) (node_is l ∙ simp (ne_eqb a 0 e, f))
       where
-        go : (r : End) → Ends (several (tree_in l) b (drop (at + 2) s)) s (at + 2) r
+        go : (r : Option ℕ) → Ends (several (tree_in l) b (drop (at + 2) s)) s (at + 2) r
             → tree_in (suc l) (drop at s) ≡ map_front (λ ts. inner a ts) (several (tree_in l) b (drop (at + 2) s)) → Ends (tree_in (suc l) (drop at s)) s at r
-        go Malformed w p = p ∙ ap (map_front (λ ts. inner a ts)) w
-        go (At n) w p = record {
+        go None w p = p ∙ ap (map_front (λ ts. inner a ts)) w
+        go (Some n) w p = record {
           what = inner a w.what;
           is = p ∙ ap (map_front (λ ts. inner a ts)) w.is;
           from = let k = w.from in omega arith;

@@ -1,4 +1,5 @@
 -- Several read one after the other.
+use Rattle.std.specs.Prelude.{Option, Some, None}
 use Prim.Native.Nat.{ℕ, suc, ◌+◌, ◌-◌, ◌<◌, ◌≤◌}
 use mathlib.Core.Path.{◌≡◌, refl, ap, ◌∙◌, subst}
 use mathlib.Core.List.{List, [], ◌∷◌}
@@ -6,8 +7,6 @@ use lib.ListN.{length, drop}
 use native.Mathlib.Omega.{arith}
 use Rattle.trees.specs.Tree.{Front, nothing, ◌then◌, map_front, next, several}
 use Rattle.descent.specs.Ends.{Ended, Ends}
-use Rattle.descent.specs.declared.End.{End}
-use Rattle.descent.specs.declared.End.TheVariants.{Malformed, At}
 
 map_id : {A : Type 0} (f : Front A) → f ≡ map_front (λ x. x) f
 map_id nothing = refl
@@ -48,11 +47,11 @@ module _ {A : Type 0} (one : List ℕ → Front A) (s : List ℕ) (at n : ℕ) w
         ∙ ap (λ (k : ℕ). map_front m.before (several one k (drop end s))) q
         ∙ ap (λ (f : Front A). map_front m.before (next f onto)) e
 
-    module _ (r : End) (h : i < n) (w : Ends (one (drop end s)) s end r) where
-      pub read_stopped : r ≡ Malformed → several one n (drop at s) ≡ nothing
+    module _ (r : Option ℕ) (h : i < n) (w : Ends (one (drop end s)) s end r) where
+      pub read_stopped : r ≡ None → several one n (drop at s) ≡ nothing
       read_stopped q = rest_next h (subst (Ends (one (drop end s)) s end) q w)
 
-      pub read_more : (e : ℕ) → r ≡ At e → Reading one s at n e (i + 1)
+      pub read_more : (e : ℕ) → r ≡ Some e → Reading one s at n e (i + 1)
       read_more e q =
           let v : Ended (one (drop end s)) s end e = subst (Ends (one (drop end s)) s end) q w in
           record {

@@ -5,13 +5,6 @@ ghost use Rattle.std.specs.Prelude.{◌≡◌, ◌≤◌, length, drop};
 ghost use Rattle.trees.specs.Tree.{inner_bytes, several, tree_in, max_levels, max_children};
 ghost use Rattle.descent.specs.Ends.{Ends};
 
-// Where a tree ends, if it is one.
-#[derive(Clone, Copy)]
-pub enum End {
-    Malformed,
-    At(usize),
-}
-
 #[derive(Drop)]
 pub struct Limits {}
 
@@ -44,39 +37,39 @@ fn is_inner(form: u8, n: u8) -> bool
 
 // The tree of at most so many levels that begins at `at`.
 #[cycle(children_node)]
-pub fn node(s: &[u8], at: usize, levels: usize) -> End
+pub fn node(s: &[u8], at: usize, levels: usize) -> Option<usize>
     requires { at ≤ length s.now }
     ensures { Ends (tree_in levels (drop at s.now)) s.now at result }
 {
     if levels == 0 {
-        return End::Malformed;
+        return None;
     }
     if s.len() - at < 2 {
-        return End::Malformed;
+        return None;
     }
     let form = s[at];
     let n = s[at + 1];
     if form == 0 {
-        return End::At(at + 2);
+        return Some(at + 2);
     }
     if !is_inner(form, n) {
-        return End::Malformed;
+        return None;
     }
     children(s, at + 2, n as usize, levels - 1)
 }
 
 // n trees of at most so many levels, one after the other from `at` on.
 #[cycle(children_node)]
-fn children(s: &[u8], at: usize, n: usize, levels: usize) -> End
+fn children(s: &[u8], at: usize, n: usize, levels: usize) -> Option<usize>
     requires { at ≤ length s.now }
     ensures { Ends (several (tree_in levels) n (drop at s.now)) s.now at result }
 {
     let mut end = at;
-    for i in 0..n {
-        let End::At(next) = node(s, end, levels) else {
-            return End::Malformed;
+    for _ in 0..n {
+        let Some(next) = node(s, end, levels) else {
+            return None;
         };
         end = next;
     }
-    End::At(end)
+    Some(end)
 }

@@ -1,5 +1,5 @@
 -- The positions of one rule, and rows that take in edges, case by case.
-use Prim.Native.Nat.{ℕ, ◌+◌}
+use Prim.Native.Nat.{ℕ, ◌+◌, ◌<◌}
 use mathlib.Core.Path.{◌≡◌, refl, sym, ap, ap₂, ◌∙◌, subst}
 use mathlib.Core.List.{List}
 use mathlib.Core.Bool.{Bool, true, false, ◌||◌, ◌&&◌, or-false, or_comm, or_assoc}
@@ -11,7 +11,7 @@ use Rattle.program.specs.Program.{Rule, variable_in, term_in}
 use Rattle.program.specs.Variables.{is_founded}
 use Rattle.program.specs.Directions.{direction, is_mixed}
 use Rattle.program.specs.Readings.{body_variable}
-use Rattle.program.proofs.Conditions.{any_next}
+use Rattle.program.proofs.Conditions.{any_next, below_some}
 use Rattle.program.proofs.Tests.{eqb_swap}
 use Rattle.program.specs.declared.Term.{Term}
 use Rattle.positions.specs.Positions.{PositionIs}
@@ -56,6 +56,10 @@ marked_as p q m = rw (p, q) at m
 -- ---- one rule
 
 module _ (vs : List Variable) (r : Rule) where
+  pub mixed_some : {i : ℕ} → i < length r.terms → is_mixed (direction vs r i) ≡ true → true ≡ any_mixed vs r
+  unfolding any_mixed
+  mixed_some {i} h e = sym (below_some (length r.terms) (λ j. is_mixed (direction vs r j)) i h e)
+
   pub mixed_done : {i : ℕ} {f : Bool} → i ≡ length r.terms → f ≡ any_below i (λ j. is_mixed (direction vs r j)) → f ≡ any_mixed vs r
   unfolding any_mixed
   mixed_done e h = rw e at h
@@ -63,6 +67,10 @@ module _ (vs : List Variable) (r : Rule) where
   pub draws_done : {i : ℕ} {t t' : ℕ → ℕ → Bool} → i ≡ length r.terms → Grown t t' (λ a b. any_below i (λ j. draws_at vs r j a b)) → Grown t t' (draws_in vs r)
   unfolding draws_in
   draws_done e g = grown_done (draws_at vs r) e g
+
+  pub offends_some : (t : ℕ → ℕ → Bool) {i : ℕ} → i < length r.terms → offends_at t vs r i ≡ true → true ≡ offends_in t vs r
+  unfolding offends_in
+  offends_some t {i} h e = sym (below_some (length r.terms) (offends_at t vs r) i h e)
 
   pub offends_done : (t : ℕ → ℕ → Bool) {i : ℕ} {f : Bool} → i ≡ length r.terms → f ≡ any_below i (offends_at t vs r) → f ≡ offends_in t vs r
   unfolding offends_in

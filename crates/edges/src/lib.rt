@@ -56,11 +56,8 @@ fn mark_by_direction(
     ensures rows_len_2 { length rows.new ≡ rows_length }
     ensures grown { Grown (row_has rows.old) (row_has rows.new) (draws_in (variables_at file.now variables) (rule_of value.now)) }
 {
-    let n = rules::positions(value);
-    let mut i = 0;
-    while i < n {
+    for i in 0..rules::positions(value) {
         mark_position(rows, file, variables, value, rule, i);
-        i += 1;
     }
 }
 
@@ -105,12 +102,9 @@ fn mark_by_kind(
     let kinds = kinds::kinds_of(rule.form, rule.variable);
     let head = format::wide(rule.head);
     let body = rules::body(value);
-    let n = rules::positions(value);
-    let mut i = 0;
-    while i < n {
+    for i in 0..rules::positions(value) {
         let t = terms::term(body, i);
         mark_term(rows, file, kinds, head, t);
-        i += 1;
     }
 }
 

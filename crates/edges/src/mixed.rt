@@ -30,15 +30,12 @@ pub fn is_mixed(file: &[u8], variables: usize, value: &[u8]) -> bool
     ensures { result ≡ any_mixed (variables_at file.now variables) (rule_of value.now) }
 {
     let rule = open_rule(file, variables, value);
-    let n = rules::positions(value);
-    let mut i = 0;
-    let mut found = false;
-    while i < n {
-        let mixed = is_mixed_position(file, variables, value, rule, i);
-        found = found | mixed;
-        i += 1;
+    for i in 0..rules::positions(value) {
+        if is_mixed_position(file, variables, value, rule, i) {
+            return true;
+        }
     }
-    found
+    false
 }
 
 // Whether position i is mixed and its variable shares the head's component.
@@ -73,13 +70,10 @@ pub fn offends(rows: &[u64], file: &[u8], variables: usize, value: &[u8]) -> boo
     ensures { result ≡ offends_in (row_has rows.now) (variables_at file.now variables) (rule_of value.now) }
 {
     let rule = open_rule(file, variables, value);
-    let n = rules::positions(value);
-    let mut i = 0;
-    let mut found = false;
-    while i < n {
-        let one = offends_position(rows, file, variables, value, rule, i);
-        found = found | one;
-        i += 1;
+    for i in 0..rules::positions(value) {
+        if offends_position(rows, file, variables, value, rule, i) {
+            return true;
+        }
     }
-    found
+    false
 }

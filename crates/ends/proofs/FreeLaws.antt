@@ -1,4 +1,5 @@
 -- Rules that are undecided: only sizes are. The head of such a rule is raised to its stop, which the rule gives; so the values stay on the way.
+use Rattle.std.specs.Prelude.{Some}
 use Prim.Native.Nat.{ℕ, ◌+◌, ◌*◌, ◌<◌, ◌≤◌}
 use mathlib.Core.Path.{◌≡◌, refl, sym, ap, ap₂, ◌∙◌, subst}
 use mathlib.Core.Logic.{◌≢◌, ◌⊎◌, inl, inr}
@@ -21,7 +22,6 @@ use Rattle.program.specs.Directions.{by_range, is_mixed}
 use Rattle.program.specs.Readings.{Valuation, body_variable}
 use Rattle.program.specs.declared.Counts.{Counts}
 use Rattle.program.specs.declared.Direction.TheVariants.{Rising, Falling, Mixed}
-use Rattle.program.specs.declared.Given.TheVariants.{Value}
 use Rattle.program.specs.declared.Variable.{Variable}
 use Rattle.program.proofs.Conditions.{never, last_or, below_none}
 use Rattle.program.proofs.Forms.{read_as_sum, read_as_itself}
@@ -135,7 +135,7 @@ lent_stop x low high = lent_far x low high
 
 -- its head's stop, whatever it reads
 pub free_gives : (vs : List Variable) (low high : Valuation) (r : Rule) → undecided vs low high r ≡ true → (m : Valuation)
-    → lent_gives vs low high r m ≡ Value (stop_ends vs low high r.head)
+    → lent_gives vs low high r m ≡ Some (stop_ends vs low high r.head)
 unfolding stop_end
 free_gives vs low high r e m = lent_gives_is vs low high r m ∙ rw e
 

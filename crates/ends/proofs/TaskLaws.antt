@@ -1,4 +1,5 @@
 -- What a rule is found to give, by its mask and the ends of the ranges, is what it gives with lent ranges; so the run to the bounds is a run.
+use Rattle.std.specs.Prelude.{Some}
 use Prim.Native.Nat.{ℕ, ◌<◌}
 use mathlib.Core.Path.{◌≡◌, refl, sym, ap, ◌∙◌}
 use mathlib.Core.Logic.{◌⊎◌, inl, inr}
@@ -21,7 +22,6 @@ use Rattle.program.specs.Readings.{Valuation, body_variable, kept, valued}
 use Rattle.program.specs.Idle.{demanding, most_at}
 use Rattle.program.specs.declared.Direction.{Direction}
 use Rattle.program.specs.declared.Direction.TheVariants.{Rising, Falling, Mixed}
-use Rattle.program.specs.declared.Given.TheVariants.{Value}
 use Rattle.program.specs.declared.Variable.{Variable}
 use Rattle.program.proofs.Tests.{cases, and_both}
 use Rattle.program.proofs.Gives.{evaluate_same, promised_evaluable}
@@ -92,7 +92,7 @@ module _ (vs : List Variable) (low high : Valuation) (ordered : (v : ℕ) → T 
       h = variable_in vs r.head
 
       go : (b : Bool) → undecided vs low high r ≡ b
-          → cond b (Value end) (cut_off h end (evaluate r (lent_reading vs low high r (valued m)))) ≡ cond b (Value end) (cut_off h end (evaluate r (reading_of mask m others r.terms)))
+          → cond b (Some end) (cut_off h end (evaluate r (lent_reading vs low high r (valued m)))) ≡ cond b (Some end) (cut_off h end (evaluate r (reading_of mask m others r.terms)))
       go true e = refl
       go false e = ap (cut_off h end) (sym (evaluate_same r (reading_of mask m others r.terms) (lent_reading vs low high r (valued m)) (decided_as e mask k m others o s) ev))
 

@@ -93,10 +93,8 @@ pub fn free_heads(
 {
     let rules = counts.rules;
     let mut at = 8 * counts.variables;
-    let mut i = 0;
-    while i < rules {
+    for _ in 0..rules {
         free_rule(file, at, lows, highs, stops, sides);
         at = next_at(file, at);
-        i += 1;
     }
 }

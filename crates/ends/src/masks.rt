@@ -93,11 +93,9 @@ fn mask_by_direction(
     requires value_len_bound { length (rule_of value.now).terms ≤ max_terms }
     ensures { LentMask (variables_at file.now variables) (valued lows.now) (valued highs.now) (rule_of value.now) result }
 {
-    let mut i = rules::positions(value);
     let mut bits: u32 = 0;
     let mut free = false;
-    while 0 < i {
-        i -= 1;
+    for i in (0..rules::positions(value)).rev() {
         let way = way_at(file, variables, value, rule, i, lows, highs);
         bits = moved_up(bits, way.first);
         free = free | way.loose;
@@ -145,11 +143,9 @@ fn mask_by_kind(
 {
     let kinds = kinds::kinds_of(rule.form, rule.variable);
     let body = rules::body(value);
-    let mut i = rules::positions(value);
     let mut bits: u32 = 0;
     let mut free = false;
-    while 0 < i {
-        i -= 1;
+    for i in (0..rules::positions(value)).rev() {
         let t = terms::term(body, i);
         let way = way_of(file, kinds, t, lows, highs);
         bits = moved_up(bits, way.first);
@@ -219,10 +215,7 @@ pub fn set_masks(
     let n = counts.variables;
     let rules = counts.rules;
     let mut at = 8 * n;
-    let mut i = 0;
-    while i < rules {
-        let next = enter(file, n, at, i, lows, highs, offsets, masks);
-        at = next;
-        i += 1;
+    for i in 0..rules {
+        at = enter(file, n, at, i, lows, highs, offsets, masks);
     }
 }

@@ -51,15 +51,13 @@ pub fn all_fit(
     requires { (8 * variables ≤ length file.now) × (variables ≤ max_variables) }
     ensures { FitIs (variables_at file.now variables) (valued lows.now) (valued highs.now) variables result }
 {
-    let mut v = 0;
-    while v < variables {
+    for v in 0..variables {
         let low = lows[v];
         let high = highs[v];
         let x = variables::variable(file, v as u8);
         if !fits(x, low, high) {
             return false;
         }
-        v += 1;
     }
     true
 }

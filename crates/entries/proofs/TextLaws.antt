@@ -1,4 +1,5 @@
 -- The lines of an entry, of a report and of an answer.
+use Rattle.std.specs.Prelude.{Result}
 use Prim.Native.Nat.{ℕ, ◌+◌, ◌*◌, ◌≤◌, ◌<◌}
 use mathlib.Core.Path.{◌≡◌, refl, sym, ap, ◌∙◌, subst}
 use mathlib.Core.Bool.{Bool, true, false, cond}
@@ -10,6 +11,7 @@ use borrow.Author.Tests.{ne_eqb}
 use lib.IntN.{ℤ, nat_abs}
 use lib.ListN.{length, length-append}
 use Rattle.verdict.specs.Checks.{Answer, answer_of}
+use Rattle.meaning.specs.declared.Denied.{Denied}
 use Rattle.verdict.specs.declared.Verdict.{Verdict}
 use Rattle.verdict.specs.Demands.{variable_at, mark_at, number_at}
 use Rattle.text.specs.Decimal.{decimal, number}
@@ -100,9 +102,9 @@ abbrev pub Answered : Answer → List ℕ → ℕ → List ℕ → List ℕ → 
 Answered r b k c c' = Appends (text_of r b) 0 k c c' × (k ≤ first_most + entry_most * entries_of r)
 
 -- as a test told which answer it is
-module _ {d e : Verdict} (told : d ≡ e) (b : List ℕ) {k : ℕ} {c c' : List ℕ} where
+module _ {d e : Result Verdict Denied} (told : d ≡ e) (b : List ℕ) {k : ℕ} {c c' : List ℕ} where
   pub answered : Answered (answer_of e) b k c c' → Answered (answer_of d) b k c c'
-  answered w = subst (λ (x : Verdict). Answered (answer_of x) b k c c') (sym told) w
+  answered w = subst (λ (x : Result Verdict Denied). Answered (answer_of x) b k c c') (sym told) w
 
   pub answered_alone : entries_of (answer_of e) ≡ 0 → Appends (answer_line (answer_of e)) 0 k c c' → k ≤ first_most → Answered (answer_of d) b k c c'
   answered_alone none w h = answered (no-entries (answer_of e) b none w, omega arith)

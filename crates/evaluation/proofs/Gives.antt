@@ -1,4 +1,5 @@
 -- A rule by its header and the body that is handed on.
+use Rattle.std.specs.Prelude.{Some, None}
 use Prim.Native.Nat.{ℕ}
 use mathlib.Core.Path.{◌≡◌, refl, sym, ap, subst, ◌∙◌}
 use mathlib.Core.Bool.{Bool, true, false, cond}
@@ -12,7 +13,6 @@ use Rattle.program.specs.Evaluate.{all_hold, only_if, amount_of, amount, evaluat
 use Rattle.program.specs.Evaluable.{Plain, has_literals, EvaluableAs, Evaluable}
 use Rattle.program.specs.Variables.{not_past}
 use Rattle.program.specs.declared.Variable.{Variable}
-use Rattle.program.specs.declared.Given.TheVariants.{Nothing, Value}
 use Rattle.program.proofs.Gives.{given_is}
 use Rattle.program.proofs.Forms.{divided_by_one, read_as_sum, read_as_itself}
 use Rattle.parts.specs.Values.{HeaderIs, Handed}
@@ -26,28 +26,28 @@ no_literals form h k = simp (ne_eqb form 6 h, ne_eqb form 7 k)
 
 -- a rule whose literals do not all hold gives nothing
 module _ (r : Rule) (at : ℕ → ℤ) where
-  pub given_nothing : false ≡ all_hold r.terms at (length r.terms) → Nothing ≡ evaluate r at
+  pub given_nothing : false ≡ all_hold r.terms at (length r.terms) → None ≡ evaluate r at
   unfolding evaluate
   given_nothing e = rw (← e)
 
   -- ---- what is given, where it is past z
 
   module _ (x : Variable) (z : ℤ) where
-    pub past_nothing : false ≡ all_hold r.terms at (length r.terms) → Nothing ≡ past_only x z (evaluate r at)
+    pub past_nothing : false ≡ all_hold r.terms at (length r.terms) → None ≡ past_only x z (evaluate r at)
     unfolding past_only
     past_nothing e = ap (past_only x z) (given_nothing e)
 
-    pub past_before : {a : ℤ} → a ≡ amount r at → not_past x a z ≡ true → Nothing ≡ past_only x z (evaluate r at)
+    pub past_before : {a : ℤ} → a ≡ amount r at → not_past x a z ≡ true → None ≡ past_only x z (evaluate r at)
     unfolding evaluate past_only
     past_before {a} q e = go (all_hold r.terms at (length r.terms))
       where
-        go : (t : Bool) → Nothing ≡ past_only x z (only_if t (amount r at))
+        go : (t : Bool) → None ≡ past_only x z (only_if t (amount r at))
         go true = rw (← q, e)
         go false = refl
 
-    pub past_value : {a : ℤ} → true ≡ all_hold r.terms at (length r.terms) → a ≡ amount r at → not_past x a z ≡ false → Value a ≡ past_only x z (evaluate r at)
+    pub past_value : {a : ℤ} → true ≡ all_hold r.terms at (length r.terms) → a ≡ amount r at → not_past x a z ≡ false → Some a ≡ past_only x z (evaluate r at)
     unfolding past_only
-    past_value {a} m q e = sym (ap (λ (t : Bool). cond t Nothing (Value a)) e) ∙ ap (past_only x z) (given_is r at m q)
+    past_value {a} m q e = sym (ap (λ (t : Bool). cond t None (Some a)) e) ∙ ap (past_only x z) (given_is r at m q)
 
 module _ (v : List ℕ) {h : RuleHeader} {b : List ℕ} (x : HeaderIs v h) (y : Handed (rule_body v) b) where
   module _ (kept : ℕ) (first second : List ℤ) where

@@ -6,6 +6,7 @@ ghost use Rattle.program.specs.Evaluable.{Small, Satisfiable};
 ghost use Rattle.program.specs.Readings.{valued};
 ghost use Rattle.parts.specs.Values.{constraint_header};
 
+use bodies::Readings;
 use format::Format;
 use parts::constraints;
 
@@ -18,10 +19,15 @@ pub fn satisfied(value: &[u8], values: &[i64; Format::MAX_VARIABLES]) -> bool
 {
     let header = constraints::header(value);
     let body = constraints::body(value);
+    let readings = Readings {
+        kept: 0,
+        first: values,
+        second: values,
+    };
     let form = header.form;
     match form {
-        1 => bodies::sum(header.c, body, 0, values, values) <= 0,
-        2 => bodies::any_holds(body, 0, values, values),
+        1 => bodies::sum(header.c, body, readings) <= 0,
+        2 => bodies::any_holds(body, readings),
         0 | 3..=255 => false,
     }
 }

@@ -1,5 +1,5 @@
 // The terms of a body, of one kind.
-ghost use Rattle.std.specs.Prelude.{◌≡◌, true, false, ◌+◌, ◌*◌, ◌<◌, ◌≤◌, length};
+ghost use Rattle.std.specs.Prelude.{◌≡◌, ℕ, true, false, ◌+◌, ◌*◌, ◌<◌, ◌≤◌, length};
 ghost use Rattle.format.specs.Numbers.{signed, beyond};
 ghost use Rattle.words.specs.Bit.{word_count};
 ghost use Rattle.program.specs.Program.{terms_of, term_in};
@@ -80,23 +80,36 @@ pub fn is_new(variables: usize, seen: &mut [u64; Set::WORDS], body: &[u8], i: us
     true
 }
 
-// Whether all terms are plain and have number 0.
-pub fn are_bare(variables: usize, seen: &mut [u64; Set::WORDS], body: &[u8]) -> bool
-    requires { length seen.old ≡ word_count }
-    ensures { result ≡ true → EachFrom Bare variables (terms_of body.now) 0 }
+// Whether each term from this one on passes a test and is new; the set has the variables of those before it.
+fn each_from<F: Fn(usize) -> bool>(
+    passes: F,
+    variables: usize,
+    seen: &mut [u64; Set::WORDS],
+    body: &[u8],
+    from: usize,
+) -> bool
+    requires callable { (i : ℕ) → 4 * i + 4 ≤ length body.now → F.pre passes i }
+    requires seen_len { (length seen.old ≡ word_count) × Noted seen.old (terms_of body.now) from }
+    ensures { result ≡ true → (i : ℕ) → from ≤ i → i < length (terms_of body.now)
+        → New variables (terms_of body.now) i × F.post passes i true }
 {
-    let n = body.len() / 4;
-    let mut i = 0;
-    while i < n {
-        if !is_bare(body, i) {
+    for i in from..body.len() / 4 {
+        if !passes(i) {
             return false;
         }
         if !is_new(variables, seen, body, i) {
             return false;
         }
-        i += 1;
     }
     true
+}
+
+// Whether all terms are plain and have number 0.
+pub fn are_bare(variables: usize, seen: &mut [u64; Set::WORDS], body: &[u8]) -> bool
+    requires { length seen.old ≡ word_count }
+    ensures { result ≡ true → EachFrom Bare variables (terms_of body.now) 0 }
+{
+    each_from(|i| is_bare(body, i), variables, seen, body, 0)
 }
 
 // Whether all terms are plain and have coefficients.
@@ -104,18 +117,7 @@ pub fn are_weights(variables: usize, seen: &mut [u64; Set::WORDS], body: &[u8]) 
     requires { length seen.old ≡ word_count }
     ensures { result ≡ true → EachFrom Weight variables (terms_of body.now) 0 }
 {
-    let n = body.len() / 4;
-    let mut i = 0;
-    while i < n {
-        if !is_weight(body, i) {
-            return false;
-        }
-        if !is_new(variables, seen, body, i) {
-            return false;
-        }
-        i += 1;
-    }
-    true
+    each_from(|i| is_weight(body, i), variables, seen, body, 0)
 }
 
 // Whether the terms are literals from this one on; the set has the variables of those before it.
@@ -128,16 +130,5 @@ pub fn are_literals(
     requires { (length seen.old ≡ word_count) × Noted seen.old (terms_of body.now) from }
     ensures { result ≡ true → EachFrom Literal variables (terms_of body.now) from }
 {
-    let n = body.len() / 4;
-    let mut i = from;
-    while i < n {
-        if !is_literal(body, i) {
-            return false;
-        }
-        if !is_new(variables, seen, body, i) {
-            return false;
-        }
-        i += 1;
-    }
-    true
+    each_from(|i| is_literal(body, i), variables, seen, body, from)
 }

@@ -17,7 +17,7 @@ use Rattle.program.specs.Tables.{any_below}
 use Rattle.program.specs.Program.{terms_of, term_in, variable_in, variables_at, no_variable}
 use Rattle.program.specs.Refusals.{wrong_divisor, outside_divisor, literal_position, wrong_op, must_be_zero, wrong_term, outside_term, repeated_term, negative_term}
 use Rattle.program.proofs.Bodies.{term_at_is}
-use Rattle.program.proofs.Conditions.{any_more}
+use Rattle.program.proofs.Conditions.{any_more, below_some}
 use Rattle.program.proofs.Places.{variables_length}
 use Rattle.program.specs.declared.Variable.{Variable}
 use Rattle.program.specs.declared.Term.{Term}
@@ -110,13 +110,19 @@ same_as body i j = eqb (term_in (terms_of body) j).variable (term_in (terms_of b
 
 -- the positions before i whose variable is that of position i
 module _ (body : List ℕ) (i : ℕ) (h : 4 * i + 4 ≤ length body) where
-  pub repeated_more : (j : ℕ) (f : Bool) → j < i → f ≡ any_below j (same_as body i)
-      → (f || eqb (get_or body (4 * j) 0) (get_or body (4 * i) 0)) ≡ any_below (j + 1) (same_as body i)
-  repeated_more j f k e = any_more j _ f _ e (rw (variable_byte body i h, variable_byte body j (omega arith)))
+  pub repeated_none : (j : ℕ) → j < i → (get_or body (4 * j) 0 ≡ get_or body (4 * i) 0 → ⊥) → false ≡ any_below j (same_as body i)
+      → false ≡ any_below (j + 1) (same_as body i)
+  repeated_none j k f e =
+      any_more j _ false false e (sym (rw (variable_byte body i h, variable_byte body j (omega arith)) (ne_eqb _ _ f)))
 
-  pub repeated_done : (j : ℕ) (f : Bool) → j ≡ i → f ≡ any_below j (same_as body i) → f ≡ repeated_term (terms_of body) i
+  pub repeated_some : (j : ℕ) → j < i → get_or body (4 * j) 0 ≡ get_or body (4 * i) 0 → true ≡ repeated_term (terms_of body) i
   unfolding repeated_term
-  repeated_done j f k e = rw k at e
+  repeated_some j k e =
+      sym (below_some i (same_as body i) j k (rw (variable_byte body i h, variable_byte body j (omega arith)) (eq-eqb _ _ e)))
+
+  pub repeated_done : (j : ℕ) → j ≡ i → false ≡ any_below j (same_as body i) → false ≡ repeated_term (terms_of body) i
+  unfolding repeated_term
+  repeated_done j k e = rw k at e
 
 module _ (vs : List Variable) (form : ℕ) (t : Term) where
   pub negative_other : (form ≡ 4 → ⊥) → false ≡ negative_term vs form t

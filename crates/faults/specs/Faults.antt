@@ -1,19 +1,18 @@
 -- What a check finds, and what it says of the terms of a body.
-use Rattle.std.specs.Prelude.{ℕ, ◌≡◌, List, [], ◌∷◌, Bool}
+use Rattle.std.specs.Prelude.{ℕ, ◌≡◌, List, [], ◌∷◌, Bool, Result, Ok, Err}
 use Rattle.program.specs.Tables.{◌when◌, first_of, any_below}
 use Rattle.program.specs.Program.{term_in}
 use Rattle.program.specs.Refusals.{any_term, wrong_divisor, outside_divisor, wrong_term, outside_term, undeclared_term, repeated_term, negative_term}
 use Rattle.program.specs.Reading.{number_of}
-use Rattle.faults.specs.declared.Checked.{Checked}
-use Rattle.faults.specs.declared.Checked.TheVariants.{Fine, Bad}
 use Rattle.faults.specs.declared.Faults.{Faults}
 use Rattle.program.specs.declared.Variable.{Variable}
 use Rattle.program.specs.declared.Term.{Term}
+use Rattle.program.specs.declared.Refusal.{Refusal}
 
 -- 0 where nothing is wrong
-abbrev pub checked_number : Checked → ℕ
-checked_number Fine = 0
-checked_number (Bad why) = number_of why
+abbrev pub checked_number : Result (Unit {0}) Refusal → ℕ
+checked_number (Ok _) = 0
+checked_number (Err why) = number_of why
 
 -- the number of the first that is wrong, a term count (10) among them
 abbrev pub faults_number : Faults → Bool → ℕ

@@ -80,14 +80,12 @@ pub fn is_repeated(body: &[u8], i: usize) -> bool
     ensures { result ≡ repeated_term (terms_of body.now) i }
 {
     let x = body[4 * i];
-    let mut j = 0;
-    let mut found = false;
-    while j < i {
-        let same = body[4 * j] == x;
-        found = found | same;
-        j += 1;
+    for j in 0..i {
+        if body[4 * j] == x {
+            return true;
+        }
     }
-    found
+    false
 }
 
 // Whether the term stands in a product and its variable's low is below 0.

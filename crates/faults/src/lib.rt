@@ -10,13 +10,6 @@ use program::Refusal;
 pub mod by_form;
 pub mod divisors;
 
-// What a check finds.
-#[derive(Drop)]
-pub enum Checked {
-    Fine,
-    Bad(Refusal),
-}
-
 // Of the refusals 7 to 9, 11 and 12, those that a term or a body meets.
 #[derive(Drop)]
 pub struct Faults {
@@ -54,28 +47,28 @@ impl Faults {
     }
 
     // The first that is wrong, with a wrong term count in its place.
-    pub fn first(self, count: bool) -> Checked
+    pub fn first(self, count: bool) -> Result<(), Refusal>
         ensures { checked_number result ≡ faults_number self count }
     {
         if self.form {
-            return Checked::Bad(Refusal::WrongForm);
+            return Err(Refusal::WrongForm);
         }
         if self.range {
-            return Checked::Bad(Refusal::OutsideRange);
+            return Err(Refusal::OutsideRange);
         }
         if self.variable {
-            return Checked::Bad(Refusal::Undeclared);
+            return Err(Refusal::Undeclared);
         }
         if count {
-            return Checked::Bad(Refusal::WrongCount);
+            return Err(Refusal::WrongCount);
         }
         if self.repeated {
-            return Checked::Bad(Refusal::VariableTwice);
+            return Err(Refusal::VariableTwice);
         }
         if self.negative {
-            return Checked::Bad(Refusal::NegativeProduct);
+            return Err(Refusal::NegativeProduct);
         }
-        Checked::Fine
+        Ok(())
     }
 }
 
@@ -108,11 +101,9 @@ pub fn body_faults(file: &[u8], variables: usize, body: &[u8], form: u8) -> Faul
 {
     let n = body.len() / 4;
     let mut all = Faults::none();
-    let mut i = 0;
-    while i < n {
+    for i in 0..n {
         let one = term_faults(file, variables, body, form, i);
         all = all.with(one);
-        i += 1;
     }
     all
 }

@@ -1,4 +1,5 @@
 -- The fields of a file one after the other.
+use Rattle.std.specs.Prelude.{Result, Ok, Err}
 use Prim.Native.Nat.{ℕ, ◌+◌, ◌*◌, ◌-◌, ◌<◌, ◌≤◌}
 use mathlib.Core.Path.{◌≡◌, refl, sym, ap, ◌∙◌, subst}
 use mathlib.Core.List.{List}
@@ -23,14 +24,11 @@ use Rattle.program.proofs.Counting.{counts_to, counts_more}
 use Rattle.program.proofs.ReadDemanded.{field_most}
 use Rattle.fields.specs.Standing.{field_at}
 use Rattle.fields.specs.Scanning.{Describes, Counted, Stopped, Scans}
-use Rattle.fields.specs.declared.answers.Scanned.{Scanned}
-use Rattle.fields.specs.declared.answers.Scanned.TheVariants as scanned
 use Rattle.faults.specs.Faults.{checked_number}
 use Rattle.fields.specs.declared.cursor.Cursor.{Cursor}
 use Rattle.fields.specs.declared.cursor.Field.{Field}
 use Rattle.fields.specs.declared.cursor.Field.TheVariants as field
-use Rattle.faults.specs.declared.Checked.{Checked}
-use Rattle.faults.specs.declared.Checked.TheVariants.{Fine, Bad}
+use Rattle.program.specs.declared.Rejection.{Rejection}
 
 -- ---- what stands at a place, from the code's answer
 
@@ -191,17 +189,17 @@ module _ (s : List ℕ) (at before : ℕ) (k : Counts) (r : Reached s at before 
   pub scan_cut : field.Short ≡ field_at s at → Stopped s 2 at
   scan_cut e = let c = field_cut s at e in refuse 2 c.0 (cut_refusal c.1) (lit< tt)
 
-  module _ (tag start len next : ℕ) (w : Stands s at tag start len next) (checked : Checked)
+  module _ (tag start len next : ℕ) (w : Stands s at tag start len next) (checked : Result (Unit {0}) Refusal)
       (a : (P : Program) → Describes s k P → checked_number checked ≡ value_refusal P before tag (take (start + len - start) (drop start s))) where
     answer_is : field_refusal s r.fields ≡ checked_number checked
     answer_is =
         next_refusal w.uncut
         ∙ sym (rw (part_value s at tag start len next w, w.tag_is) at (a (program s r.fields) r.describes))
 
-    pub scan_bad : (why : Refusal) → checked ≡ Bad why → Stopped s (number_of why) at
+    pub scan_bad : (why : Refusal) → checked ≡ Err why → Stopped s (number_of why) at
     scan_bad why e = refuse (number_of why) w.more (answer_is ∙ ap checked_number e) (number_positive why)
 
-    pub scan_more : (k' : Counts) → checked ≡ Fine → k' ≡ counted tag k → Reached s next tag k'
+    pub scan_more : (k' : Counts) → checked ≡ (Ok tt) → k' ≡ counted tag k → Reached s next tag k'
     scan_more k' e q =
         let z : field_refusal s r.fields ≡ 0 = answer_is ∙ ap checked_number e in
         let p = passed_more r.passed (let h = w.more in let l = r.placed in omega arith) z in
@@ -214,9 +212,9 @@ module _ (s : List ℕ) (at before : ℕ) (k : Counts) (r : Reached s at before 
 
 -- ---- what scanning a file answers
 
-module _ (s : List ℕ) (r : Scanned) (scans : Scans s r) where
-  pub scanned_whole : (k : Counts) → r ≡ scanned.Whole k → Counted s k
+module _ (s : List ℕ) (r : Result Counts Rejection) (scans : Scans s r) where
+  pub scanned_whole : (k : Counts) → r ≡ Ok k → Counted s k
   scanned_whole k e = subst (Scans s) e scans
 
-  pub scanned_stopped : (why : Refusal) (at : ℕ) → r ≡ scanned.Refused why at → Stopped s (number_of why) at
+  pub scanned_stopped : (why : Refusal) (at : ℕ) → r ≡ Err (record { why = why; at = at }) → Stopped s (number_of why) at
   scanned_stopped why at e = subst (Scans s) e scans

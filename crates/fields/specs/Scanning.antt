@@ -1,10 +1,9 @@
 -- What reading all fields of a file finds.
-use Rattle.std.specs.Prelude.{ℕ, ◌≤◌, ◌≡◌, List, length}
+use Rattle.std.specs.Prelude.{ℕ, ◌≤◌, ◌≡◌, List, length, Result, Ok, Err}
 use Rattle.program.specs.Program.{Program, program, variables_at}
 use Rattle.program.specs.Reading.{Whole, Reads, refused, number_of}
 use Rattle.program.specs.declared.Counts.{Counts}
-use Rattle.fields.specs.declared.answers.Scanned.{Scanned}
-use Rattle.fields.specs.declared.answers.Scanned.TheVariants as scanned
+use Rattle.program.specs.declared.Rejection.{Rejection}
 
 -- P is a program of so many variables, rules and constraints, the variables those that stand in the file
 pub record Describes (s : List ℕ) (k : Counts) (P : Program) : Type 0 where
@@ -24,6 +23,6 @@ pub record Stopped (s : List ℕ) (n at : ℕ) : Type 0 where
   pub early : n ≤ 12
 
 -- all fields are fine, or the first refusal is the file's
-abbrev pub Scans : List ℕ → Scanned → Type 0
-Scans s (scanned.Whole counts) = Counted s counts
-Scans s (scanned.Refused why at) = Stopped s (number_of why) at
+abbrev pub Scans : List ℕ → Result Counts Rejection → Type 0
+Scans s (Ok counts) = Counted s counts
+Scans s (Err r) = Stopped s (number_of r.why) r.at

@@ -6,7 +6,6 @@ ghost use Rattle.faults.specs.Faults.{checked_number};
 ghost use Rattle.values.specs.Lengths.{length_refusal};
 ghost use Rattle.fields.specs.Scanning.{Describes};
 
-use faults::Checked;
 use format::Format;
 use program::{Counts, Refusal};
 
@@ -32,7 +31,7 @@ pub fn is_one_too_many(tag: u8, counts: Counts) -> bool
 }
 
 // The value, by its tag.
-pub fn check_value(file: &[u8], value: &[u8], tag: u8, variables: usize) -> Checked
+pub fn check_value(file: &[u8], value: &[u8], tag: u8, variables: usize) -> Result<(), Refusal>
     requires { (8 * variables ≤ length file.now) × (unknown_tag tag ≡ false) }
     ensures { checked_number result ≡ length_refusal (variables_at file.now variables) tag value.now }
 {
@@ -44,18 +43,24 @@ pub fn check_value(file: &[u8], value: &[u8], tag: u8, variables: usize) -> Chec
 }
 
 // The first refusal from 3 to 12 of a field that is not cut short, after one with the tag `before` and so many fields of each kind.
-pub fn check_field(file: &[u8], value: &[u8], tag: u8, before: u8, counts: Counts) -> Checked
+pub fn check_field(
+    file: &[u8],
+    value: &[u8],
+    tag: u8,
+    before: u8,
+    counts: Counts,
+) -> Result<(), Refusal>
     requires { 8 * counts.variables ≤ length file.now }
     ensures { (P : Program) → Describes file.now counts P → checked_number result ≡ value_refusal P before tag value.now }
 {
     if is_unknown_tag(tag) {
-        return Checked::Bad(Refusal::UnknownTag);
+        return Err(Refusal::UnknownTag);
     }
     if tag < before {
-        return Checked::Bad(Refusal::TagBelow);
+        return Err(Refusal::TagBelow);
     }
     if is_one_too_many(tag, counts) {
-        return Checked::Bad(Refusal::OneTooMany);
+        return Err(Refusal::OneTooMany);
     }
     check_value(file, value, tag, counts.variables)
 }

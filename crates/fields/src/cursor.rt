@@ -47,9 +47,9 @@ impl Cursor {
             return Field::Short;
         }
         Field::Whole {
-            tag: tag,
-            start: start,
-            len: len,
+            tag,
+            start,
+            len,
             next: Cursor { at: start + len },
         }
     }

@@ -1,18 +1,19 @@
 // Reads all fields of a file, one after the other.
 ghost use Rattle.fields.specs.Scanning.{Scans};
 
-use crate::answers::Scanned;
 use crate::checks;
 use crate::cursor::{Cursor, Field};
-use faults::Checked;
 use format::Format;
-use program::{Counts, Refusal};
+use program::{Counts, Refusal, Rejection};
 
-pub fn scan(file: &[u8]) -> Scanned
+pub fn scan(file: &[u8]) -> Result<Counts, Rejection>
     ensures { Scans file.now result }
 {
     if Format::MAX_FILE < file.len() {
-        return Scanned::Refused(Refusal::FileTooLong, 0);
+        return Err(Rejection {
+            why: Refusal::FileTooLong,
+            at: 0,
+        });
     }
     let mut cursor = Cursor::new();
     let mut counts = Counts::empty();
@@ -21,7 +22,7 @@ pub fn scan(file: &[u8]) -> Scanned
         let at = cursor.at;
         let field = cursor.field(file);
         if let Field::End = field {
-            return Scanned::Whole(counts);
+            return Ok(counts);
         }
         let Field::Whole {
             tag,
@@ -30,15 +31,17 @@ pub fn scan(file: &[u8]) -> Scanned
             next,
         } = field
         else {
-            return Scanned::Refused(Refusal::CutShort, at);
+            return Err(Rejection {
+                why: Refusal::CutShort,
+                at,
+            });
         };
-        let checked = checks::check_field(file, &file[start..start + len], tag, before, counts);
-        let Checked::Bad(why) = checked else {
-            counts = counts.with(tag);
-            cursor = next;
-            before = tag;
-            continue;
-        };
-        return Scanned::Refused(why, at);
+        let value = &file[start..start + len];
+        if let Err(why) = checks::check_field(file, value, tag, before, counts) {
+            return Err(Rejection { why, at });
+        }
+        counts = counts.with(tag);
+        cursor = next;
+        before = tag;
     }
 }

@@ -1,4 +1,5 @@
 -- What the call answers, by what has been found.
+use Rattle.std.specs.Prelude.{Option, Some, None, Result, Ok, Err}
 use Prim.Native.Nat.{ℕ, ◌*◌, ◌<◌, ◌≤◌}
 use mathlib.Core.Path.{◌≡◌, refl, sym, ap, subst, subst₂, ◌∙◌}
 use mathlib.Core.Logic.{inl, inr}
@@ -8,8 +9,6 @@ use lib.IntN.{ℤ}
 use lib.ListN.{length, take, drop}
 use Rattle.format.specs.Limits.{max_file}
 use Rattle.program.specs.declared.Counts.{Counts}
-use Rattle.validity.specs.declared.Outcome.{Outcome}
-use Rattle.validity.specs.declared.Outcome.TheVariants.{Valid, Offending}
 use Rattle.meaning.specs.Calls.{denial_number, denial_place}
 use Rattle.meaning.specs.declared.Denied.{Denied}
 use Rattle.normal.specs.Normalizes.{refusal, written}
@@ -18,23 +17,21 @@ use Rattle.nested.specs.NestedReading.{NestedWhole, NestedAccepts, NestedRefuses
 use Rattle.nested.specs.FlattenCall.{flat, FlattenCall, turned_down, flattened, bad_file, no_room}
 use Rattle.plainpart.specs.PlainPart.{PlainCounted}
 use Rattle.nesting.specs.Surveying.{Surveyed, Surveys, passed, refused}
-use Rattle.nesting.specs.declared.Found.{Found}
-use Rattle.nesting.specs.declared.Found.TheVariants.{Whole, Refused}
 use Rattle.nesting.specs.declared.Totals.{Totals}
 use Rattle.linking.specs.Judging.{JudgesNested}
 use Rattle.flattening.specs.Writing.{FlatWritten, Sized}
 
-module _ {s : List ℕ} {counts : Counts} {from variables bytes : ℕ} {records : List ℕ} (z : Sized s counts from variables bytes records) (b : List ℕ) (r : Outcome)
+module _ {s : List ℕ} {counts : Counts} {from variables bytes : ℕ} {records : List ℕ} (z : Sized s counts from variables bytes records) (b : List ℕ) (r : Option ℕ)
     (judged : (k : ℕ) → NestedWhole s k → JudgesNested s k r) where
   abbrev K : ℕ
   K = z.settled.fields
 
-  pub call_offending : {at : ℕ} → r ≡ Offending at → FlattenCall s b (refusal 13 at) b
+  pub call_offending : {at : ℕ} → r ≡ Some at → FlattenCall s b (refusal 13 at) b
   call_offending {at} e =
       let o = subst (JudgesNested s K) e (judged K z.settled.whole) in
       subst (λ (m : ℕ). FlattenCall s b (refusal 13 m) b) (sym o.placed) (turned_down (bad_file (not_valid z.settled.whole o.before o.is o.first)))
 
-  module _ (valid : r ≡ Valid) where
+  module _ (valid : r ≡ None) where
     accepts : NestedAccepts s (nested s K)
     accepts = record { fields = K; whole = z.settled.whole; means = refl; valid = subst (JudgesNested s K) valid (judged K z.settled.whole) }
 
@@ -53,14 +50,14 @@ module _ {s : List ℕ} {counts : Counts} {from variables bytes : ℕ} {records 
 
 -- ---- the survey's answer
 
-module _ {s : List ℕ} {records : List ℕ} {lows highs : List ℤ} {f : Found} (x : Surveys s records lows highs f) where
-  pub call_refused : {d : Denied} {b : List ℕ} → f ≡ Refused d → FlattenCall s b (refusal (denial_number d) (denial_place d)) b
+module _ {s : List ℕ} {records : List ℕ} {lows highs : List ℤ} {f : Result Totals Denied} (x : Surveys s records lows highs f) where
+  pub call_refused : {d : Denied} {b : List ℕ} → f ≡ Err d → FlattenCall s b (refusal (denial_number d) (denial_place d)) b
   call_refused e = turned_down (bad_file (why (subst (Surveys s records lows highs) e x)))
     where
-      why : {d : Denied} → Surveys s records lows highs (Refused d) → NestedRefuses s (denial_number d) (denial_place d)
+      why : {d : Denied} → Surveys s records lows highs (Err d) → NestedRefuses s (denial_number d) (denial_place d)
       why (refused h) = h
 
-  pub surveyed_sized : {t : Totals} {counts : Counts} {from : ℕ} → f ≡ Whole t → PlainCounted s counts from → Sized s counts from t.variables t.bytes records
+  pub surveyed_sized : {t : Totals} {counts : Counts} {from : ℕ} → f ≡ Ok t → PlainCounted s counts from → Sized s counts from t.variables t.bytes records
   surveyed_sized e p =
       let k = found (subst (Surveys s records lows highs) e x) in
       let d = k.known.tabled in
@@ -76,5 +73,5 @@ module _ {s : List ℕ} {records : List ℕ} {lows highs : List ℤ} {f : Found}
         size = k.known.bytes_are;
       }
     where
-      found : {t : Totals} → Surveys s records lows highs (Whole t) → Surveyed s t records lows highs
+      found : {t : Totals} → Surveys s records lows highs (Ok t) → Surveyed s t records lows highs
       found (passed k) = k

@@ -17,16 +17,14 @@ ghost use Rattle.flattening.specs.Writing.{TreesPut, TreesFit, FlatWritten, Size
 use format::Format;
 use linking::judge;
 use meaning::Denied;
-use nesting::{Found, Totals, survey};
+use nesting::{Totals, survey};
 use noderules::put_tree;
-use normal::Rewriting;
 use parts::places;
-use plainpart::{Plain, read_plain};
+use plainpart::read_plain;
 use program::{Counts, Refusal};
 use rewriting::writing::put;
 use spans::Records;
 use treechecks::added_by;
-use validity::Outcome;
 
 // Where the rules of a plain part end.
 fn rules_end(plain: &[u8], counts: Counts) -> usize
@@ -98,42 +96,43 @@ fn flatten_surveyed(
     from: usize,
     totals: Totals,
     records: &[u8],
-) -> Rewriting
+) -> Result<usize, Denied>
     requires { Sized file.now counts from totals.variables totals.bytes records.now }
     ensures { FlattenCall file.now buffer.old (answer_of result) buffer.new }
 {
-    if let Outcome::Offending(at) = judge(file, counts, from, totals.variables, records) {
-        return Rewriting::Refused(Denied::File(Refusal::NotValid, at));
+    if let Some(at) = judge(file, counts, from, totals.variables, records) {
+        return Err(Denied::File(Refusal::NotValid, at));
     }
     if Format::MAX_FILE < totals.bytes {
-        return Rewriting::Refused(Denied::Room);
+        return Err(Denied::Room);
     }
     if buffer.len() < totals.bytes {
-        return Rewriting::Refused(Denied::Room);
+        return Err(Denied::Room);
     }
-    Rewriting::Written(write(file, counts, from, totals, records, buffer))
+    Ok(write(file, counts, from, totals, records, buffer))
 }
 
 // A nested file whose plain part has these counts and ends at `from`.
-fn flatten_plain(file: &[u8], buffer: &mut [u8], counts: Counts, from: usize) -> Rewriting
+fn flatten_plain(
+    file: &[u8],
+    buffer: &mut [u8],
+    counts: Counts,
+    from: usize,
+) -> Result<usize, Denied>
     requires { PlainCounted file.now counts from }
     ensures { FlattenCall file.now buffer.old (answer_of result) buffer.new }
 {
     let mut lows = [0i64; Format::MAX_VARIABLES];
     let mut highs = [0i64; Format::MAX_VARIABLES];
     let mut records = [0u8; Records::LENGTH];
-    match survey(&mut lows, &mut highs, &mut records, file, counts, from) {
-        Found::Refused(why) => Rewriting::Refused(why),
-        Found::Whole(totals) => flatten_surveyed(file, buffer, counts, from, totals, &records),
-    }
+    let totals = survey(&mut lows, &mut highs, &mut records, file, counts, from)?;
+    flatten_surveyed(file, buffer, counts, from, totals, &records)
 }
 
 // Writes the plain file of a nested one, from the buffer's first byte on, for every file and buffer.
-pub fn flatten(nested: &[u8], buffer: &mut [u8]) -> Rewriting
+pub fn flatten(nested: &[u8], buffer: &mut [u8]) -> Result<usize, Denied>
     ensures { FlattenCall nested.now buffer.old (answer_of result) buffer.new }
 {
-    match read_plain(nested) {
-        Plain::Refused(why, at) => Rewriting::Refused(Denied::File(why, at)),
-        Plain::Whole(counts, from) => flatten_plain(nested, buffer, counts, from),
-    }
+    let (counts, from) = read_plain(nested)?;
+    flatten_plain(nested, buffer, counts, from)
 }

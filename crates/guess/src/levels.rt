@@ -9,12 +9,13 @@ ghost use Rattle.run.specs.Running.{SomeRule};
 ghost use Rattle.sequence.specs.Standing.{RulesStand};
 
 use crate::numbers::{copy, minus, near, over, put};
+use bodies::Readings;
 use format::Format;
 use parts::places::value_at;
 use parts::{rules, variables};
-use program::{Given, Variable};
+use program::Variable;
+use run::Source;
 use run::demands::{demand, head_at};
-use sequence::walk::get;
 use tables::{mask_in, place_in};
 
 // A value of x, turned so that x rises.
@@ -23,14 +24,14 @@ fn turned(x: Variable, a: i64) -> i64 {
 }
 
 // The level of a sum over a divisor with the head x, by the sum with those that rise at 0 and at the end of the format's range.
-fn sum_level(x: Variable, divisor: i64, low: i64, high: i64) -> Given {
+fn sum_level(x: Variable, divisor: i64, low: i64, high: i64) -> Option<i64> {
     let weight = over(turned(x, minus(high, low)), Format::MAX_NUMBER);
     let room = minus(divisor, weight);
     if room < 1 {
-        return Given::Nothing;
+        return None;
     }
     let more = if x.is_from_above() { weight } else { 0 };
-    Given::Value(over(minus(low, minus(0, more)), room))
+    Some(over(minus(low, minus(0, more)), room))
 }
 
 // That of the rule of form 8 in a field's value.
@@ -41,27 +42,36 @@ fn quotient_level(
     low: &[i64; Format::MAX_VARIABLES],
     high: &[i64; Format::MAX_VARIABLES],
     others: &[i64; Format::MAX_VARIABLES],
-) -> Given
+) -> Option<i64>
     requires evaluable { Evaluable (rule_of value.now) × (rule_header ≤ length value.now) × ((rule_of value.now).form ≡ 8) }
     requires small { Small low.now × Small high.now × Small others.now }
 {
     let rule = rules::header(value);
     let body = rules::body(value);
     let divisor = rules::divisor(value);
-    let least = bodies::sum(rule.c, body, mask, low, others);
-    let most = bodies::sum(rule.c, body, mask, high, others);
+    let at_low = Readings {
+        kept: mask,
+        first: low,
+        second: others,
+    };
+    let at_high = Readings {
+        first: high,
+        ..at_low
+    };
+    let least = bodies::sum(rule.c, body, at_low);
+    let most = bodies::sum(rule.c, body, at_high);
     sum_level(x, divisor, least, most)
 }
 
 // The level of a smallest, or of a largest whose head is from above: what it gives where those that rise are at the end of the format's range, unless it is one of them.
-fn least_level(x: Variable, c: i64, given: Given) -> Given {
-    let Given::Value(a) = given else {
-        return Given::Nothing;
+fn least_level(x: Variable, c: i64, given: Option<i64>) -> Option<i64> {
+    let Some(a) = given else {
+        return None;
     };
     if turned(x, minus(a, c)) == Format::MAX_NUMBER {
-        return Given::Nothing;
+        return None;
     }
-    Given::Value(a)
+    Some(a)
 }
 
 // The form of a smallest in the order of x.
@@ -95,8 +105,8 @@ fn level_at(
 }
 
 // A level turned, and the lowest number for none.
-fn turned_or_least(x: Variable, level: Given) -> i64 {
-    let Given::Value(a) = level else {
+fn turned_or_least(x: Variable, level: Option<i64>) -> i64 {
+    let Some(a) = level else {
         return 0 - Format::MAX_NUMBER;
     };
     turned(x, a)
@@ -104,50 +114,41 @@ fn turned_or_least(x: Variable, level: Given) -> i64 {
 
 // That of rule i, if it is one.
 fn level_of(
-    file: &[u8],
-    rules: usize,
-    offsets: &[u16],
-    masks: &[u32],
+    source: &Source,
     i: usize,
     low: &[i64; Format::MAX_VARIABLES],
     high: &[i64; Format::MAX_VARIABLES],
-    others: &[i64; Format::MAX_VARIABLES],
 ) -> i64
-    requires rules_le_max_rules { (rules ≤ max_rules) × RulesStand file.now offsets.now rules }
-    requires small { Small low.now × Small high.now × Small others.now }
+    requires rules_le_max_rules { (source.now.counts.rules ≤ max_rules) × RulesStand source.now.file.now source.now.offsets.now source.now.counts.rules }
+    requires small { Small low.now × Small high.now × Small source.now.others.now }
 {
-    if i >= rules {
+    if i >= source.counts.rules {
         return 0 - Format::MAX_NUMBER;
     }
     level_at(
-        file,
-        place_in(offsets, i),
-        mask_in(masks, i),
+        source.file,
+        place_in(source.offsets, i),
+        mask_in(source.masks, i),
         low,
         high,
-        others,
+        source.others,
     )
 }
 
 // The highest level of the first `count` rules of the line.
 fn highest_level(
-    file: &[u8],
-    rules: usize,
-    offsets: &[u16],
-    masks: &[u32],
+    source: &Source,
     line: &[usize; Format::MAX_VARIABLES],
     count: usize,
     low: &[i64; Format::MAX_VARIABLES],
     high: &[i64; Format::MAX_VARIABLES],
-    others: &[i64; Format::MAX_VARIABLES],
 ) -> i64
-    requires rules_le_max_rules { (rules ≤ max_rules) × RulesStand file.now offsets.now rules × (count ≤ max_variables) }
-    requires small { Small low.now × Small high.now × Small others.now }
+    requires rules_le_max_rules { (source.now.counts.rules ≤ max_rules) × RulesStand source.now.file.now source.now.offsets.now source.now.counts.rules × (count ≤ max_variables) }
+    requires small { Small low.now × Small high.now × Small source.now.others.now }
 {
     let mut most = 0 - Format::MAX_NUMBER;
-    for k in 0..count {
-        let i = line[k];
-        let level = level_of(file, rules, offsets, masks, i, low, high, others);
+    for &i in &line[..count] {
+        let level = level_of(source, i, low, high);
         if most < level {
             most = level;
         }
@@ -200,8 +201,8 @@ fn part_all(
 {
     copy(low, model, variables);
     copy(high, model, variables);
-    for k in 0..count {
-        part_one(file, variables, get(heads, k), model, target, low, high);
+    for &head in heads.iter().take(count) {
+        part_one(file, variables, head, model, target, low, high);
     }
 }
 
@@ -248,37 +249,45 @@ fn level_all(
     requires { (8 * variables ≤ length file.now) × (length target.old ≡ max_variables) × Small target.old }
     ensures { (length target.new ≡ max_variables) × Small target.new }
 {
-    for k in 0..count {
-        level_one(file, variables, get(heads, k), level, model, target);
+    for &head in heads.iter().take(count) {
+        level_one(file, variables, head, level, model, target);
     }
 }
 
 // The targets of the heads of the line are no further than the highest level of its rules.
 pub fn level(
-    file: &[u8],
-    variables: usize,
-    rules: usize,
-    offsets: &[u16],
-    masks: &[u32],
+    source: &Source,
     line: &[usize; Format::MAX_VARIABLES],
     heads: &[u8; Format::MAX_VARIABLES],
     count: usize,
     model: &[i64; Format::MAX_VARIABLES],
-    others: &[i64; Format::MAX_VARIABLES],
     target: &mut [i64; Format::MAX_VARIABLES],
 )
-    requires variables_in_bounds { (8 * variables ≤ length file.now) × (rules ≤ max_rules) × RulesStand file.now offsets.now rules × (count ≤ max_variables) }
-    requires small { Small others.now }
+    requires variables_in_bounds { (8 * source.now.counts.variables ≤ length source.now.file.now) × (source.now.counts.rules ≤ max_rules) × RulesStand source.now.file.now source.now.offsets.now source.now.counts.rules × (count ≤ max_variables) }
+    requires small { Small source.now.others.now }
     requires target_len { (length target.old ≡ max_variables) × Small target.old }
     ensures { (length target.new ≡ max_variables) × Small target.new }
 {
     let mut low = [0i64; Format::MAX_VARIABLES];
     let mut high = [0i64; Format::MAX_VARIABLES];
     part_all(
-        file, variables, heads, count, model, target, &mut low, &mut high,
+        source.file,
+        source.counts.variables,
+        heads,
+        count,
+        model,
+        target,
+        &mut low,
+        &mut high,
     );
-    let most = highest_level(
-        file, rules, offsets, masks, line, count, &low, &high, others,
+    let most = highest_level(source, line, count, &low, &high);
+    level_all(
+        source.file,
+        source.counts.variables,
+        heads,
+        count,
+        most,
+        model,
+        target,
     );
-    level_all(file, variables, heads, count, most, model, target);
 }

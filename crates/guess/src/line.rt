@@ -60,10 +60,8 @@ pub fn gather(
     ensures { (length line.new ≡ max_variables) × (length heads.new ≡ max_variables) × (result ≤ max_variables) }
 {
     let mut count = 0;
-    let mut k = from;
-    while k < to {
+    for k in from..to {
         count = join_risen(by, risen, line, heads, count, get(list, k));
-        k += 1;
     }
     count
 }

@@ -10,7 +10,8 @@ ghost use Rattle.sequence.specs.Standing.{RulesStand};
 use crate::numbers::{copy, put};
 use format::Format;
 use parts::variables;
-use program::{Given, Variable};
+use program::Variable;
+use run::Source;
 use run::demands::{demand, head_at};
 use sequence::walk::node;
 use tables::{Tables, mask_in, place_in};
@@ -52,8 +53,8 @@ fn top_all(
 }
 
 // Whether what is given is more than the value of the head x, or no less.
-fn is_more(x: Variable, holding: bool, given: Given, value: i64) -> bool {
-    let Given::Value(a) = given else {
+fn is_more(x: Variable, holding: bool, given: Option<i64>, value: i64) -> bool {
+    let Some(a) = given else {
         return false;
     };
     if holding {
@@ -97,31 +98,32 @@ fn enter(live: &mut [u64; Tables::ROW], i: usize, kept: bool)
 
 // The set of the rules that can still lift their heads, or of those that hold them up.
 pub fn keep_live(
-    file: &[u8],
-    variables: usize,
-    rules: usize,
-    offsets: &[u16],
-    masks: &[u32],
+    source: &Source,
     holding: bool,
     model: &[i64; Format::MAX_VARIABLES],
-    others: &[i64; Format::MAX_VARIABLES],
     live: &mut [u64; Tables::ROW],
 )
-    requires variables_in_bounds { (8 * variables ≤ length file.now) × (rules ≤ max_rules) × RulesStand file.now offsets.now rules }
-    requires small { Small others.now × (length live.old ≡ row_words) }
+    requires variables_in_bounds { (8 * source.now.counts.variables ≤ length source.now.file.now) × (source.now.counts.rules ≤ max_rules) × RulesStand source.now.file.now source.now.offsets.now source.now.counts.rules }
+    requires small { Small source.now.others.now × (length live.old ≡ row_words) }
     ensures { length live.new ≡ row_words }
 {
     let mut tops = [0i64; Format::MAX_VARIABLES];
-    top_all(file, variables, holding, model, &mut tops);
-    for i in 0..rules {
+    top_all(
+        source.file,
+        source.counts.variables,
+        holding,
+        model,
+        &mut tops,
+    );
+    for i in 0..source.counts.rules {
         let kept = is_live(
-            file,
-            place_in(offsets, i),
-            mask_in(masks, i),
+            source.file,
+            place_in(source.offsets, i),
+            mask_in(source.masks, i),
             holding,
             &tops,
             model,
-            others,
+            source.others,
         );
         enter(live, i, kept);
     }

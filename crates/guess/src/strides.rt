@@ -13,8 +13,8 @@ use bodies::numbers::extreme;
 use format::Format;
 use parts::places::value_at;
 use parts::{rules, terms};
+use run::Source;
 use sequence::listed;
-use sequence::walk::get;
 use tables::{mask_in, place_in};
 
 // The size of a number times a stride, added to what there is; or the larger of the stride and what there is.
@@ -99,44 +99,42 @@ fn lengthen_to(strides: &mut [i64; Format::MAX_VARIABLES], v: u8, stride: i64) -
 
 // That of v becomes at least what rule i needs, if it is one.
 fn lengthen_one(
-    file: &[u8],
-    rules: usize,
-    offsets: &[u16],
-    masks: &[u32],
+    source: &Source,
     i: usize,
     v: u8,
     strides: &mut [i64; Format::MAX_VARIABLES],
 ) -> bool
-    requires rules_le_max_rules { (rules ≤ max_rules) × RulesStand file.now offsets.now rules }
+    requires rules_le_max_rules { (source.now.counts.rules ≤ max_rules) × RulesStand source.now.file.now source.now.offsets.now source.now.counts.rules }
     requires strides_len { (length strides.old ≡ max_variables) × Small strides.old }
     ensures { (length strides.new ≡ max_variables) × Small strides.new }
 {
-    if i >= rules {
+    if i >= source.counts.rules {
         return false;
     }
-    let stride = stride_at(file, place_in(offsets, i), mask_in(masks, i), strides);
+    let stride = stride_at(
+        source.file,
+        place_in(source.offsets, i),
+        mask_in(source.masks, i),
+        strides,
+    );
     lengthen_to(strides, v, stride)
 }
 
 // Each head of the line once; whether a stride was lengthened.
 fn lengthen_once(
-    file: &[u8],
-    rules: usize,
-    offsets: &[u16],
-    masks: &[u32],
+    source: &Source,
     line: &[usize; Format::MAX_VARIABLES],
     heads: &[u8; Format::MAX_VARIABLES],
     count: usize,
     strides: &mut [i64; Format::MAX_VARIABLES],
 ) -> bool
-    requires rules_le_max_rules { (rules ≤ max_rules) × RulesStand file.now offsets.now rules × (count ≤ max_variables) }
+    requires rules_le_max_rules { (source.now.counts.rules ≤ max_rules) × RulesStand source.now.file.now source.now.offsets.now source.now.counts.rules × (count ≤ max_variables) }
     requires strides_len { (length strides.old ≡ max_variables) × Small strides.old }
     ensures { (length strides.new ≡ max_variables) × Small strides.new }
 {
     let mut some = false;
-    for k in 0..count {
-        let i = line[k];
-        let longer = lengthen_one(file, rules, offsets, masks, i, get(heads, k), strides);
+    for (&i, &head) in line.iter().zip(heads).take(count) {
+        let longer = lengthen_one(source, i, head, strides);
         some = some | longer;
     }
     some
@@ -152,21 +150,18 @@ impl Strides {
 
 // Passes over the line until one lengthens no stride, which it answers; or as many as are made at most.
 fn lengthen_all(
-    file: &[u8],
-    rules: usize,
-    offsets: &[u16],
-    masks: &[u32],
+    source: &Source,
     line: &[usize; Format::MAX_VARIABLES],
     heads: &[u8; Format::MAX_VARIABLES],
     count: usize,
     strides: &mut [i64; Format::MAX_VARIABLES],
 ) -> bool
-    requires rules_le_max_rules { (rules ≤ max_rules) × RulesStand file.now offsets.now rules × (count ≤ max_variables) }
+    requires rules_le_max_rules { (source.now.counts.rules ≤ max_rules) × RulesStand source.now.file.now source.now.offsets.now source.now.counts.rules × (count ≤ max_variables) }
     requires strides_len { (length strides.old ≡ max_variables) × Small strides.old }
     ensures { (length strides.new ≡ max_variables) × Small strides.new }
 {
     for pass in 0..Strides::PASSES {
-        if !lengthen_once(file, rules, offsets, masks, line, heads, count, strides) {
+        if !lengthen_once(source, line, heads, count, strides) {
             return true;
         }
     }
@@ -184,9 +179,8 @@ fn begin(
     ensures { (length strides.new ≡ max_variables) × Small strides.new }
 {
     clear(strides, variables);
-    for k in 0..count {
-        let v = format::wide(get(heads, k));
-        put(strides, v, 1);
+    for &head in heads.iter().take(count) {
+        put(strides, format::wide(head), 1);
     }
 }
 
@@ -203,10 +197,9 @@ fn clear(strides: &mut [i64; Format::MAX_VARIABLES], n: usize)
 
 // The longest stride of n variables.
 fn longest(strides: &[i64; Format::MAX_VARIABLES], n: usize) -> i64 {
-    let many = listed(n);
     let mut most = 0i64;
-    for v in 0..many {
-        most = extreme(true, most, strides[v]);
+    for &stride in strides.iter().take(n) {
+        most = extreme(true, most, stride);
     }
     most
 }
@@ -240,23 +233,19 @@ fn end(strides: &mut [i64; Format::MAX_VARIABLES], n: usize, kept: bool)
 
 // Strides of the heads of the line; 1 for all others of so many variables, and for all where none are found or one is too long.
 pub fn lengthen(
-    file: &[u8],
-    variables: usize,
-    rules: usize,
-    offsets: &[u16],
-    masks: &[u32],
+    source: &Source,
     line: &[usize; Format::MAX_VARIABLES],
     heads: &[u8; Format::MAX_VARIABLES],
     count: usize,
     strides: &mut [i64; Format::MAX_VARIABLES],
 )
-    requires rules_le_max_rules { (rules ≤ max_rules) × RulesStand file.now offsets.now rules × (count ≤ max_variables) }
+    requires rules_le_max_rules { (source.now.counts.rules ≤ max_rules) × RulesStand source.now.file.now source.now.offsets.now source.now.counts.rules × (count ≤ max_variables) }
     requires strides_len { (length strides.old ≡ max_variables) × Small strides.old }
     ensures strides_len_2 { (length strides.new ≡ max_variables) × Small strides.new }
-    ensures by_index { (v : ℕ) → v < variables → v < max_variables → pos 1 ≤ℤ valued strides.new v }
+    ensures by_index { (v : ℕ) → v < source.now.counts.variables → v < max_variables → pos 1 ≤ℤ valued strides.new v }
 {
-    begin(variables, heads, count, strides);
-    let settled = lengthen_all(file, rules, offsets, masks, line, heads, count, strides);
-    let short = longest(strides, variables) < Format::MAX_NUMBER;
-    end(strides, variables, settled & short);
+    begin(source.counts.variables, heads, count, strides);
+    let settled = lengthen_all(source, line, heads, count, strides);
+    let short = longest(strides, source.counts.variables) < Format::MAX_NUMBER;
+    end(strides, source.counts.variables, settled & short);
 }

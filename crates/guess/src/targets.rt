@@ -6,12 +6,13 @@ ghost use Rattle.run.specs.Running.{SomeRule};
 ghost use Rattle.sequence.specs.Standing.{RulesStand};
 
 use crate::numbers::{copy, near, put, times};
+use bodies::Readings;
 use format::Format;
 use parts::places::value_at;
 use parts::variables;
-use program::{Given, Variable};
+use program::Variable;
+use run::Source;
 use run::demands::{head_at, stop_at};
-use sequence::walk::get;
 use steady::steps::{distance, further};
 use tables::{mask_in, place_in};
 
@@ -21,48 +22,38 @@ fn furthest(x: Variable, cut: bool, stop: i64) -> i64 {
 }
 
 // The target of one head is the furthest.
-fn open_one(
-    file: &[u8],
-    variables: usize,
-    head: u8,
-    stops: &[i64; Format::MAX_VARIABLES],
-    cut: bool,
-    target: &mut [i64; Format::MAX_VARIABLES],
-)
-    requires { (8 * variables ≤ length file.now) × (length target.old ≡ max_variables) × Small target.old }
+fn open_one(source: &Source, head: u8, target: &mut [i64; Format::MAX_VARIABLES])
+    requires { (8 * source.now.counts.variables ≤ length source.now.file.now) × (length target.old ≡ max_variables) × Small target.old }
     ensures { (length target.new ≡ max_variables) × Small target.new }
 {
     let v = format::wide(head);
-    let stop = stops[v];
-    if v < variables {
-        let x = variables::variable(file, head);
-        put(target, v, furthest(x, cut, stop));
+    let stop = source.stops[v];
+    if v < source.counts.variables {
+        let x = variables::variable(source.file, head);
+        put(target, v, furthest(x, source.cut, stop));
     }
 }
 
 // The targets of these heads are the furthest, all others the values.
 pub fn open(
-    file: &[u8],
-    variables: usize,
+    source: &Source,
     heads: &[u8; Format::MAX_VARIABLES],
     count: usize,
     model: &[i64; Format::MAX_VARIABLES],
-    stops: &[i64; Format::MAX_VARIABLES],
-    cut: bool,
     target: &mut [i64; Format::MAX_VARIABLES],
 )
-    requires { (8 * variables ≤ length file.now) × (length target.old ≡ max_variables) × Small target.old }
+    requires { (8 * source.now.counts.variables ≤ length source.now.file.now) × (length target.old ≡ max_variables) × Small target.old }
     ensures { (length target.new ≡ max_variables) × Small target.new }
 {
-    copy(target, model, variables);
-    for k in 0..count {
-        open_one(file, variables, get(heads, k), stops, cut, target);
+    copy(target, model, source.counts.variables);
+    for &head in heads.iter().take(count) {
+        open_one(source, head, target);
     }
 }
 
 // What is given, no earlier in the order of x than the value.
-fn at_least(x: Variable, given: Given, value: i64) -> i64 {
-    let Given::Value(b) = given else {
+fn at_least(x: Variable, given: Option<i64>, value: i64) -> i64 {
+    let Some(b) = given else {
         return value;
     };
     if x.is_before(b, value) { value } else { b }
@@ -70,38 +61,38 @@ fn at_least(x: Variable, given: Given, value: i64) -> i64 {
 
 // The target of the head of the rule whose field stands at `at` is lowered to what the rule is estimated to give; whether it was further.
 fn lower_at(
-    file: &[u8],
+    source: &Source,
     at: usize,
     mask: u32,
     model: &[i64; Format::MAX_VARIABLES],
-    others: &[i64; Format::MAX_VARIABLES],
-    stops: &[i64; Format::MAX_VARIABLES],
-    cut: bool,
     strides: &[i64; Format::MAX_VARIABLES],
     target: &mut [i64; Format::MAX_VARIABLES],
 ) -> bool
-    requires some_rule { SomeRule file.now at }
-    requires small { Small model.now × Small others.now }
+    requires some_rule { SomeRule source.now.file.now at }
+    requires small { Small model.now × Small source.now.others.now }
     requires target_len { (length target.old ≡ max_variables) × Small target.old }
     ensures { (length target.new ≡ max_variables) × Small target.new }
 {
-    let head = head_at(file, at);
-    let x = variables::variable(file, head);
+    let head = head_at(source.file, at);
+    let x = variables::variable(source.file, head);
     let v = format::wide(head);
     let value = model[v];
-    let stop = stops[v];
+    let stop = source.stops[v];
     let goal = target[v];
+    let readings = Readings {
+        kept: mask,
+        first: model,
+        second: source.others,
+    };
     let given = steady::estimate(
-        value_at(file, at),
+        value_at(source.file, at),
         x,
         head,
-        mask,
-        model,
+        readings,
         target,
-        others,
         strides,
     );
-    let most = at_least(x, stop_at(cut, x, stop, mask, given), value);
+    let most = at_least(x, stop_at(source.cut, x, stop, mask, given), value);
     if !x.is_before(most, goal) {
         return false;
     }
@@ -111,34 +102,25 @@ fn lower_at(
 
 // That of the head of rule i, if it is one.
 fn lower_rule(
-    file: &[u8],
-    rules: usize,
-    offsets: &[u16],
-    masks: &[u32],
+    source: &Source,
     i: usize,
     model: &[i64; Format::MAX_VARIABLES],
-    others: &[i64; Format::MAX_VARIABLES],
-    stops: &[i64; Format::MAX_VARIABLES],
-    cut: bool,
     strides: &[i64; Format::MAX_VARIABLES],
     target: &mut [i64; Format::MAX_VARIABLES],
 ) -> bool
-    requires rules_le_max_rules { (rules ≤ max_rules) × RulesStand file.now offsets.now rules }
-    requires small { Small model.now × Small others.now }
+    requires rules_le_max_rules { (source.now.counts.rules ≤ max_rules) × RulesStand source.now.file.now source.now.offsets.now source.now.counts.rules }
+    requires small { Small model.now × Small source.now.others.now }
     requires target_len { (length target.old ≡ max_variables) × Small target.old }
     ensures { (length target.new ≡ max_variables) × Small target.new }
 {
-    if i >= rules {
+    if i >= source.counts.rules {
         return false;
     }
     lower_at(
-        file,
-        place_in(offsets, i),
-        mask_in(masks, i),
+        source,
+        place_in(source.offsets, i),
+        mask_in(source.masks, i),
         model,
-        others,
-        stops,
-        cut,
         strides,
         target,
     )
@@ -146,30 +128,21 @@ fn lower_rule(
 
 // Each of the first `count` rules of the line once; whether a target was lowered.
 fn lower_once(
-    file: &[u8],
-    rules: usize,
-    offsets: &[u16],
-    masks: &[u32],
+    source: &Source,
     line: &[usize; Format::MAX_VARIABLES],
     count: usize,
     model: &[i64; Format::MAX_VARIABLES],
-    others: &[i64; Format::MAX_VARIABLES],
-    stops: &[i64; Format::MAX_VARIABLES],
-    cut: bool,
     strides: &[i64; Format::MAX_VARIABLES],
     target: &mut [i64; Format::MAX_VARIABLES],
 ) -> bool
-    requires rules_le_max_rules { (rules ≤ max_rules) × RulesStand file.now offsets.now rules × (count ≤ max_variables) }
-    requires small { Small model.now × Small others.now }
+    requires rules_le_max_rules { (source.now.counts.rules ≤ max_rules) × RulesStand source.now.file.now source.now.offsets.now source.now.counts.rules × (count ≤ max_variables) }
+    requires small { Small model.now × Small source.now.others.now }
     requires target_len { (length target.old ≡ max_variables) × Small target.old }
     ensures { (length target.new ≡ max_variables) × Small target.new }
 {
     let mut some = false;
-    for k in 0..count {
-        let i = line[k];
-        let lowered = lower_rule(
-            file, rules, offsets, masks, i, model, others, stops, cut, strides, target,
-        );
+    for &i in &line[..count] {
+        let lowered = lower_rule(source, i, model, strides, target);
         some = some | lowered;
     }
     some
@@ -185,28 +158,20 @@ impl Passes {
 
 // Passes over the line until one lowers no target, which it answers; or as many as are made at most.
 pub fn lower(
-    file: &[u8],
-    rules: usize,
-    offsets: &[u16],
-    masks: &[u32],
+    source: &Source,
     line: &[usize; Format::MAX_VARIABLES],
     count: usize,
     model: &[i64; Format::MAX_VARIABLES],
-    others: &[i64; Format::MAX_VARIABLES],
-    stops: &[i64; Format::MAX_VARIABLES],
-    cut: bool,
     strides: &[i64; Format::MAX_VARIABLES],
     target: &mut [i64; Format::MAX_VARIABLES],
 ) -> bool
-    requires rules_le_max_rules { (rules ≤ max_rules) × RulesStand file.now offsets.now rules × (count ≤ max_variables) }
-    requires small { Small model.now × Small others.now }
+    requires rules_le_max_rules { (source.now.counts.rules ≤ max_rules) × RulesStand source.now.file.now source.now.offsets.now source.now.counts.rules × (count ≤ max_variables) }
+    requires small { Small model.now × Small source.now.others.now }
     requires target_len { (length target.old ≡ max_variables) × Small target.old }
     ensures { (length target.new ≡ max_variables) × Small target.new }
 {
     for pass in 0..Passes::MOST {
-        if !lower_once(
-            file, rules, offsets, masks, line, count, model, others, stops, cut, strides, target,
-        ) {
+        if !lower_once(source, line, count, model, strides, target) {
             return true;
         }
     }
@@ -235,8 +200,8 @@ pub fn highest(
     requires { Small model.now × Small target.now }
 {
     let mut most = 0i64;
-    for k in 0..count {
-        let rise = rise_of(model, target, get(heads, k));
+    for &head in heads.iter().take(count) {
+        let rise = rise_of(model, target, head);
         if most < rise {
             most = rise;
         }
@@ -285,15 +250,7 @@ pub fn draw_in(
     requires target_len { (length target.old ≡ max_variables) × Small target.old }
     ensures { (length target.new ≡ max_variables) × Small target.new }
 {
-    for k in 0..count {
-        draw_one(
-            file,
-            variables,
-            get(heads, k),
-            steps,
-            strides,
-            model,
-            target,
-        );
+    for &head in heads.iter().take(count) {
+        draw_one(file, variables, head, steps, strides, model, target);
     }
 }

@@ -1,23 +1,21 @@
 -- Runs that go on.
+use Rattle.std.specs.Prelude.{Result, Ok}
 use Prim.Native.Nat.{ℕ, ◌≤◌, ◌<◌}
 use mathlib.Core.Path.{◌≡◌, sym, subst}
 use mathlib.Core.Bool.{Bool}
 use mathlib.Core.List.{List}
 use native.Mathlib.Omega.{arith}
 use lib.IntN.{ℤ}
-use lib.ListN.{length, get_or}
 use Rattle.format.specs.Limits.{max_rules}
-use Rattle.program.specs.Program.{Program}
 use Rattle.program.specs.Reading.{AcceptedAs}
 use Rattle.program.specs.Evaluable.{Small}
 use Rattle.program.specs.declared.Counts.{Counts}
 use Rattle.reader.proofs.Published.{limited, counts_of_is}
-use Rattle.run.specs.Running.{SomeRule, SomeRun}
+use Rattle.run.specs.Running.{SomeRun}
 use Rattle.run.proofs.SolveLaws.{run_small}
 use Rattle.sequence.specs.Standing.{RulesStand}
-use Rattle.laps.specs.declared.Lapped.{Lapped}
-use Rattle.laps.specs.declared.Lapped.TheVariants.{On}
 use Rattle.hastening.specs.Kept.{RunKept, RunLapped}
+use Rattle.run.specs.declared.NoModel.{NoModel}
 
 module _ {s offsets masks readers : List ℕ} {others stops : List ℤ} {cut : Bool} {m : List ℤ} {w : List ℕ} where
   pub kept_still : RunKept s offsets masks readers others stops cut m w m w
@@ -45,12 +43,12 @@ module _ {s offsets masks readers : List ℕ} {others stops : List ℤ} {cut : B
 -- ---- after laps
 
 module _ {s offsets masks readers : List ℕ} {others stops : List ℤ} {cut : Bool} {m : List ℤ} {w : List ℕ} {m' : List ℤ} {w' : List ℕ} where
-  pub kept_on : {b : Bool} → RunKept s offsets masks readers others stops cut m w m' w' → RunLapped s offsets masks readers others stops cut m w m' w' (On b)
+  pub kept_on : {b : Bool} → RunKept s offsets masks readers others stops cut m w m' w' → RunLapped s offsets masks readers others stops cut m w m' w' (Ok b)
   kept_on k = record { after = k.on; nearer = k.nearer }
 
-  pub lapped_on : {r : Lapped} {b : Bool} → RunLapped s offsets masks readers others stops cut m w m' w' r → r ≡ On b → RunKept s offsets masks readers others stops cut m w m' w'
+  pub lapped_on : {r : Result Bool NoModel} {b : Bool} → RunLapped s offsets masks readers others stops cut m w m' w' r → r ≡ Ok b → RunKept s offsets masks readers others stops cut m w m' w'
   lapped_on k e = record { on = λ P R θ r. rw e at (k.after P R θ r); nearer = k.nearer }
 
-  pub kept_lapped : {r : Lapped} {m'' : List ℤ} {w'' : List ℕ} → RunKept s offsets masks readers others stops cut m w m' w'
+  pub kept_lapped : {r : Result Bool NoModel} {m'' : List ℤ} {w'' : List ℕ} → RunKept s offsets masks readers others stops cut m w m' w'
       → RunLapped s offsets masks readers others stops cut m' w' m'' w'' r → RunLapped s offsets masks readers others stops cut m w m'' w'' r
   kept_lapped k l = record { after = λ P R θ r. l.after P R θ (k.on P R θ r); nearer = omega (arith, k.nearer, l.nearer) }

@@ -1,14 +1,14 @@
 -- What hastening keeps.
-use Rattle.std.specs.Prelude.{ℕ, ◌≤◌, Bool, List, ℤ}
+use Rattle.std.specs.Prelude.{ℕ, ◌≤◌, Bool, List, ℤ, Result}
 use Rattle.format.specs.Limits.{max_variables}
 use Rattle.program.specs.Program.{Program, variables_at}
 use Rattle.program.specs.Readings.{Valuation}
-use Rattle.meaning.specs.Founded.{Model}
-use Rattle.meaning.specs.Reduct.{Reckoning, reckoned}
+use Rattle.meaning.specs.Reduct.{Reckoning}
 use Rattle.meaning.proofs.Steps.{gap}
 use Rattle.run.specs.Running.{Running}
 use Rattle.laps.specs.Laps.{AfterLap}
-use Rattle.laps.specs.declared.Lapped.{Lapped}
+use Rattle.run.specs.declared.NoModel.{NoModel}
+use Rattle.run.specs.declared.Source.{Source}
 
 -- no value is further from its far end
 abbrev pub Nearer : List ℕ → List ℤ → List ℤ → Type 0
@@ -21,7 +21,14 @@ pub record RunKept (s offsets masks readers : List ℕ) (others stops : List ℤ
   pub nearer : Nearer s m m⁺
 
 -- or shows that there is no model
-pub record RunLapped (s offsets masks readers : List ℕ) (others stops : List ℤ) (cut : Bool) (m : List ℤ) (waiting : List ℕ) (m⁺ : List ℤ) (waiting⁺ : List ℕ) (r : Lapped) : Type 0 where
+pub record RunLapped (s offsets masks readers : List ℕ) (others stops : List ℤ) (cut : Bool) (m : List ℤ) (waiting : List ℕ) (m⁺ : List ℤ) (waiting⁺ : List ℕ) (r : Result Bool NoModel) : Type 0 where
   pub after : (P : Program) (R : Reckoning) (θ : Valuation) → Running s P R θ offsets masks readers others stops cut m waiting
       → AfterLap s P R θ offsets masks readers others stops cut m⁺ waiting⁺ r
   pub nearer : Nearer s m m⁺
+
+-- the same, said of what the run reads
+abbrev pub RunKeptBy : Source → List ℕ → List ℤ → List ℕ → List ℤ → List ℕ → Type 0
+RunKeptBy q readers m waiting m⁺ waiting⁺ = RunKept q.file.now q.offsets.now q.masks.now readers q.others.now q.stops.now q.cut m waiting m⁺ waiting⁺
+
+abbrev pub RunLappedBy : Source → List ℕ → List ℤ → List ℕ → List ℤ → List ℕ → Result Bool NoModel → Type 0
+RunLappedBy q readers m waiting m⁺ waiting⁺ r = RunLapped q.file.now q.offsets.now q.masks.now readers q.others.now q.stops.now q.cut m waiting m⁺ waiting⁺ r

@@ -4,13 +4,13 @@ ghost use Rattle.format.specs.Limits.{max_variables};
 ghost use Rattle.words.specs.Bit.{word_count};
 ghost use Rattle.program.specs.Reading.{AcceptedAs};
 ghost use Rattle.tables.specs.Tabled.{row_words};
-ghost use Rattle.run.specs.Running.{SomeRun};
-ghost use Rattle.hastening.specs.Kept.{RunKept, RunLapped};
+ghost use Rattle.run.specs.Sourced.{SomeRunBy};
+ghost use Rattle.hastening.specs.Kept.{RunKeptBy, RunLappedBy};
 
 use crate::leaps::leap_risen;
 use format::Format;
-use laps::{Lapped, lap};
-use program::Counts;
+use laps::lap;
+use run::{NoModel, Source};
 use sequence::noted;
 use sets::Set;
 use tables::Tables;
@@ -60,22 +60,14 @@ fn clear(risen: &mut [u64; Set::WORDS])
     requires { length risen.old ≡ word_count }
     ensures { length risen.new ≡ word_count }
 {
-    for t in 0..Set::WORDS {
-        risen[t] = 0;
-    }
+    risen.fill(0);
 }
 
 // After a lap: a leap is tried if it is time.
 fn pause(
-    file: &[u8],
-    counts: Counts,
-    offsets: &[u16],
-    masks: &[u32],
+    source: &Source,
     readers: &[u64],
     model: &mut [i64; Format::MAX_VARIABLES],
-    others: &[i64; Format::MAX_VARIABLES],
-    stops: &[i64; Format::MAX_VARIABLES],
-    cut: bool,
     waiting: &mut [u64; Tables::ROW],
     list: &[u8; Format::MAX_VARIABLES],
     from: usize,
@@ -84,27 +76,20 @@ fn pause(
     risen: &mut [u64; Set::WORDS],
     pace: Pace,
 ) -> Pace
-    requires accepted_as { AcceptedAs file.now counts }
-    requires some_run { SomeRun file.now offsets.now masks.now readers.now others.now stops.now cut model.old waiting.old }
+    requires accepted_as { AcceptedAs source.now.file.now source.now.counts }
+    requires some_run { SomeRunBy source.now readers.now model.old waiting.old }
     requires model_len { (length model.old ≡ max_variables) × (length waiting.old ≡ row_words) × (length risen.old ≡ word_count) }
     ensures model_len_2 { (length model.new ≡ max_variables) × (length waiting.new ≡ row_words) × (length risen.new ≡ word_count) }
-    ensures run_kept { RunKept file.now offsets.now masks.now readers.now others.now stops.now cut
-        model.old waiting.old model.new waiting.new }
+    ensures run_kept { RunKeptBy source.now readers.now model.old waiting.old model.new waiting.new }
 {
     let wait = pace.wait;
     let since = pace.since;
     if since < wait {
         let laps = since + 1;
-        return Pace {
-            wait: wait,
-            since: laps,
-        };
+        return Pace { wait, since: laps };
     }
     let n = places(from, to);
-    let far = leap_risen(
-        file, counts, offsets, masks, readers, model, others, stops, cut, waiting, list, from, to,
-        by, risen,
-    );
+    let far = leap_risen(source, readers, model, waiting, list, from, to, by, risen);
     clear(risen);
     Pace {
         wait: next_wait(wait, far, n),
@@ -115,15 +100,9 @@ fn pause(
 // Laps over the rules at the places from `start` to `end` of the order, whose heads are the variables at those from `from` to `to` of the list, until one raises
 // nothing.
 fn settle_part(
-    file: &[u8],
-    counts: Counts,
-    offsets: &[u16],
-    masks: &[u32],
+    source: &Source,
     readers: &[u64],
     model: &mut [i64; Format::MAX_VARIABLES],
-    others: &[i64; Format::MAX_VARIABLES],
-    stops: &[i64; Format::MAX_VARIABLES],
-    cut: bool,
     waiting: &mut [u64; Tables::ROW],
     order: &[u16],
     start: usize,
@@ -132,64 +111,49 @@ fn settle_part(
     from: usize,
     to: usize,
     by: &mut [u16; Format::MAX_VARIABLES],
-) -> Lapped
-    requires accepted_as { AcceptedAs file.now counts }
-    requires some_run { SomeRun file.now offsets.now masks.now readers.now others.now stops.now cut model.old waiting.old }
+) -> Result<bool, NoModel>
+    requires accepted_as { AcceptedAs source.now.file.now source.now.counts }
+    requires some_run { SomeRunBy source.now readers.now model.old waiting.old }
     requires model_len { (length model.old ≡ max_variables) × (length waiting.old ≡ row_words) × (length by.old ≡ max_variables) }
     ensures model_len_2 { (length model.new ≡ max_variables) × (length waiting.new ≡ row_words) × (length by.new ≡ max_variables) }
-    ensures run_lapped { RunLapped file.now offsets.now masks.now readers.now others.now stops.now cut
-        model.old waiting.old model.new waiting.new result }
+    ensures run_lapped { RunLappedBy source.now readers.now model.old waiting.old model.new waiting.new result }
 {
     let mut risen = [0u64; Set::WORDS];
     let mut pace = Pace {
         wait: Pace::FIRST,
         since: 1,
     };
-    let mut left = Pace::LAPS;
-    while left > 0 {
-        let lapped = lap(
-            file, offsets, masks, readers, order, start, end, model, others, stops, cut, waiting,
-            by, &mut risen,
-        );
-        let Lapped::On(raised) = lapped else {
-            return Lapped::NoModel;
-        };
+    for _ in 0..Pace::LAPS {
+        let raised = lap(
+            source, readers, order, start, end, model, waiting, by, &mut risen,
+        )?;
         if !raised {
-            return Lapped::On(false);
+            return Ok(false);
         }
         pace = pause(
-            file, counts, offsets, masks, readers, model, others, stops, cut, waiting, list, from,
-            to, by, &mut risen, pace,
+            source, readers, model, waiting, list, from, to, by, &mut risen, pace,
         );
-        left -= 1;
     }
-    Lapped::On(true)
+    Ok(true)
 }
 
 // Each of so many components: `lasts` has the places after their last variables, `ends` those after their last rules.
 pub fn hasten(
-    file: &[u8],
-    counts: Counts,
-    offsets: &[u16],
-    masks: &[u32],
+    source: &Source,
     readers: &[u64],
     model: &mut [i64; Format::MAX_VARIABLES],
-    others: &[i64; Format::MAX_VARIABLES],
-    stops: &[i64; Format::MAX_VARIABLES],
-    cut: bool,
     waiting: &mut [u64; Tables::ROW],
     order: &[u16],
     ends: &[u16; Format::MAX_VARIABLES],
     list: &[u8; Format::MAX_VARIABLES],
     lasts: &[u16; Format::MAX_VARIABLES],
     parts: usize,
-) -> Lapped
-    requires accepted_as { AcceptedAs file.now counts }
-    requires some_run { SomeRun file.now offsets.now masks.now readers.now others.now stops.now cut model.old waiting.old }
+) -> Result<bool, NoModel>
+    requires accepted_as { AcceptedAs source.now.file.now source.now.counts }
+    requires some_run { SomeRunBy source.now readers.now model.old waiting.old }
     requires model_len { (length model.old ≡ max_variables) × (length waiting.old ≡ row_words) }
     ensures model_len_2 { (length model.new ≡ max_variables) × (length waiting.new ≡ row_words) }
-    ensures run_lapped { RunLapped file.now offsets.now masks.now readers.now others.now stops.now cut
-        model.old waiting.old model.new waiting.new result }
+    ensures run_lapped { RunLappedBy source.now readers.now model.old waiting.old model.new waiting.new result }
 {
     let mut by = [0u16; Format::MAX_VARIABLES];
     let mut start = 0;
@@ -197,15 +161,11 @@ pub fn hasten(
     for p in 0..parts {
         let end = noted(ends, p);
         let to = noted(lasts, p);
-        let lapped = settle_part(
-            file, counts, offsets, masks, readers, model, others, stops, cut, waiting, order,
-            start, end, list, from, to, &mut by,
-        );
-        if let Lapped::NoModel = lapped {
-            return Lapped::NoModel;
-        }
+        settle_part(
+            source, readers, model, waiting, order, start, end, list, from, to, &mut by,
+        )?;
         start = end;
         from = to;
     }
-    Lapped::On(false)
+    Ok(false)
 }

@@ -4,8 +4,8 @@ ghost use Rattle.format.specs.Limits.{max_variables};
 ghost use Rattle.program.specs.Evaluable.{Small};
 ghost use Rattle.program.specs.Reading.{AcceptedAs};
 ghost use Rattle.tables.specs.Tabled.{row_words};
-ghost use Rattle.run.specs.Running.{SomeRun};
-ghost use Rattle.hastening.specs.Kept.{RunKept};
+ghost use Rattle.run.specs.Sourced.{SomeRunBy};
+ghost use Rattle.hastening.specs.Kept.{RunKeptBy};
 
 use format::Format;
 use guess::levels::level;
@@ -13,7 +13,7 @@ use guess::line::gather;
 use guess::numbers::{copy, double};
 use guess::strides::lengthen;
 use guess::targets::{draw_in, highest, lower, open};
-use program::Counts;
+use run::Source;
 use sets::Set;
 use tables::Tables;
 use targets::leaping::leap;
@@ -21,34 +21,26 @@ use targets::leaping::leap;
 // The values leap to their targets where these are solved and shown; else nothing changes.
 fn leap_if(
     solved: bool,
-    file: &[u8],
-    counts: Counts,
-    offsets: &[u16],
-    masks: &[u32],
+    source: &Source,
     readers: &[u64],
     model: &mut [i64; Format::MAX_VARIABLES],
-    others: &[i64; Format::MAX_VARIABLES],
-    stops: &[i64; Format::MAX_VARIABLES],
-    cut: bool,
     waiting: &mut [u64; Tables::ROW],
     line: &[usize; Format::MAX_VARIABLES],
     count: usize,
     target: &[i64; Format::MAX_VARIABLES],
     strides: &[i64; Format::MAX_VARIABLES],
 ) -> bool
-    requires accepted_as { AcceptedAs file.now counts }
-    requires some_run { SomeRun file.now offsets.now masks.now readers.now others.now stops.now cut model.old waiting.old }
+    requires accepted_as { AcceptedAs source.now.file.now source.now.counts }
+    requires some_run { SomeRunBy source.now readers.now model.old waiting.old }
     requires model_len { (length model.old ≡ max_variables) × (length target.now ≡ max_variables) × (length waiting.old ≡ row_words) }
     ensures model_len_2 { (length model.new ≡ max_variables) × (length waiting.new ≡ row_words) }
-    ensures run_kept { RunKept file.now offsets.now masks.now readers.now others.now stops.now cut
-        model.old waiting.old model.new waiting.new }
+    ensures run_kept { RunKeptBy source.now readers.now model.old waiting.old model.new waiting.new }
 {
     if !solved {
         return false;
     }
     leap(
-        file, counts, offsets, masks, readers, model, others, stops, cut, waiting, line, count,
-        target, strides,
+        source, readers, model, waiting, line, count, target, strides,
     )
 }
 
@@ -66,15 +58,9 @@ impl Tries {
 
 // Targets for the heads of the line are lowered, and the values leap to them where the rules show them. It answers the most steps of the leap; 0 where there is none.
 fn leap_to(
-    file: &[u8],
-    counts: Counts,
-    offsets: &[u16],
-    masks: &[u32],
+    source: &Source,
     readers: &[u64],
     model: &mut [i64; Format::MAX_VARIABLES],
-    others: &[i64; Format::MAX_VARIABLES],
-    stops: &[i64; Format::MAX_VARIABLES],
-    cut: bool,
     waiting: &mut [u64; Tables::ROW],
     line: &[usize; Format::MAX_VARIABLES],
     heads: &[u8; Format::MAX_VARIABLES],
@@ -82,26 +68,21 @@ fn leap_to(
     strides: &[i64; Format::MAX_VARIABLES],
     target: &mut [i64; Format::MAX_VARIABLES],
 ) -> i64
-    requires accepted_as { AcceptedAs file.now counts }
-    requires some_run { SomeRun file.now offsets.now masks.now readers.now others.now stops.now cut model.old waiting.old }
+    requires accepted_as { AcceptedAs source.now.file.now source.now.counts }
+    requires some_run { SomeRunBy source.now readers.now model.old waiting.old }
     requires model_len { (length model.old ≡ max_variables) × (length waiting.old ≡ row_words) × (count ≤ max_variables) }
     requires target_len { (length target.old ≡ max_variables) × Small target.old }
     ensures model_len_2 { (length model.new ≡ max_variables) × (length waiting.new ≡ row_words) }
     ensures target_len_2 { (length target.new ≡ max_variables) × Small target.new }
-    ensures run_kept { RunKept file.now offsets.now masks.now readers.now others.now stops.now cut
-        model.old waiting.old model.new waiting.new }
+    ensures run_kept { RunKeptBy source.now readers.now model.old waiting.old model.new waiting.new }
 {
-    let rules = counts.rules;
-    let solved = lower(
-        file, rules, offsets, masks, line, count, model, others, stops, cut, strides, target,
-    );
+    let solved = lower(source, line, count, model, strides, target);
     let rise = highest(heads, count, model, target);
     if rise < 2 {
         return 0;
     }
     if leap_if(
-        solved, file, counts, offsets, masks, readers, model, others, stops, cut, waiting, line,
-        count, target, strides,
+        solved, source, readers, model, waiting, line, count, target, strides,
     ) {
         return rise;
     }
@@ -110,15 +91,9 @@ fn leap_to(
 
 // The same, with targets that are at most so many steps from the values; only where some are further.
 fn leap_by(
-    file: &[u8],
-    counts: Counts,
-    offsets: &[u16],
-    masks: &[u32],
+    source: &Source,
     readers: &[u64],
     model: &mut [i64; Format::MAX_VARIABLES],
-    others: &[i64; Format::MAX_VARIABLES],
-    stops: &[i64; Format::MAX_VARIABLES],
-    cut: bool,
     waiting: &mut [u64; Tables::ROW],
     line: &[usize; Format::MAX_VARIABLES],
     heads: &[u8; Format::MAX_VARIABLES],
@@ -128,38 +103,30 @@ fn leap_by(
     steps: i64,
     target: &mut [i64; Format::MAX_VARIABLES],
 ) -> i64
-    requires accepted_as { AcceptedAs file.now counts }
-    requires some_run { SomeRun file.now offsets.now masks.now readers.now others.now stops.now cut model.old waiting.old }
+    requires accepted_as { AcceptedAs source.now.file.now source.now.counts }
+    requires some_run { SomeRunBy source.now readers.now model.old waiting.old }
     requires model_len { (length model.old ≡ max_variables) × (length waiting.old ≡ row_words) × (count ≤ max_variables) }
     requires target_len { (length target.old ≡ max_variables) × Small target.old }
     ensures model_len_2 { (length model.new ≡ max_variables) × (length waiting.new ≡ row_words) }
     ensures target_len_2 { (length target.new ≡ max_variables) × Small target.new }
-    ensures run_kept { RunKept file.now offsets.now masks.now readers.now others.now stops.now cut
-        model.old waiting.old model.new waiting.new }
+    ensures run_kept { RunKeptBy source.now readers.now model.old waiting.old model.new waiting.new }
 {
-    let n = counts.variables;
+    let n = source.counts.variables;
     copy(target, first, n);
     if highest(heads, count, model, target) <= steps {
         return 0;
     }
-    draw_in(file, n, heads, count, steps, strides, model, target);
+    draw_in(source.file, n, heads, count, steps, strides, model, target);
     leap_to(
-        file, counts, offsets, masks, readers, model, others, stops, cut, waiting, line, heads,
-        count, strides, target,
+        source, readers, model, waiting, line, heads, count, strides, target,
     )
 }
 
 // Leaps by few steps, then by twice as many, and so on while the rules show them. Whether one of them was far.
 fn leap_by_doubles(
-    file: &[u8],
-    counts: Counts,
-    offsets: &[u16],
-    masks: &[u32],
+    source: &Source,
     readers: &[u64],
     model: &mut [i64; Format::MAX_VARIABLES],
-    others: &[i64; Format::MAX_VARIABLES],
-    stops: &[i64; Format::MAX_VARIABLES],
-    cut: bool,
     waiting: &mut [u64; Tables::ROW],
     line: &[usize; Format::MAX_VARIABLES],
     heads: &[u8; Format::MAX_VARIABLES],
@@ -168,43 +135,33 @@ fn leap_by_doubles(
     first: &[i64; Format::MAX_VARIABLES],
     target: &mut [i64; Format::MAX_VARIABLES],
 ) -> bool
-    requires accepted_as { AcceptedAs file.now counts }
-    requires some_run { SomeRun file.now offsets.now masks.now readers.now others.now stops.now cut model.old waiting.old }
+    requires accepted_as { AcceptedAs source.now.file.now source.now.counts }
+    requires some_run { SomeRunBy source.now readers.now model.old waiting.old }
     requires model_len { (length model.old ≡ max_variables) × (length waiting.old ≡ row_words) × (count ≤ max_variables) }
     requires target_len { (length target.old ≡ max_variables) × Small target.old }
     ensures model_len_2 { (length model.new ≡ max_variables) × (length waiting.new ≡ row_words) }
-    ensures run_kept { RunKept file.now offsets.now masks.now readers.now others.now stops.now cut
-        model.old waiting.old model.new waiting.new }
+    ensures run_kept { RunKeptBy source.now readers.now model.old waiting.old model.new waiting.new }
 {
     let mut far = false;
     let mut steps = Tries::FEW;
-    let mut left = Tries::MOST;
-    while left > 0 {
+    for _ in 0..Tries::MOST {
         let leapt = leap_by(
-            file, counts, offsets, masks, readers, model, others, stops, cut, waiting, line, heads,
-            count, strides, first, steps, target,
+            source, readers, model, waiting, line, heads, count, strides, first, steps, target,
         );
         if leapt == 0 {
             return far;
         }
         far = far | (leapt >= Tries::FAR);
         steps = double(steps);
-        left -= 1;
     }
     far
 }
 
 // Where the targets are not shown as they are: up to the level of the rules, or else by ever more steps. Whether the values leapt far.
 fn leap_less(
-    file: &[u8],
-    counts: Counts,
-    offsets: &[u16],
-    masks: &[u32],
+    source: &Source,
     readers: &[u64],
     model: &mut [i64; Format::MAX_VARIABLES],
-    others: &[i64; Format::MAX_VARIABLES],
-    stops: &[i64; Format::MAX_VARIABLES],
-    cut: bool,
     waiting: &mut [u64; Tables::ROW],
     line: &[usize; Format::MAX_VARIABLES],
     heads: &[u8; Format::MAX_VARIABLES],
@@ -212,45 +169,33 @@ fn leap_less(
     strides: &[i64; Format::MAX_VARIABLES],
     target: &mut [i64; Format::MAX_VARIABLES],
 ) -> bool
-    requires accepted_as { AcceptedAs file.now counts }
-    requires some_run { SomeRun file.now offsets.now masks.now readers.now others.now stops.now cut model.old waiting.old }
+    requires accepted_as { AcceptedAs source.now.file.now source.now.counts }
+    requires some_run { SomeRunBy source.now readers.now model.old waiting.old }
     requires model_len { (length model.old ≡ max_variables) × (length waiting.old ≡ row_words) × (count ≤ max_variables) }
     requires target_len { (length target.old ≡ max_variables) × Small target.old }
     ensures model_len_2 { (length model.new ≡ max_variables) × (length waiting.new ≡ row_words) }
-    ensures run_kept { RunKept file.now offsets.now masks.now readers.now others.now stops.now cut
-        model.old waiting.old model.new waiting.new }
+    ensures run_kept { RunKeptBy source.now readers.now model.old waiting.old model.new waiting.new }
 {
-    let n = counts.variables;
-    let rules = counts.rules;
+    let n = source.counts.variables;
     let mut first = [0i64; Format::MAX_VARIABLES];
     copy(&mut first, target, n);
-    level(
-        file, n, rules, offsets, masks, line, heads, count, model, others, target,
-    );
+    level(source, line, heads, count, model, target);
     let leapt = leap_to(
-        file, counts, offsets, masks, readers, model, others, stops, cut, waiting, line, heads,
-        count, strides, target,
+        source, readers, model, waiting, line, heads, count, strides, target,
     );
     if leapt > 0 {
         return leapt >= Tries::FAR;
     }
     leap_by_doubles(
-        file, counts, offsets, masks, readers, model, others, stops, cut, waiting, line, heads,
-        count, strides, &first, target,
+        source, readers, model, waiting, line, heads, count, strides, &first, target,
     )
 }
 
 // Targets for the heads of the line, whose rules are to show them: as far as these go, or less far. Whether the values leapt far.
 fn leap_on(
-    file: &[u8],
-    counts: Counts,
-    offsets: &[u16],
-    masks: &[u32],
+    source: &Source,
     readers: &[u64],
     model: &mut [i64; Format::MAX_VARIABLES],
-    others: &[i64; Format::MAX_VARIABLES],
-    stops: &[i64; Format::MAX_VARIABLES],
-    cut: bool,
     waiting: &mut [u64; Tables::ROW],
     line: &[usize; Format::MAX_VARIABLES],
     heads: &[u8; Format::MAX_VARIABLES],
@@ -258,19 +203,16 @@ fn leap_on(
     strides: &[i64; Format::MAX_VARIABLES],
     target: &mut [i64; Format::MAX_VARIABLES],
 ) -> bool
-    requires accepted_as { AcceptedAs file.now counts }
-    requires some_run { SomeRun file.now offsets.now masks.now readers.now others.now stops.now cut model.old waiting.old }
+    requires accepted_as { AcceptedAs source.now.file.now source.now.counts }
+    requires some_run { SomeRunBy source.now readers.now model.old waiting.old }
     requires model_len { (length model.old ≡ max_variables) × (length waiting.old ≡ row_words) × (count ≤ max_variables) }
     requires target_len { (length target.old ≡ max_variables) × Small target.old }
     ensures model_len_2 { (length model.new ≡ max_variables) × (length waiting.new ≡ row_words) }
-    ensures run_kept { RunKept file.now offsets.now masks.now readers.now others.now stops.now cut
-        model.old waiting.old model.new waiting.new }
+    ensures run_kept { RunKeptBy source.now readers.now model.old waiting.old model.new waiting.new }
 {
-    let n = counts.variables;
-    open(file, n, heads, count, model, stops, cut, target);
+    open(source, heads, count, model, target);
     let leapt = leap_to(
-        file, counts, offsets, masks, readers, model, others, stops, cut, waiting, line, heads,
-        count, strides, target,
+        source, readers, model, waiting, line, heads, count, strides, target,
     );
     if leapt > 0 {
         return leapt >= Tries::FAR;
@@ -279,22 +221,15 @@ fn leap_on(
         return false;
     }
     leap_less(
-        file, counts, offsets, masks, readers, model, others, stops, cut, waiting, line, heads,
-        count, strides, target,
+        source, readers, model, waiting, line, heads, count, strides, target,
     )
 }
 
 // The values of the variables of a component that have risen, those at the places from `from` to `to` of the list, leap if they can; whether they leapt far.
 pub fn leap_risen(
-    file: &[u8],
-    counts: Counts,
-    offsets: &[u16],
-    masks: &[u32],
+    source: &Source,
     readers: &[u64],
     model: &mut [i64; Format::MAX_VARIABLES],
-    others: &[i64; Format::MAX_VARIABLES],
-    stops: &[i64; Format::MAX_VARIABLES],
-    cut: bool,
     waiting: &mut [u64; Tables::ROW],
     list: &[u8; Format::MAX_VARIABLES],
     from: usize,
@@ -302,41 +237,22 @@ pub fn leap_risen(
     by: &[u16; Format::MAX_VARIABLES],
     risen: &[u64; Set::WORDS],
 ) -> bool
-    requires accepted_as { AcceptedAs file.now counts }
-    requires some_run { SomeRun file.now offsets.now masks.now readers.now others.now stops.now cut model.old waiting.old }
+    requires accepted_as { AcceptedAs source.now.file.now source.now.counts }
+    requires some_run { SomeRunBy source.now readers.now model.old waiting.old }
     requires model_len { (length model.old ≡ max_variables) × (length waiting.old ≡ row_words) }
     ensures model_len_2 { (length model.new ≡ max_variables) × (length waiting.new ≡ row_words) }
-    ensures run_kept { RunKept file.now offsets.now masks.now readers.now others.now stops.now cut
-        model.old waiting.old model.new waiting.new }
+    ensures run_kept { RunKeptBy source.now readers.now model.old waiting.old model.new waiting.new }
 {
     let mut line = [0usize; Format::MAX_VARIABLES];
     let mut heads = [0u8; Format::MAX_VARIABLES];
     let mut target = [0i64; Format::MAX_VARIABLES];
     let mut strides = [0i64; Format::MAX_VARIABLES];
     let count = gather(list, from, to, by, risen, &mut line, &mut heads);
-    let n = counts.variables;
-    let rules = counts.rules;
-    lengthen(
-        file,
-        n,
-        rules,
-        offsets,
-        masks,
-        &line,
-        &heads,
-        count,
-        &mut strides,
-    );
+    lengthen(source, &line, &heads, count, &mut strides);
     leap_on(
-        file,
-        counts,
-        offsets,
-        masks,
+        source,
         readers,
         model,
-        others,
-        stops,
-        cut,
         waiting,
         &line,
         &heads,

@@ -1,4 +1,5 @@
 -- The value that makes a rule give most, position by position, and what the rule gives there.
+use Rattle.std.specs.Prelude.{Option, Some, None}
 use Prim.Native.Nat.{ℕ, ◌+◌, ◌*◌, ◌<◌, ◌≤◌}
 use mathlib.Core.Path.{◌≡◌, refl, sym, ap, ap₂, ◌∙◌}
 use mathlib.Core.List.{List}
@@ -22,8 +23,6 @@ use Rattle.program.specs.Readings.{valued, body_variable}
 use Rattle.program.specs.Idle.{furthest, nearest, demanding, most_at, most, lows, highs, is_idle}
 use Rattle.program.specs.declared.Direction.{Direction}
 use Rattle.program.specs.declared.Direction.TheVariants.{Rising, Falling, Mixed}
-use Rattle.program.specs.declared.Given.{Given}
-use Rattle.program.specs.declared.Given.TheVariants.{Nothing, Value}
 use Rattle.program.specs.declared.Term.{Term}
 use Rattle.program.specs.declared.Variable.{Variable}
 use Rattle.program.proofs.Conditions.{never}
@@ -186,11 +185,11 @@ pub size_position : {s : List ℕ} {n : ℕ} {v : List ℕ} → Ready s n v → 
 size_position p f = enough_of p.evaluable 5 (size_form f)
 
 -- what is given, by the machine's test
-module _ (x : Variable) {g : Given} where
-  pub none_given : g ≡ Nothing → true ≡ no_more x g (start x)
+module _ (x : Variable) {g : Option ℤ} where
+  pub none_given : g ≡ None → true ≡ no_more x g (start x)
   none_given e = rw e
 
-  pub value_given : (a : ℤ) {z : ℤ} {t : Bool} → g ≡ Value a → z ≡ start x → t ≡ not (not_past x a z) → not t ≡ no_more x g (start x)
+  pub value_given : (a : ℤ) {z : ℤ} {t : Bool} → g ≡ Some a → z ≡ start x → t ≡ not (not_past x a z) → not t ≡ no_more x g (start x)
   value_given a {z} e p q = ap not q ∙ not_not (not_past x a z) ∙ rw (e, p)
     where
       not_not : (b : Bool) → not (not b) ≡ b
@@ -209,7 +208,7 @@ module _ (vs : List Variable) (r : Rule) where
       either false = refl
 
   -- a size, by its one position
-  pub size_most : Evaluable r → r.form ≡ 5 → {z a : ℤ} → z ≡ most_declared vs r 0 → a ≡ r.c +ℤ pos (nat_abs z) → Value a ≡ most vs r (lows vs) (highs vs)
+  pub size_most : Evaluable r → r.form ≡ 5 → {z a : ℤ} → z ≡ most_declared vs r 0 → a ≡ r.c +ℤ pos (nat_abs z) → Some a ≡ most vs r (lows vs) (highs vs)
   unfolding most
   size_most e f p q =
       given_is r (most_declared vs r) (plain_hold r.terms (most_declared vs r) (length r.terms) (e.plain (ap has_literals five)))
@@ -218,7 +217,7 @@ module _ (vs : List Variable) (r : Rule) where
       five : term_form r.form ≡ 5
       five = size_form f
 
-  pub idle_is : {x : Variable} {g : Given} {b : Bool} → b ≡ no_more x g (start x) → x ≡ variable_in vs r.head
+  pub idle_is : {x : Variable} {g : Option ℤ} {b : Bool} → b ≡ no_more x g (start x) → x ≡ variable_in vs r.head
       → g ≡ most vs r (lows vs) (highs vs) → b ≡ is_idle vs r
   unfolding is_idle
   idle_is p q e = p ∙ rw (q, e)

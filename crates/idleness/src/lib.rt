@@ -12,13 +12,13 @@ ghost use Rattle.positions.specs.Positions.{OpenedIs};
 ghost use Rattle.positions.specs.Kinds.{direction_of, kind_in};
 ghost use Rattle.idleness.specs.Most.{Ready, most_declared};
 
-use bodies::numbers;
+use bodies::{Readings, numbers};
 use evaluation::rules::gives;
 use format::Format;
 use parts::{rules, terms, variables};
 use positions::kinds::Kinds;
 use positions::{Opened, directions, kinds, open_rule, position_at};
-use program::{Direction, Given, Term, Variable};
+use program::{Direction, Term, Variable};
 
 // Of the values from low to high one that is furthest from 0.
 fn furthest(low: i64, high: i64) -> i64
@@ -105,11 +105,8 @@ fn set_by_direction(
         → valued values.new (body_variable (rule_of value.now) i)
         ≡ most_declared (variables_at file.now variables) (rule_of value.now) i }
 {
-    let n = rules::positions(value);
-    let mut i = 0;
-    while i < n {
+    for i in 0..rules::positions(value) {
         set_position(values, file, variables, value, rule, i);
-        i += 1;
     }
 }
 
@@ -148,13 +145,10 @@ fn set_by_kind(
 {
     let kinds = kinds::kinds_of(rule.form, rule.variable);
     let body = rules::body(value);
-    let n = rules::positions(value);
-    let mut i = 0;
-    while i < n {
+    for i in 0..rules::positions(value) {
         let t = terms::term(body, i);
         let x = variables::variable(file, t.variable);
         set_term(values, rule.variable, kinds, x, t);
-        i += 1;
     }
 }
 
@@ -182,10 +176,10 @@ fn set_most(
 }
 
 // Whether what is given is nothing or no more than the starting end of x.
-fn is_no_more(x: Variable, given: Given) -> bool
+fn is_no_more(x: Variable, given: Option<i64>) -> bool
     ensures { result ≡ no_more x given (start x) }
 {
-    let Given::Value(a) = given else {
+    let Some(a) = given else {
         return true;
     };
     !x.is_before(x.start(), a)
@@ -203,7 +197,7 @@ pub fn is_idle_size(file: &[u8], variables: usize, value: &[u8]) -> bool
     let d = p.direction;
     let x = variables::variable(file, p.variable);
     let most = demanding(rule.variable, d, x.low, x.high);
-    let given = Given::Value(numbers::plus(header.c, numbers::size(most)));
+    let given = Some(numbers::plus(header.c, numbers::size(most)));
     is_no_more(rule.variable, given)
 }
 
@@ -221,6 +215,11 @@ pub fn is_idle(
 {
     let rule = open_rule(file, variables, value);
     set_most(values, file, variables, value, rule);
-    let most = gives(value, 0, values, values);
+    let readings = Readings {
+        kept: 0,
+        first: values,
+        second: values,
+    };
+    let most = gives(value, readings);
     is_no_more(rule.variable, most)
 }

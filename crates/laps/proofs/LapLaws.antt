@@ -1,10 +1,9 @@
 -- One rule of the set is looked at: the run goes on.
+use Rattle.std.specs.Prelude.{Option, Some, None, Result, Ok}
 use Prim.Native.Nat.{ℕ, ◌<◌, ◌≤◌}
-use mathlib.Core.Path.{◌≡◌, refl, ap}
+use mathlib.Core.Path.{◌≡◌, ap}
 use mathlib.Core.Bool.{Bool, true, false, not}
 use mathlib.Core.List.{List}
-use mathlib.Core.Logic.{◌⊎◌, inl, inr}
-use denote.Enum.Declared.{tag_of, declared}
 use native.Mathlib.Omega.{arith}
 use lib.Dec.{T}
 use lib.IntN.{ℤ}
@@ -18,15 +17,11 @@ use Rattle.program.specs.declared.Variable.{Variable}
 use Rattle.meaning.specs.Reduct.{Reckoning}
 use Rattle.meaning.proofs.Steps.{gap}
 use Rattle.laps.specs.Laps.{AfterTry}
-use Rattle.laps.specs.declared.Tried.{Tried}
-use Rattle.laps.specs.contracts.Tried.{enum}
-use Rattle.laps.specs.declared.Tried.TheVariants as tried
 use Rattle.run.specs.Running.{RuleStands, SomeRule, LookedAt, Dropped, Lifting, Lifted, Unchanged, Running}
-use Rattle.run.specs.declared.Demand.{Demand}
-use Rattle.run.specs.declared.Demand.TheVariants.{More, Enough}
 use Rattle.run.proofs.RunLaws.{reckons_demanded}
 use Rattle.run.proofs.StepLaws.{demands_more, demands_enough, dropped_inside, dropped_met, dropped_lifting}
 use Rattle.run.proofs.SolveLaws.{run_assigned}
+use Rattle.run.specs.declared.NoModel.{NoModel}
 
 module _ {s : List ℕ} {P : Program} {R : Reckoning} {θ : Valuation} {offsets masks readers : List ℕ} {others stops : List ℤ} {cut : Bool} {m : List ℤ} {waiting : List ℕ}
     (k : Running s P R θ offsets masks readers others stops cut m waiting) (i : ℕ) (few : i < max_rules) (waits : has waiting i ≡ true) where
@@ -39,10 +34,10 @@ module _ {s : List ℕ} {P : Program} {R : Reckoning} {θ : Valuation} {offsets 
   pub try_some : SomeRule s (get_or offsets i 0)
   try_some = record { program = P; rule = i; here = try_stands }
 
-  module _ (w : List ℕ) (d : Dropped (has waiting) (has w) i) {t : Demand}
+  module _ (w : List ℕ) (d : Dropped (has waiting) (has w) i) {t : Option ℤ}
       (f : (Q : Program) → RuleStands s Q i (get_or offsets i 0) → LookedAt Q (get_or masks i 0) cut stops others m i t) where
     -- met
-    pub try_met : t ≡ Enough → Running s P R θ offsets masks readers others stops cut m w
+    pub try_met : t ≡ None → Running s P R θ offsets masks readers others stops cut m w
     try_met e = record {
       task = k.task;
       progress = k.progress;
@@ -52,7 +47,7 @@ module _ {s : List ℕ} {P : Program} {R : Reckoning} {θ : Valuation} {offsets 
     }
 
     -- or more than its head has
-    pub try_more : {a : ℤ} → t ≡ More a → Lifting P R θ (valued m) (has w) i a
+    pub try_more : {a : ℤ} → t ≡ Some a → Lifting P R θ (valued m) (has w) i a
     try_more e = dropped_lifting d P R θ (valued m) k.outside try_among
         (demands_more P R θ (valued m) i (reckons_demanded k.task.basis.reckons m (run_assigned k) i try_among (f P try_stands)) e)
 
@@ -67,8 +62,6 @@ not_moved {s} {m = m} k w {h} e {y} v {b = b} q m⁺ w⁺ t l f =
 
 -- what is tried and leaves a model open
 module _ {s : List ℕ} {P : Program} {R : Reckoning} {θ : Valuation} {offsets masks readers : List ℕ} {others stops : List ℤ} {cut : Bool} (m : List ℤ) (waiting : List ℕ) where
-  pub went_on : (t : Tried) → (t ≡ tried.NoModel → ⊥) → AfterTry s P R θ offsets masks readers others stops cut m waiting t
+  pub went_on : {t : Result (Option ℕ) NoModel} {raised : Option ℕ} → t ≡ Ok raised → AfterTry s P R θ offsets masks readers others stops cut m waiting t
       → Running s P R θ offsets masks readers others stops cut m waiting
-  went_on tried.Met e k = k
-  went_on (tried.Raised h) e k = k
-  went_on tried.NoModel e k = absurd (e refl)
+  went_on e k = rw e at k

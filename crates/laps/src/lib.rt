@@ -9,68 +9,46 @@ ghost use Rattle.program.specs.Readings.{Valuation};
 ghost use Rattle.meaning.specs.Reduct.{Reckoning};
 ghost use Rattle.meaning.proofs.Steps.{gap};
 ghost use Rattle.tables.specs.Tabled.{row_words};
-ghost use Rattle.run.specs.Running.{Running, SomeRun};
-ghost use Rattle.laps.specs.Laps.{AfterTry, AfterLap};
+ghost use Rattle.run.specs.Sourced.{RunningBy, SomeRunBy};
+ghost use Rattle.laps.specs.Laps.{AfterTryBy, AfterLapBy};
 
 use format::Format;
 use parts::variables;
 use run::solve::raise;
-use run::{Demand, demands};
+use run::{NoModel, Source, demands};
 use sets::Set;
 use tables::Tables;
 
-// A rule was met or did not wait, or it raised its head, or there is no model.
-#[derive(Drop)]
-pub enum Tried {
-    Met,
-    Raised(u8),
-    NoModel,
-}
-
-// The run goes on, and whether some head was raised; or there is no model.
-#[derive(Drop)]
-pub enum Lapped {
-    On(bool),
-    NoModel,
-}
-
 // Rule i is looked at if it waits, and leaves the set.
 fn attempt(
-    file: &[u8],
-    offsets: &[u16],
-    masks: &[u32],
+    source: &Source,
     readers: &[u64],
     i: usize,
     model: &mut [i64; Format::MAX_VARIABLES],
-    others: &[i64; Format::MAX_VARIABLES],
-    stops: &[i64; Format::MAX_VARIABLES],
-    cut: bool,
     waiting: &mut [u64; Tables::ROW],
-) -> Tried
-    requires some_run { SomeRun file.now offsets.now masks.now readers.now others.now stops.now cut model.old waiting.old }
+) -> Result<Option<u8>, NoModel>
+    requires some_run { SomeRunBy source.now readers.now model.old waiting.old }
     requires i_lt_max_rules { (i < max_rules) × (length model.old ≡ max_variables) × (length waiting.old ≡ row_words) }
     ensures model_len { (length model.new ≡ max_variables) × (length waiting.new ≡ row_words) }
-    ensures model_bound { gap (variables_at file.now max_variables) model.new ≤ gap (variables_at file.now max_variables) model.old }
+    ensures model_bound { gap (variables_at source.now.file.now max_variables) model.new ≤ gap (variables_at source.now.file.now max_variables) model.old }
     ensures after_try { (P : Program) (R : Reckoning) (θ : Valuation)
-        → Running file.now P R θ offsets.now masks.now readers.now others.now stops.now cut
-        model.old waiting.old
-        → AfterTry file.now P R θ offsets.now masks.now readers.now others.now stops.now cut
-        model.new waiting.new result }
+        → RunningBy source.now P R θ readers.now model.old waiting.old
+        → AfterTryBy source.now P R θ readers.now model.new waiting.new result }
 {
     if !words::has_bit(waiting, i) {
-        return Tried::Met;
+        return Ok(None);
     }
     words::drop_bit(waiting, i);
-    let found = demands::look(file, offsets, masks, i, model, others, stops, cut);
-    let Demand::More(a) = found else {
-        return Tried::Met;
+    let found = demands::look(source, i, model);
+    let Some(a) = found else {
+        return Ok(None);
     };
-    let head = demands::head_of(file, offsets, i);
-    let x = variables::variable(file, head);
+    let head = demands::head_of(source.file, source.offsets, i);
+    let x = variables::variable(source.file, head);
     if !raise(x, readers, head, a, model, waiting) {
-        return Tried::NoModel;
+        return Err(NoModel);
     }
-    Tried::Raised(head)
+    Ok(Some(head))
 }
 
 fn wide(x: u16) -> usize {
@@ -89,7 +67,7 @@ fn rule_at(order: &[u16], k: usize) -> usize
 
 // Notes that rule i raised its head last, if it did, and answers whether it did.
 fn note(
-    tried: Tried,
+    tried: Option<u8>,
     i: usize,
     by: &mut [u16; Format::MAX_VARIABLES],
     risen: &mut [u64; Set::WORDS],
@@ -97,7 +75,7 @@ fn note(
     requires { (length by.old ≡ max_variables) × (length risen.old ≡ word_count) }
     ensures { (length by.new ≡ max_variables) × (length risen.new ≡ word_count) }
 {
-    let Tried::Raised(head) = tried else {
+    let Some(head) = tried else {
         return false;
     };
     let v = format::wide(head);
@@ -108,46 +86,32 @@ fn note(
 
 // The rules at the places from `from` to `to` of an order, those that wait, one after the other. `by` has for each risen variable the rule that raised it last.
 pub fn lap(
-    file: &[u8],
-    offsets: &[u16],
-    masks: &[u32],
+    source: &Source,
     readers: &[u64],
     order: &[u16],
     from: usize,
     to: usize,
     model: &mut [i64; Format::MAX_VARIABLES],
-    others: &[i64; Format::MAX_VARIABLES],
-    stops: &[i64; Format::MAX_VARIABLES],
-    cut: bool,
     waiting: &mut [u64; Tables::ROW],
     by: &mut [u16; Format::MAX_VARIABLES],
     risen: &mut [u64; Set::WORDS],
-) -> Lapped
-    requires some_run { SomeRun file.now offsets.now masks.now readers.now others.now stops.now cut model.old waiting.old }
+) -> Result<bool, NoModel>
+    requires some_run { SomeRunBy source.now readers.now model.old waiting.old }
     requires model_len { (length model.old ≡ max_variables) × (length waiting.old ≡ row_words) }
     requires by_len { (length by.old ≡ max_variables) × (length risen.old ≡ word_count) }
     ensures model_len_2 { (length model.new ≡ max_variables) × (length waiting.new ≡ row_words) }
     ensures by_len_2 { (length by.new ≡ max_variables) × (length risen.new ≡ word_count) }
-    ensures model_bound { gap (variables_at file.now max_variables) model.new ≤ gap (variables_at file.now max_variables) model.old }
+    ensures model_bound { gap (variables_at source.now.file.now max_variables) model.new ≤ gap (variables_at source.now.file.now max_variables) model.old }
     ensures after_lap { (P : Program) (R : Reckoning) (θ : Valuation)
-        → Running file.now P R θ offsets.now masks.now readers.now others.now stops.now cut
-        model.old waiting.old
-        → AfterLap file.now P R θ offsets.now masks.now readers.now others.now stops.now cut
-        model.new waiting.new result }
+        → RunningBy source.now P R θ readers.now model.old waiting.old
+        → AfterLapBy source.now P R θ readers.now model.new waiting.new result }
 {
     let mut raised = false;
-    let mut k = from;
-    while k < to {
+    for k in from..to {
         let i = rule_at(order, k);
-        let tried = attempt(
-            file, offsets, masks, readers, i, model, others, stops, cut, waiting,
-        );
-        if let Tried::NoModel = tried {
-            return Lapped::NoModel;
-        }
+        let tried = attempt(source, readers, i, model, waiting)?;
         let rose = note(tried, i, by, risen);
         raised = raised | rose;
-        k += 1;
     }
-    Lapped::On(raised)
+    Ok(raised)
 }

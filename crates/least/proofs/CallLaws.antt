@@ -1,4 +1,5 @@
 -- The call least, from a file that was accepted.
+use Rattle.std.specs.Prelude.{Some}
 use Prim.Native.Nat.{ℕ, ◌*◌, ◌<◌, ◌≤◌}
 use mathlib.Core.Path.{◌≡◌, sym, ap, ◌∙◌, subst}
 use mathlib.Core.List.{List, ◌++◌}
@@ -17,13 +18,12 @@ use Rattle.meaning.specs.LeastCall.{least_bytes, LeastCall, range, none, found, 
 use Rattle.meaning.proofs.InRanges.{within_small}
 use Rattle.calls.proofs.Turned.{called}
 use Rattle.reduct.specs.Filling.{OutsideIs}
-use Rattle.reduct.specs.declared.loading.Outside.TheVariants.{At}
 use Rattle.reduct.proofs.Ranges.{first_outside}
 use Rattle.program.specs.Readings.{Valuation, valued}
 
 module _ (s : List ℕ) (k : Counts) (r : AcceptedAs s k) where
   module _ (a b : List ℕ) (e : length a ≡ 2 * k.variables) (h : 2 * k.variables ≤ length b) where
-    pub wrong_range : (v : ℕ) (θ : Valuation) → θ ≡ assigned a → OutsideIs (variables_at s k.variables) θ k.variables (At v) → LeastCall s a b (range v) b
+    pub wrong_range : (v : ℕ) (θ : Valuation) → θ ≡ assigned a → OutsideIs (variables_at s k.variables) θ k.variables (Some v) → LeastCall s a b (range v) b
     wrong_range v θ p o =
         let x = reads_accepts r in
         outside (called s k r a b least_bytes e h) (first_outside x.meant s k.variables (assigned a) (variables_are r x.accepts) (rw p at o))

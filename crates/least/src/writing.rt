@@ -12,8 +12,7 @@ pub fn write_values(values: &[i64; Format::MAX_VARIABLES], n: usize, buffer: &mu
     requires by_index { (v : ℕ) → v < n → nat_abs (valued values.now v) ≤ max_number }
     ensures { buffer.new ≡ written (valued values.now) n ++ drop (2 * n) buffer.old }
 {
-    for v in 0..n {
-        let value = values[v];
+    for (v, &value) in values[..n].iter().enumerate() {
         let high = format::high_byte(value);
         let low = format::low_byte(value);
         buffer[2 * v] = high;

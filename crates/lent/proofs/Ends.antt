@@ -1,4 +1,5 @@
 -- With lent ranges there is always a model: every founded variable at its range's far end, where all lifts stop.
+use Rattle.std.specs.Prelude.{Some}
 use Prim.Native.Nat.{ℕ, ◌<◌}
 use mathlib.Core.Path.{◌≡◌, refl, sym, subst}
 use mathlib.Core.Bool.{not, cond}
@@ -7,7 +8,6 @@ use lib.ListN.{length}
 use Rattle.program.specs.Program.{Program, variable_in, rule_in}
 use Rattle.program.specs.Variables.{is_founded, swaps, in_range, no_more}
 use Rattle.program.specs.Readings.{Valuation}
-use Rattle.program.specs.declared.Given.TheVariants.{Value}
 use Rattle.program.proofs.IdleRules.{under_no_more}
 use Rattle.program.proofs.Promises.{Promises}
 use Rattle.program.proofs.Tests.{cases}
@@ -35,7 +35,7 @@ module _ {P : Program} (p : Promises P) {low high : Valuation} (f : Fitting P lo
       let a = swaps x (high v) (low v) in
       let g = lent_gives P.variables low high r (ended P low high) in
       subst (λ b. T (no_more (𝒮.variable v) g (cond b a (low v)))) (sym (p.rules i h).head_founded)
-      (subst T (sym (lent_no_more x (low v) (high v) g a)) (under_no_more x g (Value a) a (lent_end P.variables low high r (ended P low high)) (past_refl x a)))
+      (subst T (sym (lent_no_more x (low v) (high v) g a)) (under_no_more x g (Some a) a (lent_end P.variables low high r (ended P low high)) (past_refl x a)))
 
   pub ends_model : Model 𝒮 low (ended P low high)
   ends_model = record {

@@ -1,5 +1,6 @@
 -- Lent ranges that lie inside their declared ones: what they make of a variable, its order and its ends. Past the last variable a lent range is 0..0, as
 -- the declared one is.
+use Rattle.std.specs.Prelude.{Option, Some, None}
 use Prim.Native.Nat.{ℕ, ◌+◌, ◌*◌, ◌<◌, ◌≤◌}
 use mathlib.Core.Path.{◌≡◌, refl}
 use mathlib.Core.Bool.{true, cond, ◌&&◌}
@@ -13,8 +14,6 @@ use Rattle.format.proofs.Int.{int}
 use Rattle.program.specs.Program.{Program, no_variable, variable_in}
 use Rattle.program.specs.Variables.{is_founded, from_above, swaps, start, far, not_past, in_range, no_more, cut_off}
 use Rattle.program.specs.Readings.{Valuation}
-use Rattle.program.specs.declared.Given.{Given}
-use Rattle.program.specs.declared.Given.TheVariants.{Nothing, Value}
 use Rattle.program.specs.declared.Variable.{Variable}
 use Rattle.program.proofs.Tests.{cases, is_test, and_left, and_right, and_both}
 use Rattle.program.proofs.IdleRules.{RangeIn}
@@ -96,14 +95,14 @@ module _ (x : Variable) (low high : ℤ) where
   unfolding lent_variable far swaps
   lent_far = cases (from_above x) (λ t. cond t (cond t low x.low) (cond t x.high high) ≡ cond t low high) (λ t. refl) (λ t. refl)
 
-  pub lent_no_more : (g : Given) (b : ℤ) → no_more (lent_variable x low high) g b ≡ no_more x g b
-  lent_no_more Nothing b = refl
-  lent_no_more (Value a) b = lent_past a b
+  pub lent_no_more : (g : Option ℤ) (b : ℤ) → no_more (lent_variable x low high) g b ≡ no_more x g b
+  lent_no_more None b = refl
+  lent_no_more (Some a) b = lent_past a b
 
-  pub lent_cut : (b : ℤ) (g : Given) → cut_off (lent_variable x low high) b g ≡ cut_off x b g
+  pub lent_cut : (b : ℤ) (g : Option ℤ) → cut_off (lent_variable x low high) b g ≡ cut_off x b g
   unfolding cut_off
-  lent_cut b Nothing = refl
-  lent_cut b (Value a) = rw (lent_past a b)
+  lent_cut b None = refl
+  lent_cut b (Some a) = rw (lent_past a b)
 
   -- its range lies inside the declared one
   module _ (r : RangeIn x low high) where

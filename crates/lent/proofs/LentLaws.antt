@@ -1,4 +1,5 @@
 -- A program with lent ranges is a system of the theory: its rules are monotone. More than that, a rule gives no more in narrower ranges than in wider ones.
+use Rattle.std.specs.Prelude.{Option, Some, None}
 use Prim.Native.Nat.{ℕ, ◌<◌}
 use mathlib.Core.Path.{◌≡◌, refl, ap₂, subst, ◌∙◌}
 use mathlib.Core.Bool.{Bool, true, false, cond, ◌&&◌}
@@ -16,8 +17,6 @@ use Rattle.program.specs.Readings.{Valuation, body_variable, kept}
 use Rattle.program.specs.Idle.{demanding, most_at}
 use Rattle.program.specs.declared.Direction.{Direction}
 use Rattle.program.specs.declared.Direction.TheVariants.{Rising, Falling, Mixed}
-use Rattle.program.specs.declared.Given.{Given}
-use Rattle.program.specs.declared.Given.TheVariants.{Nothing, Value}
 use Rattle.program.specs.declared.Variable.{Variable}
 use Rattle.program.proofs.Conditions.{never, both, none_below, below_none}
 use Rattle.program.proofs.IdleRules.{demanding_held, held_between}
@@ -34,38 +33,38 @@ use Rattle.lent.proofs.Fits.{Fitting, Part, lent_founded, lent_far, lent_cut, le
 -- ---- what is given, cut off
 
 module _ (x : Variable) where
-  pub under_trans : (f g h : Given) → Under x f g → Under x g h → Under x f h
-  under_trans Nothing g h u v = tt
-  under_trans (Value a) Nothing h u v = absurd u
-  under_trans (Value a) (Value b) Nothing u v = v
-  under_trans (Value a) (Value b) (Value c) u v = past_trans x a b c u v
+  pub under_trans : (f g h : Option ℤ) → Under x f g → Under x g h → Under x f h
+  under_trans None g h u v = tt
+  under_trans (Some a) None h u v = absurd u
+  under_trans (Some a) (Some b) None u v = v
+  under_trans (Some a) (Some b) (Some c) u v = past_trans x a b c u v
 
   -- no further than the end
-  pub cut_end : (b : ℤ) (g : Given) → Under x (cut_off x b g) (Value b)
+  pub cut_end : (b : ℤ) (g : Option ℤ) → Under x (cut_off x b g) (Some b)
   unfolding cut_off
-  cut_end b Nothing = tt
-  cut_end b (Value a) = cases (not_past x a b) (λ t. T (not_past x (cond t a b) b)) (λ t. t) (λ t. past_refl x b)
+  cut_end b None = tt
+  cut_end b (Some a) = cases (not_past x a b) (λ t. T (not_past x (cond t a b) b)) (λ t. t) (λ t. past_refl x b)
 
   -- and no more than it was
-  pub cut_under : (b : ℤ) (g : Given) → Under x (cut_off x b g) g
+  pub cut_under : (b : ℤ) (g : Option ℤ) → Under x (cut_off x b g) g
   unfolding cut_off
-  cut_under b Nothing = tt
-  cut_under b (Value a) = cases (not_past x a b) (λ t. T (not_past x (cond t a b) a)) (λ t. past_refl x a) (past_total x b a)
+  cut_under b None = tt
+  cut_under b (Some a) = cases (not_past x a b) (λ t. T (not_past x (cond t a b) a)) (λ t. past_refl x a) (past_total x b a)
 
   -- what does not go past the end stays
-  pub cut_none : (b : ℤ) (g : Given) → T (no_more x g b) → g ≡ cut_off x b g
+  pub cut_none : (b : ℤ) (g : Option ℤ) → T (no_more x g b) → g ≡ cut_off x b g
   unfolding cut_off
-  cut_none b Nothing t = refl
-  cut_none b (Value a) t = rw (is_true (not_past x a b) t)
+  cut_none b None t = refl
+  cut_none b (Some a) t = rw (is_true (not_past x a b) t)
 
-  pub cut_up : (b b' : ℤ) (g g' : Given) → T (not_past x b b') → Under x g g' → Under x (cut_off x b g) (cut_off x b' g')
+  pub cut_up : (b b' : ℤ) (g g' : Option ℤ) → T (not_past x b b') → Under x g g' → Under x (cut_off x b g) (cut_off x b' g')
   unfolding cut_off
-  cut_up b b' Nothing g' h u = tt
-  cut_up b b' (Value a) Nothing h u = u
-  cut_up b b' (Value a) (Value c) h u =
+  cut_up b b' None g' h u = tt
+  cut_up b b' (Some a) None h u = u
+  cut_up b b' (Some a) (Some c) h u =
       cases (not_past x c b') (λ s. T (not_past x (cond (not_past x a b) a b) (cond s c b')))
-      (λ s. past_trans x (cond (not_past x a b) a b) a c (cut_under b (Value a)) u)
-      (λ s. past_trans x (cond (not_past x a b) a b) b b' (cut_end b (Value a)) h)
+      (λ s. past_trans x (cond (not_past x a b) a b) a c (cut_under b (Some a)) u)
+      (λ s. past_trans x (cond (not_past x a b) a b) b b' (cut_end b (Some a)) h)
 
   -- the far end of a range comes at or before that of a wider one
   pub part_far : {low high low' high' : ℤ} → Part low high low' high' → T (not_past x (swaps x high' low') (swaps x high low))
@@ -96,18 +95,18 @@ module _ (vs : List Variable) (low high : Valuation) (r : Rule) where
 
   -- what a rule gives, by the declared record of its head
   pub lent_gives_is : (m : Valuation)
-      → lent_gives vs low high r m ≡ cond (undecided vs low high r) (Value head_far) (cut_off (variable_in vs r.head) head_far (evaluate r (lent_reading vs low high r m)))
+      → lent_gives vs low high r m ≡ cond (undecided vs low high r) (Some head_far) (cut_off (variable_in vs r.head) head_far (evaluate r (lent_reading vs low high r m)))
   unfolding lent_gives
   lent_gives_is m =
       let x = variable_in vs r.head in
       rw (lent_cut x (low r.head) (high r.head), lent_far x (low r.head) (high r.head))
 
   -- no further than the head's far end
-  pub lent_end : (m : Valuation) → Under (variable_in vs r.head) (lent_gives vs low high r m) (Value head_far)
+  pub lent_end : (m : Valuation) → Under (variable_in vs r.head) (lent_gives vs low high r m) (Some head_far)
   lent_end m =
       let x = variable_in vs r.head in
       let g = evaluate r (lent_reading vs low high r m) in
-      rw (lent_gives_is m) (cases (undecided vs low high r) (λ t. Under x (cond t (Value head_far) (cut_off x head_far g)) (Value head_far)) (λ t. past_refl x head_far)
+      rw (lent_gives_is m) (cases (undecided vs low high r) (λ t. Under x (cond t (Some head_far) (cut_off x head_far g)) (Some head_far)) (λ t. past_refl x head_far)
       (λ t. cut_end x head_far g))
 
   -- in a decided rule the range of a mixed position is single
@@ -191,18 +190,18 @@ module _ {P : Program} (p : Promises P) {low high low' high' : Valuation} (wide 
         a' : ℤ
         a' = head_far vs low' high' r
 
-        g : Given
+        g : Option ℤ
         g = evaluate r (lent_reading vs low high r m)
 
-        g' : Given
+        g' : Option ℤ
         g' = evaluate r (lent_reading vs low' high' r m')
 
         ends : T (not_past x a' a)
         ends = part_far x (parts r.head)
 
-        go : (b b' : Bool) → undecided vs low high r ≡ b → undecided vs low' high' r ≡ b' → Under x (cond b' (Value a') (cut_off x a' g')) (cond b (Value a) (cut_off x a g))
+        go : (b b' : Bool) → undecided vs low high r ≡ b → undecided vs low' high' r ≡ b' → Under x (cond b' (Some a') (cut_off x a' g')) (cond b (Some a) (cut_off x a g))
         go true true e e' = ends
-        go true false e e' = under_trans x (cut_off x a' g') (Value a') (Value a) (cut_end x a' g') ends
+        go true false e e' = under_trans x (cut_off x a' g') (Some a') (Some a) (cut_end x a' g') ends
         go false true e e' = absurd (never e' (decided e))
         go false false e e' = cut_up x a' a g' g ends
             (evaluate_up (p.rules i h) (lent_reading vs low' high' r m') (lent_reading vs low high r m)
@@ -214,10 +213,10 @@ module _ {P : Program} (p : Promises P) {low high : Valuation} (f : Fitting P lo
   abbrev 𝒮 : System
   𝒮 = reckoned P (lent P low high)
 
-  no_more_lent : (v : ℕ) (g h : Given) → Under (variable_in P.variables v) g h → NoMore 𝒮 v g h
-  no_more_lent v Nothing h n = tt
-  no_more_lent v (Value a) Nothing n = n
-  no_more_lent v (Value a) (Value b) n = before_lent f (record { le = n })
+  no_more_lent : (v : ℕ) (g h : Option ℤ) → Under (variable_in P.variables v) g h → NoMore 𝒮 v g h
+  no_more_lent v None h n = tt
+  no_more_lent v (Some a) None n = n
+  no_more_lent v (Some a) (Some b) n = before_lent f (record { le = n })
 
   founded_lent : (v : ℕ) → is_founded (variable_in P.variables v) ≡ true → is_founded (𝒮.variable v) ≡ true
   founded_lent v e = lent_founded (variable_in P.variables v) (low v) (high v) ∙ e

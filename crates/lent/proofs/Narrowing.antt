@@ -1,4 +1,5 @@
 -- Narrower ranges never give a bound further from the starting end: the lesser of the wider ranges' bound and the narrower ranges' far end is a model there.
+use Rattle.std.specs.Prelude.{Option, Some, ℤ}
 use Prim.Native.Nat.{ℕ, ◌<◌}
 use mathlib.Core.Path.{◌≡◌, refl, sym, subst}
 use mathlib.Core.Bool.{true, not, cond}
@@ -8,8 +9,6 @@ use lib.ListN.{length}
 use Rattle.program.specs.Program.{Program, Rule, variable_in, rule_in}
 use Rattle.program.specs.Variables.{is_founded, swaps, start, not_past, in_range, no_more}
 use Rattle.program.specs.Readings.{Valuation, body_variable}
-use Rattle.program.specs.declared.Given.{Given}
-use Rattle.program.specs.declared.Given.TheVariants.{Value}
 use Rattle.program.specs.declared.Variable.{Variable}
 use Rattle.program.proofs.IdleRules.{under_no_more}
 use Rattle.program.proofs.Promises.{Promises}
@@ -87,7 +86,7 @@ module _ {P : Program} (p : Promises P) {low high low' high' : Valuation} (wide 
       x : Variable
       x = variable_in vs r.head
 
-      g : Given
+      g : Option ℤ
       g = lent_gives vs low' high' r τ
 
       left : T (no_more x g (m r.head))
@@ -97,7 +96,7 @@ module _ {P : Program} (p : Promises P) {low high low' high' : Valuation} (wide 
           (subst T (lent_no_more x (low r.head) (high r.head) (lent_gives vs low high r m) (m r.head)) (bounds.model.rules i h))
 
       right : T (no_more x g (ends r.head))
-      right = under_no_more x g (Value (ends r.head)) (ends r.head) (lent_end vs low' high' r τ) (past_refl x (ends r.head))
+      right = under_no_more x g (Some (ends r.head)) (ends r.head) (lent_end vs low' high' r τ) (past_refl x (ends r.head))
 
   τ-model : Model 𝒮' low' τ
   τ-model = record {

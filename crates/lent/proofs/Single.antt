@@ -1,5 +1,6 @@
 -- With single ranges and every rule met, the least model of the reduct is the bounds: no rule is undecided, none gives past its head's value, and so no cut
 -- takes anything away.
+use Rattle.std.specs.Prelude.{Some}
 use Prim.Native.Nat.{ℕ, ◌<◌}
 use mathlib.Core.Path.{◌≡◌, refl, sym, subst, ap, ap₂, ◌∙◌}
 use mathlib.Core.Bool.{Bool, true, false, not, cond, ◌&&◌}
@@ -15,7 +16,6 @@ use Rattle.program.specs.Directions.{direction, is_mixed}
 use Rattle.program.specs.Evaluate.{evaluate}
 use Rattle.program.specs.Readings.{Valuation, body_variable, kept, reading, gives}
 use Rattle.program.specs.Idle.{demanding, most_at}
-use Rattle.program.specs.declared.Given.TheVariants.{Value}
 use Rattle.program.specs.declared.Variable.{Variable}
 use Rattle.program.proofs.Conditions.{below_none}
 use Rattle.program.proofs.Gives.{evaluate_same, promised_evaluable}
@@ -79,7 +79,7 @@ module _ {P : Program} (p : Promises P) {θ low high : Valuation} (f : Fitting P
   unfolding gives
   gives_is i h m =
       lent_gives_is vs low high r m
-      ∙ ap (λ b. cond b (Value e) (cut_off x e (evaluate r (lent_reading vs low high r m)))) (single_decided r)
+      ∙ ap (λ b. cond b (Some e) (cut_off x e (evaluate r (lent_reading vs low high r m)))) (single_decided r)
       ∙ ap₂ (cut_off x) (swaps_one x (high_is r.head) (low_is r.head))
       (evaluate_same r (lent_reading vs low high r m) (reading vs r m θ) (λ j l. reading_is r m j) (promised_evaluable (p.rules i h)))
     where

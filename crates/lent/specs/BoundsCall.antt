@@ -1,22 +1,21 @@
 -- Document 02, wish 7: what the call bounds answers and writes, for a file s, lent ranges g and a lent buffer b.
-use Rattle.std.specs.Prelude.{ℕ, ◌*◌, ◌<◌, ◌≡◌, false, List, [], ◌∷◌, ◌++◌, length, drop}
+use Rattle.std.specs.Prelude.{ℕ, ◌*◌, ◌<◌, ◌≡◌, false, List, [], ◌∷◌, ◌++◌, length, drop, Result, Ok, Err}
 use Rattle.program.specs.Program.{Program, variable_in}
 use Rattle.program.specs.Readings.{Valuation}
 use Rattle.meaning.specs.Calls.{Denial, ◌under◌, Refuses, Called, not_exact, too_short, denial_number, denial_place}
 use Rattle.meaning.specs.LeastCall.{least_bytes, written}
 use Rattle.lent.specs.Ranges.{low_in, high_in, fits}
 use Rattle.lent.specs.Lent.{Bounds}
-use Rattle.lent.specs.declared.Bounding.{Bounding}
-use Rattle.lent.specs.declared.Bounding.TheVariants.{Refused, Bounded}
+use Rattle.meaning.specs.declared.Denied.{Denied}
 
 -- an answer: a refusal's number and place, or that the bounds are written
 pub data Answer : Type 0 where
   refusal : ℕ → ℕ → Answer
   bounded : Answer
 
-abbrev pub answer_of : Bounding → Answer
-answer_of (Refused why) = refusal (denial_number why) (denial_place why)
-answer_of Bounded = bounded
+abbrev pub answer_of : Result (Unit {0}) Denied → Answer
+answer_of (Err why) = refusal (denial_number why) (denial_place why)
+answer_of (Ok _) = bounded
 
 -- "Ranges come as low and high, 4 bytes a variable"
 abbrev pub range_bytes : ℕ

@@ -2,7 +2,7 @@
 -- are read at the bounds so far, others at the end of their range that demands most; a mixed one not yet single lets the head reach its far end. A lift stops
 -- at the far end of the head's range." A file with lent ranges is a system of its own, and the bounds are its least model. Every variable v has the range from
 -- low v to high v; which way a position pushes, and whether it is kept, go by the declared ranges, as in the reduct.
-use Rattle.std.specs.Prelude.{ℕ, Bool, cond, ◌&&◌, List, ℤ, length}
+use Rattle.std.specs.Prelude.{ℕ, Bool, cond, ◌&&◌, List, ℤ, length, Option, Some}
 use Rattle.std.specs.Int.Signed.{lt_z}
 use Rattle.program.specs.Tables.{any_below}
 use Rattle.program.specs.Program.{Program, Rule, variable_in, rule_in}
@@ -11,8 +11,6 @@ use Rattle.program.specs.Directions.{direction, is_mixed}
 use Rattle.program.specs.Evaluate.{evaluate}
 use Rattle.program.specs.Readings.{Valuation, body_variable, kept}
 use Rattle.program.specs.Idle.{most_at}
-use Rattle.program.specs.declared.Given.{Given}
-use Rattle.program.specs.declared.Given.TheVariants.{Value}
 use Rattle.program.specs.declared.Variable.{Variable}
 use Rattle.meaning.specs.Founded.{Least}
 use Rattle.meaning.specs.Reduct.{Reckoning, reckoned}
@@ -35,10 +33,10 @@ module _ (vs : List Variable) (low high : Valuation) where
   undecided r = any_below (length r.terms) (λ i. is_mixed (direction vs r i) && lt_z (low (body_variable r i)) (high (body_variable r i)))
 
   -- it "lets the head reach its far end"; else what the rule gives "stops at the far end of the head's range"
-  unfoldable pub lent_gives : Rule → Valuation → Given
+  unfoldable pub lent_gives : Rule → Valuation → Option ℤ
   lent_gives r m =
       let h = lent_in r.head in
-      cond (undecided r) (Value (far h)) (cut_off h (far h) (evaluate r (lent_reading r m)))
+      cond (undecided r) (Some (far h)) (cut_off h (far h) (evaluate r (lent_reading r m)))
 
 -- the program with lent ranges
 abbrev pub lent : Program → Valuation → Valuation → Reckoning

@@ -1,12 +1,3 @@
 // A file with lent ranges: how far each founded variable can still be lifted, and what the call bounds answers. The definitions stand in specs/, the laws
 // about them in proofs/.
 #![tactic(auto)]
-
-use meaning::Denied;
-
-// What the call bounds answers: why it is turned down, or that the bounds are written.
-#[derive(Drop)]
-pub enum Bounding {
-    Refused(Denied),
-    Bounded,
-}

@@ -1,4 +1,5 @@
 -- The rows after all edges are marked and closed say which variables of the plain file share a component, and so which old rule offends first.
+use Rattle.std.specs.Prelude.{Option, Some, None}
 use Prim.Native.Nat.{ℕ, ◌+◌, ◌<◌, ◌≤◌}
 use mathlib.Core.Path.{◌≡◌, sym, ap, ap₂, ◌∙◌, subst}
 use mathlib.Core.List.{List}
@@ -20,8 +21,6 @@ use Rattle.program.proofs.Conditions.{never, none_below, any_same}
 use Rattle.reach.specs.Rows.{row_has}
 use Rattle.edges.specs.Edges.{Grown, any_mixed}
 use Rattle.validity.specs.Marks.{draws_by, mixed_rule, edge_in, JudgedBy}
-use Rattle.validity.specs.declared.Outcome.{Outcome}
-use Rattle.validity.specs.declared.Outcome.TheVariants.{Valid, Offending}
 use Rattle.validity.proofs.ComponentLaws.{Tells, draws_positions, last_tells, test_offends, offends_test}
 use Rattle.nested.specs.Nested.{trees, nested}
 use Rattle.nested.specs.Flatten.{added_rules, flatten}
@@ -120,9 +119,9 @@ module _ {s : List ℕ} {counts : Counts} {from variables : ℕ} {records : List
   -- ---- the answers
 
   module _ {t : ℕ → ℕ → Bool} (tells : Tells P t) where
-    judged : (r : Outcome) → JudgedBy t part counts r → JudgesNested s k.fields r
-    judged Valid h = λ i o. let l = among_old o in offends_test (plain_promises k) tells i o.among (sym (old_offence k i l t) ∙ h i l) o
-    judged (Offending at) f =
+    judged : (r : Option ℕ) → JudgedBy t part counts r → JudgesNested s k.fields r
+    judged None h = λ i o. let l = among_old o in offends_test (plain_promises k) tells i o.among (sym (old_offence k i l t) ∙ h i l) o
+    judged (Some at) f =
         let w = stood f.rule f.among in
         record {
           field = w.field;
@@ -138,10 +137,10 @@ module _ {s : List ℕ} {counts : Counts} {from variables : ℕ} {records : List
         }
 
   -- whatever number of fields the file is said to have
-  pub outcome_none : mixed_rule part counts ≡ false → (n : ℕ) → NestedWhole s n → JudgesNested s n Valid
-  outcome_none e n v = subst (λ (m : ℕ). JudgesNested s m Valid) (whole_unique k.whole v) (none_mixed e)
+  pub outcome_none : mixed_rule part counts ≡ false → (n : ℕ) → NestedWhole s n → JudgesNested s n None
+  outcome_none e n v = subst (λ (m : ℕ). JudgesNested s m None) (whole_unique k.whole v) (none_mixed e)
 
-  pub outcome : {t₀ t : ℕ → ℕ → Bool} {w w' : List ℕ} (r : Outcome) → ((a b : ℕ) → t₀ a b ≡ false) → Grown t₀ (row_has w) (edge_in part counts)
+  pub outcome : {t₀ t : ℕ → ℕ → Bool} {w w' : List ℕ} (r : Option ℕ) → ((a b : ℕ) → t₀ a b ≡ false) → Grown t₀ (row_has w) (edge_in part counts)
       → TreesMarked s counts.variables (variables_at records variables) w w' → Rounds (row_has w') t variables → JudgedBy t part counts r
       → (n : ℕ) → NestedWhole s n → JudgesNested s n r
   outcome {t = t} {w' = w'} r z g m h j n v =

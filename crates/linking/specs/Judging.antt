@@ -1,13 +1,11 @@
 -- Document 02, wish 6: "13 is judged on the plain file, its place in the nested one". What judging a nested file answers.
-use Rattle.std.specs.Prelude.{ℕ, ◌*◌, ◌<◌, ◌≤◌, ◌≡◌, List, length, take}
+use Rattle.std.specs.Prelude.{ℕ, ◌*◌, ◌<◌, ◌≤◌, ◌≡◌, List, length, take, Option, Some, None}
 use Rattle.program.specs.Fields.{place}
 use Rattle.program.specs.Components as components
 use Rattle.program.specs.Components.{FirstOffending}
 use Rattle.program.specs.Reading.{RuleField}
 use Rattle.program.specs.Encode.{each, variable_bytes}
 use Rattle.program.specs.declared.Counts.{Counts}
-use Rattle.validity.specs.declared.Outcome.{Outcome}
-use Rattle.validity.specs.declared.Outcome.TheVariants.{Valid, Offending}
 use Rattle.nested.specs.Nested.{nested}
 use Rattle.nested.specs.Flatten.{flatten}
 use Rattle.nested.specs.NestedReading.{NestedWhole}
@@ -31,6 +29,6 @@ pub record OffendingIn (s : List ℕ) (k at : ℕ) : Type 0 where
   pub first : FirstOffending (flatten (nested s k)) rule
   pub placed : at ≡ place s field
 
-abbrev pub JudgesNested : List ℕ → ℕ → Outcome → Type 0
-JudgesNested s k Valid = components.Valid (flatten (nested s k))
-JudgesNested s k (Offending at) = OffendingIn s k at
+abbrev pub JudgesNested : List ℕ → ℕ → Option ℕ → Type 0
+JudgesNested s k None = components.Valid (flatten (nested s k))
+JudgesNested s k (Some at) = OffendingIn s k at

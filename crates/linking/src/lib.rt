@@ -23,7 +23,7 @@ use parts::variables::variable;
 use program::Counts;
 use reach::{Rows, close, mark};
 use treechecks::added_by;
-use validity::{Outcome, rules};
+use validity::rules;
 
 // The edge to operand i of the node's rule in a field's value. An operand is kept exactly where it is of the head's kind.
 fn mark_operand(
@@ -108,9 +108,9 @@ fn mark_tree(
     ensures grown_by { GrownBy rows.old rows.new (variables_at records.now variables) (flat_rules head next s.now) }
 {
     mark_node(rows, values, records, variables, s, root(s, head, next));
-    let mut place = 2;
     let mut number = next;
-    while place + 1 < s.len() {
+    for k in 1..s.len() / 2 {
+        let place = 2 * k;
         if s[place] != 0 {
             mark_node(
                 rows,
@@ -122,7 +122,6 @@ fn mark_tree(
             );
             number += 1;
         }
-        place += 2;
     }
 }
 
@@ -162,13 +161,19 @@ fn mark_trees(
 }
 
 // That the plain file is valid, or the place of the first old rule that offends in it. Added rules have no mixed position.
-pub fn judge(file: &[u8], counts: Counts, from: usize, variables: usize, records: &[u8]) -> Outcome
+pub fn judge(
+    file: &[u8],
+    counts: Counts,
+    from: usize,
+    variables: usize,
+    records: &[u8],
+) -> Option<usize>
     requires { Settled file.now counts from variables records.now }
     ensures { (k : ℕ) → NestedWhole file.now k → JudgesNested file.now k result }
 {
     let plain = &file[..from];
     if !rules::any_mixed(plain, counts) {
-        return Outcome::Valid;
+        return None;
     }
     let mut rows = [0u64; Rows::LENGTH];
     let mut values = [0i64; Format::MAX_VARIABLES];

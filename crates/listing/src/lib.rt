@@ -10,12 +10,10 @@ ghost use Rattle.entries.specs.Text.{entry_most};
 ghost use Rattle.listing.specs.Lists.{max_input, buffer_bytes, room, bound_line, bound_lines, Told, Listed};
 
 use bounding::call::{Asks, bounds};
-use calls::{denial_number, denial_place};
 use entries::put_marked;
 use format::Format;
 use framing::{Framing, is_misframed};
-use lent::Bounding;
-use lines::put_two;
+use lines::{put_refused, put_two};
 use parts::variables;
 use program::Variable;
 use report::writing::Mark;
@@ -87,12 +85,8 @@ fn list_called(file: &[u8], ranges: &[u8], output: &mut [u8]) -> usize
 {
     let mut buffer = [0u8; Listing::BUFFER];
     match bounds(file, ranges, &mut buffer) {
-        Bounding::Refused(why) => {
-            let number = denial_number(why);
-            let place = denial_place(why);
-            put_two(output, b"refused ", number, place)
-        }
-        Bounding::Bounded => put_bounds(output, file, &buffer, ranges.len() / Asks::RANGE),
+        Err(why) => put_refused(output, why),
+        Ok(()) => put_bounds(output, file, &buffer, ranges.len() / Asks::RANGE),
     }
 }
 

@@ -1,12 +1,11 @@
 -- What the theory assumes of a system, that its directions are right; and what holds in every system, by the laws of a variable's order.
+use Rattle.std.specs.Prelude.{Option, Some, None}
 use mathlib.Core.Path.{◌≡◌}
 use mathlib.Core.Bool.{cond}
 use Prim.Native.Nat.{ℕ}
 use lib.IntN.{ℤ}
 use Rattle.program.specs.declared.Direction.{Direction}
 use Rattle.program.specs.declared.Direction.TheVariants.{Rising, Falling, Mixed}
-use Rattle.program.specs.declared.Given.{Given}
-use Rattle.program.specs.declared.Given.TheVariants.{Nothing, Value}
 use Rattle.meaning.specs.Founded.{System, AtOrBefore, Before, Within}
 use Rattle.program.specs.Readings.{Valuation}
 use Rattle.program.specs.Variables.{is_founded, start, far}
@@ -16,10 +15,10 @@ module _ (𝒮 : System) where
   open 𝒮 use {variable, Rule, In, head, occurs, gives}
 
   -- the first gives no more than the second
-  abbrev pub NoMore : ℕ → Given → Given → Type 0
-  NoMore v Nothing h = Unit {0}
-  NoMore v (Value a) Nothing = ⊥
-  NoMore v (Value a) (Value b) = AtOrBefore 𝒮 v a b
+  abbrev pub NoMore : ℕ → Option ℤ → Option ℤ → Type 0
+  NoMore v None h = Unit {0}
+  NoMore v (Some a) None = ⊥
+  NoMore v (Some a) (Some b) = AtOrBefore 𝒮 v a b
 
   -- at a position of this direction, the first two valuations push the rule no further than the last two
   abbrev pub Less : ℕ → Direction → Valuation → Valuation → Valuation → Valuation → Type 0

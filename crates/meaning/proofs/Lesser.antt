@@ -1,9 +1,8 @@
 -- The lesser of two valuations, by each variable's order: it is one of the two there, so it is the last that is at or before both.
+use Rattle.std.specs.Prelude.{Option, Some, None}
 use mathlib.Core.Bool.{cond}
 use Prim.Native.Nat.{ℕ}
 use lib.IntN.{ℤ}
-use Rattle.program.specs.declared.Given.{Given}
-use Rattle.program.specs.declared.Given.TheVariants.{Nothing, Value}
 use Rattle.program.specs.Readings.{Valuation}
 use Rattle.program.specs.Variables.{not_past}
 use Rattle.program.proofs.Tests.{cases}
@@ -27,6 +26,6 @@ module _ (𝒮 : System) (m m' : Valuation) where
   pub lesser_of : (v : ℕ) (a : ℤ) → AtOrBefore 𝒮 v a (m v) → AtOrBefore 𝒮 v a (m' v) → AtOrBefore 𝒮 v a (lesser v)
   lesser_of v a h k = cases (not_past (variable v) (m v) (m' v)) (λ b. AtOrBefore 𝒮 v a (cond b (m v) (m' v))) (λ t. h) (λ t. k)
 
-  pub lesser_given : (v : ℕ) (g : Given) → GivenNoMore 𝒮 v g (m v) → GivenNoMore 𝒮 v g (m' v) → GivenNoMore 𝒮 v g (lesser v)
-  lesser_given v Nothing h k = tt
-  lesser_given v (Value a) h k = (lesser_of v a (record { le = h }) (record { le = k })).le
+  pub lesser_given : (v : ℕ) (g : Option ℤ) → GivenNoMore 𝒮 v g (m v) → GivenNoMore 𝒮 v g (m' v) → GivenNoMore 𝒮 v g (lesser v)
+  lesser_given v None h k = tt
+  lesser_given v (Some a) h k = (lesser_of v a (record { le = h }) (record { le = k })).le

@@ -1,5 +1,6 @@
 -- The order of a variable founded from above is 000's mirror: a program's models, its least model and its unfounded sets are those of the modified program,
 -- in which no variable is founded from above, with each such value negated.
+use Rattle.std.specs.Prelude.{Option, Some, None}
 use Prim.Native.Nat.{ℕ}
 use mathlib.Core.Path.{◌≡◌, refl, sym, ap, ap₂, ◌∙◌, subst}
 use mathlib.Core.Logic.{◌↔◌}
@@ -11,8 +12,6 @@ use Rattle.format.proofs.Int.{int, neg_is}
 use Rattle.program.specs.Program.{Program}
 use Rattle.program.specs.Variables.{is_founded, from_above, swaps, ahead, start, not_past, in_range, no_more}
 use Rattle.program.specs.Readings.{Valuation}
-use Rattle.program.specs.declared.Given.{Given}
-use Rattle.program.specs.declared.Given.TheVariants.{Nothing, Value}
 use Rattle.program.specs.declared.Variable.{Variable}
 use Rattle.program.proofs.Tests.{cases, is_true}
 use Rattle.program.proofs.Variables.{swaps_not, swaps_so}
@@ -80,9 +79,9 @@ module _ (x : Variable) where
   mirrored_start = by_kind (λ y t. start y ≡ t (start x))
       (λ e. sym (swaps_not other (neg_ℤ x.high) (neg_ℤ x.low) refl) ∙ ap neg_ℤ (swaps_so x x.low x.high e)) (λ e. refl)
 
-  pub mirrored_given : (g : Given) (b : ℤ) → no_more (mirrored x) (turned_given x g) (ahead x b) ≡ no_more x g b
-  mirrored_given Nothing b = refl
-  mirrored_given (Value a) b = mirrored_order a b
+  pub mirrored_given : (g : Option ℤ) (b : ℤ) → no_more (mirrored x) (turned_given x g) (ahead x b) ≡ no_more x g b
+  mirrored_given None b = refl
+  mirrored_given (Some a) b = mirrored_order a b
 
 -- ---- models
 

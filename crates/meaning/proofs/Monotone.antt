@@ -1,4 +1,5 @@
 -- Every accepted program is a system of the theory (`laws`): its rules are monotone by their directions (Rattle.program.proofs.Monotone).
+use Rattle.std.specs.Prelude.{Option, Some, None, ℤ}
 use Prim.Native.Nat.{ℕ, ◌<◌}
 use mathlib.Core.Path.{refl}
 use mathlib.Core.Bool.{Bool, true, false, cond, ◌&&◌}
@@ -10,8 +11,6 @@ use Rattle.program.specs.Directions.{away, direction, is_rising}
 use Rattle.program.specs.Readings.{Valuation, body_variable, kept, reading, gives}
 use Rattle.program.specs.declared.Direction.{Direction}
 use Rattle.program.specs.declared.Direction.TheVariants.{Rising, Falling, Mixed}
-use Rattle.program.specs.declared.Given.{Given}
-use Rattle.program.specs.declared.Given.TheVariants.{Nothing, Value}
 use Rattle.program.proofs.Promises.{Promises}
 use Rattle.program.proofs.Tests.{is_test}
 use Rattle.program.proofs.Monotone.{Moves, Onward, moves_away, Under, Between, in_between, evaluate_up}
@@ -21,10 +20,10 @@ use Rattle.meaning.proofs.Laws.{NoMore, Less, Laws}
 
 module _ (P : Program) where
   -- what demands no more of its head
-  no_more_as : (v : ℕ) (g h : Given) → Under (variable_in P.variables v) g h → NoMore (system P) v g h
-  no_more_as v Nothing h n = tt
-  no_more_as v (Value a) Nothing n = n
-  no_more_as v (Value a) (Value b) n = record { le = n }
+  no_more_as : (v : ℕ) (g h : Option ℤ) → Under (variable_in P.variables v) g h → NoMore (system P) v g h
+  no_more_as v None h n = tt
+  no_more_as v (Some a) None n = n
+  no_more_as v (Some a) (Some b) n = record { le = n }
 
   -- what the theory asks at a position, as the two readings of its variable
   moves_of : (m θ m' θ' : Valuation) (x : ℕ) (d : Direction) → Less (system P) x (away (variable_in P.variables x) d) m θ m' θ'

@@ -1,4 +1,5 @@
 -- A fixpoint that the search of `specs/Search.antt` reaches is the least model, and where it finds none there is none.
+use Rattle.std.specs.Prelude.{Option, Some, None}
 use Prim.Native.Nat.{ℕ, zero, suc, ◌+◌, ◌<◌, ◌≤◌, zero-le, suc-le-suc}
 use mathlib.Core.Path.{◌≡◌, refl, sym, ◌∙◌, ap, subst}
 use mathlib.Core.Logic.{◌⊎◌, inl, inr}
@@ -13,8 +14,6 @@ use lib.Dec.{T, ltb, ltb→lt, nltb→le}
 use Rattle.program.specs.Program.{Rule, Program, term_form, no_variable, variable_in, rule_in}
 use Rattle.program.specs.Directions.{plain_direction, away, term_direction, direction}
 use Rattle.program.specs.Evaluate.{sum_below, pick_to, all_hold, over_up, amount_of, evaluate}
-use Rattle.program.specs.declared.Given.{Given}
-use Rattle.program.specs.declared.Given.TheVariants.{Nothing, Value}
 use Rattle.program.proofs.Promises.{Promises}
 use Rattle.meaning.specs.Founded.{GivenNoMore, Within, Model, Least}
 use Rattle.meaning.specs.Reduct.{Reckoning, reckoned, reduct, system}
@@ -74,16 +73,16 @@ stored l h a k v = go (ℕ_discrete h v)
 
 -- ---- the first rule that is not met
 
-ask_closed : (x : Variable) (i : ℕ) (g : Given) (b : ℤ) (next : Step) → ask x i g b next ≡ closed → T (no_more x g b) × (next ≡ closed)
-ask_closed x i Nothing b next e = (tt, e)
-ask_closed x i (Value a) b next e = cases (not_past x a b) (λ c. cond c next (raise i a) ≡ closed → T c × (next ≡ closed))
+ask_closed : (x : Variable) (i : ℕ) (g : Option ℤ) (b : ℤ) (next : Step) → ask x i g b next ≡ closed → T (no_more x g b) × (next ≡ closed)
+ask_closed x i None b next e = (tt, e)
+ask_closed x i (Some a) b next e = cases (not_past x a b) (λ c. cond c next (raise i a) ≡ closed → T c × (next ≡ closed))
     (λ t q. (tt, q)) (λ n q. let z : ◌≡◌ {A = ℕ} 0 1 = cc in let f : ⊥ = omega arith in absurd f) e
 
-ask_raise : (x : Variable) (i : ℕ) (g : Given) (b : ℤ) (next : Step) (k : ℕ) (a : ℤ) → ask x i g b next ≡ raise k a
-    → ((k ≡ i) × (g ≡ Value a) × T (not (not_past x a b))) ⊎ (next ≡ raise k a)
-ask_raise x i Nothing b next k a e = inr e
-ask_raise x i (Value y) b next k a e =
-    cases (not_past x y b) (λ c. cond c next (raise i y) ≡ raise k a → ((k ≡ i) × (Value y ≡ Value a) × T (not (not_past x a b))) ⊎ (next ≡ raise k a))
+ask_raise : (x : Variable) (i : ℕ) (g : Option ℤ) (b : ℤ) (next : Step) (k : ℕ) (a : ℤ) → ask x i g b next ≡ raise k a
+    → ((k ≡ i) × (g ≡ Some a) × T (not (not_past x a b))) ⊎ (next ≡ raise k a)
+ask_raise x i None b next k a e = inr e
+ask_raise x i (Some y) b next k a e =
+    cases (not_past x y b) (λ c. cond c next (raise i y) ≡ raise k a → ((k ≡ i) × (Some y ≡ Some a) × T (not (not_past x a b))) ⊎ (next ≡ raise k a))
     (λ t q. inr q) (λ n q. let s : y ≡ a = cc in inl (cc, cc, subst (λ z. T (not (not_past x z b))) s n)) e
 
 module _ (R : Reckoning) (θ m : Valuation) where
@@ -100,7 +99,7 @@ module _ (R : Reckoning) (θ m : Valuation) where
 
   -- rule r, of number k, gives a, and that is more than its head has
   record Unmet (r : Rule) (k : ℕ) (a : ℤ) : Type 0 where
-    value_is : R.gives k m θ ≡ Value a
+    value_is : R.gives k m θ ≡ Some a
     more : T (not (not_past (R.variable r.head) a (m r.head)))
 
   raise_from : (i : ℕ) (rs : List Rule) (k : ℕ) (a : ℤ) → first_unmet R θ m i rs ≡ raise k a → (j : ℕ) × (k ≡ i + j) × (j < length rs) × Unmet (rule_in rs j) k a
@@ -109,7 +108,7 @@ module _ (R : Reckoning) (θ m : Valuation) where
   raise_from i (r ∷ rs) k a e =
       go (ask_raise (R.variable r.head) i (R.gives i m θ) (m r.head) (first_unmet R θ m (suc i) rs) k a e) (raise_from (suc i) rs k a)
     where
-      go : ((k ≡ i) × (R.gives i m θ ≡ Value a) × T (not (not_past (R.variable r.head) a (m r.head)))) ⊎ (first_unmet R θ m (suc i) rs ≡ raise k a)
+      go : ((k ≡ i) × (R.gives i m θ ≡ Some a) × T (not (not_past (R.variable r.head) a (m r.head)))) ⊎ (first_unmet R θ m (suc i) rs ≡ raise k a)
           → (first_unmet R θ m (suc i) rs ≡ raise k a → (j : ℕ) × (k ≡ suc i + j) × (j < length rs) × Unmet (rule_in rs j) k a)
           → (j : ℕ) × (k ≡ i + j) × (j < length (r ∷ rs)) × Unmet (rule_in (r ∷ rs) j) k a
       go (inl u) f = (zero, omega (arith, u.0), suc-le-suc zero-le, record { value_is = rw u.0 u.1; more = u.2 })

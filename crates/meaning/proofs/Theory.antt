@@ -1,5 +1,6 @@
 -- The theory, over any system with its laws: the steps by which the least model is found, the set of the variables that it leaves short
 -- of an assignment as the largest unfounded set, and what that set's conditions say of other stable assignments.
+use Rattle.std.specs.Prelude.{Option, Some, None}
 use mathlib.Core.Path.{◌≡◌, refl, sym, subst, ◌∙◌}
 use mathlib.Core.Logic.{◌⊎◌, inl, inr, ◌↔◌}
 use mathlib.Core.Bool.{Bool, not, cond}
@@ -8,8 +9,6 @@ use lib.IntN.{ℤ}
 use lib.Dec.{T, not_T, T_not}
 use Rattle.program.specs.declared.Direction.{Direction}
 use Rattle.program.specs.declared.Direction.TheVariants.{Rising, Falling, Mixed}
-use Rattle.program.specs.declared.Given.{Given}
-use Rattle.program.specs.declared.Given.TheVariants.{Nothing, Value}
 use Rattle.meaning.specs.Founded.{System, AtOrBefore, Before, GivenNoMore, Within, Model, Floor, Least}
 use Rattle.meaning.specs.Unfounded.{over, Unfounded, short, Conditions}
 use Rattle.meaning.proofs.Laws.{NoMore, Less, Laws, at_refl, at_trans, at_antisym, before_at, from_start, to_far_is, within_ends}
@@ -61,10 +60,10 @@ module _ {𝒮 : System} (L : Laws 𝒮) where
   open 𝒮 use {variable, Rule, In, head, occurs, gives}
 
   -- what gives no more asks no more
-  pub no_more : (v : ℕ) (b : ℤ) (g h : Given) → NoMore 𝒮 v g h → GivenNoMore 𝒮 v h b → GivenNoMore 𝒮 v g b
-  no_more v b Nothing h n t = tt
-  no_more v b (Value a) Nothing n t = absurd n
-  no_more v b (Value a) (Value c) n t = past_trans (variable v) a c b n.le t
+  pub no_more : (v : ℕ) (b : ℤ) (g h : Option ℤ) → NoMore 𝒮 v g h → GivenNoMore 𝒮 v h b → GivenNoMore 𝒮 v g b
+  no_more v b None h n t = tt
+  no_more v b (Some a) None n t = absurd n
+  no_more v b (Some a) (Some c) n t = past_trans (variable v) a c b n.le t
 
   -- a rule gives no more in an earlier valuation
   pub lift : {θ m m' : Valuation} → Earlier 𝒮 θ m m' → (r : Rule) → In r → NoMore 𝒮 (head r) (gives r m θ) (gives r m' θ)
@@ -87,7 +86,7 @@ module _ {𝒮 : System} (L : Laws 𝒮) where
     under_given m' k = met_before (record { assigned = wθ; earlier = p.within; later = k.within; under = λ x t. p.floor.under m' k x }) r i (m' (head r)) (k.rules r i)
 
     -- a head is raised to what one of its rules gives, or to less
-    pub progress_raise : T (is_founded (variable (head r))) → (g a : ℤ) → gives r m θ ≡ Value g → AtOrBefore 𝒮 (head r) a g
+    pub progress_raise : T (is_founded (variable (head r))) → (g a : ℤ) → gives r m θ ≡ Some g → AtOrBefore 𝒮 (head r) a g
         → AtOrBefore 𝒮 (head r) (m (head r)) a → AtOrBefore 𝒮 (head r) a (far (variable (head r)))
         → (m⁺ : Valuation) → ((v : ℕ) → (m⁺ v ≡ m v) ⊎ ((head r ≡ v) × (m⁺ v ≡ a))) → Progress 𝒮 θ m⁺
     progress_raise f g a e le lo hi m⁺ is = record {
@@ -113,7 +112,7 @@ module _ {𝒮 : System} (L : Laws 𝒮) where
         under m' k v (inr q) = rw (q.1, ← q.0) (at_trans le (record { le = rw e at (under_given m' k) }))
 
     -- a rule that asks for more than its head's far end leaves no model
-    pub progress_over : (g : ℤ) → gives r m θ ≡ Value g → Before 𝒮 (head r) (far (variable (head r))) g → (m' : Valuation) → Model 𝒮 θ m' → ⊥
+    pub progress_over : (g : ℤ) → gives r m θ ≡ Some g → Before 𝒮 (head r) (far (variable (head r))) g → (m' : Valuation) → Model 𝒮 θ m' → ⊥
     progress_over g e s m' k =
         let b : AtOrBefore 𝒮 (head r) g (m' (head r)) = record { le = rw e at (under_given m' k) } in
         T_not (not_past (variable (head r)) g (far (variable (head r)))) s.lt (at_trans b (to_far_is k.within (head r))).le

@@ -1,12 +1,11 @@
 -- Document 01, "When a file or call is turned down", for a call on a file s: "Order: .. 13; then 14; then 15." After the file's own refusals
 -- come those of the call, in the order of a table.
-use Rattle.std.specs.Prelude.{ℕ, ◌*◌, ◌<◌, ◌≤◌, ◌≡◌, ◌⊎◌, List, [], ◌∷◌, length}
+use Rattle.std.specs.Prelude.{ℕ, ◌*◌, ◌<◌, ◌≤◌, ◌≡◌, ◌⊎◌, List, [], ◌∷◌, length, Result, Ok, Err}
 use Rattle.program.specs.Program.{Program}
 use Rattle.program.specs.Reading.{Reads, refused, accepted, Accepts, number_of}
 use Rattle.meaning.specs.declared.Denied.{Denied}
 use Rattle.meaning.specs.declared.Denied.TheVariants.{File, Assignment, Buffer, Room, Tree, Added, Ranges}
-use Rattle.meaning.specs.declared.Opening.{Opening}
-use Rattle.meaning.specs.declared.Opening.TheVariants.{Closed, Open}
+use Rattle.program.specs.declared.Counts.{Counts}
 
 -- ---- a table of refusals
 
@@ -81,7 +80,7 @@ denial_place (Added at) = at
 denial_place Ranges = 0
 
 -- a call's opening says that it is turned down, and why, or the counts of its file
-abbrev pub Opened : ℕ → List ℕ → List ℕ → List ℕ → Opening → Type 0
-Opened bytes s a b (Closed why) = Refuses (lengths bytes a b) s (denial_number why) (denial_place why)
-Opened bytes s a b (Open k) =
+abbrev pub Opened : ℕ → List ℕ → List ℕ → List ℕ → Result Counts Denied → Type 0
+Opened bytes s a b (Err why) = Refuses (lengths bytes a b) s (denial_number why) (denial_place why)
+Opened bytes s a b (Ok k) =
     Reads s (accepted k.variables k.rules k.constraints) × (length a ≡ 2 * k.variables) × (bytes * k.variables ≤ length b)

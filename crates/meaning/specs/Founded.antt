@@ -1,10 +1,9 @@
 -- Documents 000 (section 3) and 003 (Preliminaries): the reduct's models and the least one, over any rules. A variable is a number and a
 -- valuation gives each a value of ℤ. Each variable has an order of its own and a starting end.
-use Rattle.std.specs.Prelude.{◌≡◌, not, ℕ, ℤ, T}
+use Rattle.std.specs.Prelude.{◌≡◌, not, ℕ, ℤ, T, Option}
 use Rattle.program.specs.Variables.{is_founded, not_past, in_range, no_more}
 use Rattle.program.specs.Readings.{Valuation}
 use Rattle.program.specs.declared.Direction.{Direction}
-use Rattle.program.specs.declared.Given.{Given}
 use Rattle.program.specs.declared.Variable.{Variable}
 
 -- the rules of a program and its variables, as far as the theory reads them
@@ -17,7 +16,7 @@ pub record System : Type 1 where
   -- the variable stands at a position of the rule's body that pushes this way, as seen from the variable's starting end
   pub occurs : Rule → ℕ → Direction → Type 0
   -- what the rule gives, kept positions read in the first valuation and all others in the second
-  pub gives : Rule → Valuation → Valuation → Given
+  pub gives : Rule → Valuation → Valuation → Option ℤ
 
 module _ (𝒮 : System) where
   open 𝒮 use {variable, Rule, In, head, gives}
@@ -30,7 +29,7 @@ module _ (𝒮 : System) where
     pub lt : T (not (not_past (variable v) b a))
 
   -- a head v that has b is given no more
-  abbrev pub GivenNoMore : ℕ → Given → ℤ → Type 0
+  abbrev pub GivenNoMore : ℕ → Option ℤ → ℤ → Type 0
   GivenNoMore v g b = T (no_more (variable v) g b)
 
   -- every value lies in its range

@@ -1,5 +1,5 @@
 -- Document 01, "Reduct and least model": what the call least answers and writes.
-use Rattle.std.specs.Prelude.{ℕ, zero, suc, ◌*◌, ◌<◌, ◌≡◌, true, false, List, [], ◌++◌, length, drop}
+use Rattle.std.specs.Prelude.{ℕ, zero, suc, ◌*◌, ◌<◌, ◌≡◌, true, false, List, [], ◌++◌, length, drop, Result, Ok, Err}
 use Rattle.format.specs.Numbers.{bytes_of}
 use Rattle.program.specs.Program.{Program, variable_in}
 use Rattle.program.specs.Variables.{in_range}
@@ -8,6 +8,7 @@ use Rattle.meaning.specs.Founded.{Model, Least}
 use Rattle.meaning.specs.Reduct.{system}
 use Rattle.meaning.specs.Stable.{assigned}
 use Rattle.meaning.specs.Calls.{Refuses, Called, lengths, denial_number, denial_place}
+use Rattle.meaning.specs.declared.Denied.{Denied}
 use Rattle.meaning.specs.declared.Solved.{Solved}
 use Rattle.meaning.specs.declared.Solved.TheVariants as solved
 
@@ -18,11 +19,11 @@ pub data Answer : Type 0 where
   none found : Answer
 
 -- the word, number and place of each case of the code's answer
-abbrev pub answer_of : Solved → Answer
-answer_of (solved.Refused why) = refusal (denial_number why) (denial_place why)
-answer_of (solved.Range v) = range v
-answer_of solved.Nothing = none
-answer_of solved.Found = found
+abbrev pub answer_of : Result Solved Denied → Answer
+answer_of (Err why) = refusal (denial_number why) (denial_place why)
+answer_of (Ok (solved.Range v)) = range v
+answer_of (Ok solved.Nothing) = none
+answer_of (Ok solved.Found) = found
 
 -- v is the first variable that is assigned outside its range
 pub record FirstOutside (P : Program) (θ : Valuation) (v : ℕ) : Type 0 where

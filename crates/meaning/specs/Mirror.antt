@@ -1,10 +1,8 @@
 -- Document 000, section 3: "for each ub-founded variable x in the program, create an lb-founded variable x' and replace every occurrence of x in P with
 -- -x', and then map the stable models of the modified program to the original program via θ(x) = -θ(x')." It serves laws alone (proofs/Mirror.antt).
-use Rattle.std.specs.Prelude.{neg_ℤ}
+use Rattle.std.specs.Prelude.{neg_ℤ, Option, Some, None, ℤ}
 use Rattle.program.specs.Variables.{swaps, ahead}
 use Rattle.program.specs.Readings.{Valuation}
-use Rattle.program.specs.declared.Given.{Given}
-use Rattle.program.specs.declared.Given.TheVariants.{Nothing, Value}
 use Rattle.program.specs.declared.Variable.{Variable}
 use Rattle.meaning.specs.Founded.{System}
 
@@ -13,9 +11,9 @@ unfoldable pub mirrored : Variable → Variable
 mirrored x = swaps x x (record { kind = 1; low = neg_ℤ x.high; high = neg_ℤ x.low })
 
 -- the value of x' for that of x, and that of x for that of x', is `ahead`
-abbrev pub turned_given : Variable → Given → Given
-turned_given x Nothing = Nothing
-turned_given x (Value a) = Value (ahead x a)
+abbrev pub turned_given : Variable → Option ℤ → Option ℤ
+turned_given x None = None
+turned_given x (Some a) = Some (ahead x a)
 
 module _ (𝒮 : System) where
   open 𝒮 use {variable, Rule, In, head, occurs, gives}

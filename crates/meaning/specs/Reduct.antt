@@ -1,10 +1,9 @@
 -- Document 01, "Reduct and least model", for the program of a file. Past the last variable stands a standard one of range 0..0, so that no
 -- statement has to ask whether a variable is declared.
-use Rattle.std.specs.Prelude.{ℕ, ◌<◌, ◌≡◌, length}
+use Rattle.std.specs.Prelude.{ℕ, ◌<◌, ◌≡◌, length, Option, ℤ}
 use Rattle.program.specs.Program.{Program, variable_in, rule_in}
 use Rattle.program.specs.Directions.{away, direction}
 use Rattle.program.specs.Readings.{Valuation, body_variable, gives}
-use Rattle.program.specs.declared.Given.{Given}
 use Rattle.program.specs.declared.Variable.{Variable}
 use Rattle.meaning.specs.Founded.{System}
 
@@ -12,7 +11,7 @@ use Rattle.meaning.specs.Founded.{System}
 -- valuation and all others in the second
 pub record Reckoning : Type 0 where
   pub variable : ℕ → Variable
-  pub gives : ℕ → Valuation → Valuation → Given
+  pub gives : ℕ → Valuation → Valuation → Option ℤ
 
 -- a program so read, as a system of the theory
 abbrev pub reckoned : Program → Reckoning → System

@@ -1,9 +1,7 @@
 -- The least model of a program, read by any reckoning R, found by raising the head of the first rule that is not met: for computing samples. It stands in no
 -- contract.
-use Rattle.std.specs.Prelude.{ℕ, zero, suc, Bool, true, false, cond, List, [], ◌∷◌, ℤ, pos, negsuc, set}
+use Rattle.std.specs.Prelude.{ℕ, zero, suc, Bool, true, false, cond, List, [], ◌∷◌, ℤ, pos, negsuc, set, Option, Some, None}
 use Rattle.program.specs.Program.{Rule, Program, rule_in}
-use Rattle.program.specs.declared.Given.{Given}
-use Rattle.program.specs.declared.Given.TheVariants.{Nothing, Value}
 use Rattle.program.specs.Variables.{far, not_past, started}
 use Rattle.program.specs.Readings.{Valuation, valued}
 use Rattle.program.specs.declared.Variable.{Variable}
@@ -20,9 +18,9 @@ pub data Step : Type 0 where
   raise : ℕ → ℤ → Step
 
 -- rule i gives so much, and its head x has b
-abbrev pub ask : Variable → ℕ → Given → ℤ → Step → Step
-ask x i Nothing b next = next
-ask x i (Value a) b next = cond (not_past x a b) next (raise i a)
+abbrev pub ask : Variable → ℕ → Option ℤ → ℤ → Step → Step
+ask x i None b next = next
+ask x i (Some a) b next = cond (not_past x a b) next (raise i a)
 
 -- among these rules, of which the first has number i
 unfoldable pub first_unmet : Reckoning → Valuation → Valuation → ℕ → List Rule → Step

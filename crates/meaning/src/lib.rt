@@ -2,7 +2,9 @@
 // stand in specs/, the laws about them in proofs/.
 #![tactic(auto)]
 
-use program::{Counts, Refusal};
+ghost use Rattle.std.specs.Prelude.{◌≡◌};
+
+use program::{Refusal, Rejection};
 
 // Why a call is turned down: the file, the length of the assignment or of the lent ranges (14), the lent buffer's, by the variables (15) or by what is written (17);
 // a tree that is not well formed (18), or whose added variables' ranges are too wide (19), with the place of its field; a lent range that leaves its declared one or is empty (20).
@@ -17,17 +19,20 @@ pub enum Denied {
     Ranges,
 }
 
-// How a call begins: it is turned down, or its file has these counts.
-#[derive(Drop)]
-pub enum Opening {
-    Closed(Denied),
-    Open(Counts),
+// A refusal of the file turns down the call.
+impl From<Rejection> for Denied {
+    ghost use Rattle.meaning.specs.declared.Denied.TheVariants.{File};
+
+    ghost from_gives = { λ refused why. why ≡ File refused.why refused.at };
+
+    fn from(refused: Rejection) -> Denied {
+        Denied::File(refused.why, refused.at)
+    }
 }
 
-// What the call least answers.
+// What the call least answers where it is not turned down.
 #[derive(Drop)]
 pub enum Solved {
-    Refused(Denied),
     Range(usize),
     Nothing,
     Found,

@@ -1,5 +1,6 @@
 -- A model of the nested program's reduct, with each node's value at its added variable, is one of the plain program's; and a model of the plain program's
 -- reduct, cut off after the declared variables, is one of the nested program's, and has at each added variable its node's value or a later one.
+use Rattle.std.specs.Prelude.{Option, Some}
 use Prim.Native.Nat.{ℕ, ◌+◌, ◌-◌, ◌<◌, ◌≤◌}
 use mathlib.Core.Path.{◌≡◌, refl, sym, ap, ap₂, subst, fun_ext, ◌∙◌}
 use mathlib.Core.Bool.{not, cond}
@@ -16,8 +17,6 @@ use Rattle.program.specs.Refusals.{item_refusal}
 use Rattle.program.specs.Variables.{is_founded, not_past, in_range, no_more}
 use Rattle.program.specs.Idle.{lows, highs}
 use Rattle.program.specs.Readings.{Valuation, kept, gives}
-use Rattle.program.specs.declared.Given.{Given}
-use Rattle.program.specs.declared.Given.TheVariants.{Value}
 use Rattle.program.specs.declared.Variable.{Variable}
 use Rattle.program.proofs.Encoding.{all_map}
 use Rattle.program.proofs.Promises.{rule_promised}
@@ -76,7 +75,7 @@ module _ {N : Nested} (fine : FineNested N) where
   rule_asked {m} {m'} {θ} {θ'} em eθ r e =
       let p = rule_promised vs r e in
       ap (λ (x : Variable). T (no_more x (gives vs r m θ) (m r.head))) (sym (variable_same vs (added_variables vs ts) r.head p.head_declared))
-      ∙ ap₂ (λ (g : Given) (a : ℤ). T (no_more (variable_in ws r.head) g a)) (sym (rule_same vs (added_variables vs ts) em eθ r p)) (sym (em.same r.head p.head_declared))
+      ∙ ap₂ (λ (g : Option ℤ) (a : ℤ). T (no_more (variable_in ws r.head) g a)) (sym (rule_same vs (added_variables vs ts) em eθ r p)) (sym (em.same r.head p.head_declared))
 
   -- what a model of the nested reduct says, as lists
   module _ (m θ : Valuation) where
@@ -262,7 +261,7 @@ module _ {N : Nested} (fine : FineNested N) where
 
       added : AllAlong added_by (λ n t. All (Asked ws m θ') (tree_rules n t)) (length vs) ts
       added = along_map (FineTree vs) (λ n t f p. all_map
-          (λ r a. subst (λ (g : Given). T (no_more (variable_in ws r.head) g (m r.head)))
-          (a.0.0 ∙ ap (λ (b : Valuation). Value (amount_by b r)) (seen_same t.head) ∙ sym a.0.1) a.1) (tree_rules n t)
+          (λ r a. subst (λ (g : Option ℤ). T (no_more (variable_in ws r.head) g (m r.head)))
+          (a.0.0 ∙ ap (λ (b : Valuation). Some (amount_by b r)) (seen_same t.head) ∙ sym a.0.1) a.1) (tree_rules n t)
           (all_both _ _ (tree_rules n t) (all_both _ _ (tree_rules n t) (tree_given f p.0 m θ) (tree_given f p.0 m θ')) p.1)) fine.fine_trees
           (along_both (trees_placed vs ts fine.fine_trees) (trees_asked k))

@@ -1,5 +1,6 @@
 -- The rule of a node: what it gives is its node's value for what its body reads, which rises with every operand. A body variable is kept by its own kind and
 -- the head's.
+use Rattle.std.specs.Prelude.{Some}
 use Prim.Native.Nat.{ℕ, zero, suc, ◌-◌, ◌<◌, ◌≤◌}
 use mathlib.Core.Path.{◌≡◌, refl, sym, ap, ap₂, subst, ◌∙◌}
 use mathlib.Core.Bool.{Bool, true, false, cond, ◌&&◌, ◌||◌}
@@ -17,7 +18,6 @@ use Rattle.program.specs.Evaluate.{sum_below, largest_to, smallest_to, amount_of
 use Rattle.program.specs.Readings.{Valuation, kept, reading, gives}
 use Rattle.program.specs.declared.Direction.{Direction}
 use Rattle.program.specs.declared.Direction.TheVariants.{Rising, Falling}
-use Rattle.program.specs.declared.Given.TheVariants.{Value}
 use Rattle.program.specs.declared.Variable.{Variable}
 use Rattle.program.specs.declared.Term.{Term}
 use Rattle.program.proofs.Gives.{sum_same, plain_hold}
@@ -136,7 +136,7 @@ climbs_along x = record { same = past_refl x; trans = past_trans x; node = λ {f
 
 -- ---- what a node's rule gives
 
-node_evaluate : {form : ℕ} → NodeForm form → (h : ℕ) (xs : List ℕ) (at : ℕ → ℤ) → evaluate (node_rule form h xs) at ≡ Value (over form at (length xs))
+node_evaluate : {form : ℕ} → NodeForm form → (h : ℕ) (xs : List ℕ) (at : ℕ → ℤ) → evaluate (node_rule form h xs) at ≡ Some (over form at (length xs))
 unfolding evaluate term_form
 node_evaluate {form} f h xs at = ap₂ only_if (sym (plain_hold (map (node_term form) xs) at (length (map (node_term form) xs)) plain)) amount
   where
@@ -151,10 +151,10 @@ node_evaluate {form} f h xs at = ap₂ only_if (sym (plain_hold (map (node_term 
 
 -- where its body is read as these values of its operands
 pub node_evaluates : {form : ℕ} → NodeForm form → (h : ℕ) (xs : List ℕ) (at : ℕ → ℤ) (b : Valuation) → 1 ≤ length xs
-    → ((i : ℕ) → i < length xs → at i ≡ b (get_or xs i 0)) → evaluate (node_rule form h xs) at ≡ Value (node_gives form (map b xs))
+    → ((i : ℕ) → i < length xs → at i ≡ b (get_or xs i 0)) → evaluate (node_rule form h xs) at ≡ Some (node_gives form (map b xs))
 node_evaluates f h xs at b l e =
     node_evaluate f h xs at
-    ∙ ap Value (over_same f at (λ i. get_or (map b xs) i (pos 0)) (length xs) l (λ i k. e i k ∙ sym (map_at b 0 (pos 0) xs i k))
+    ∙ ap Some (over_same f at (λ i. get_or (map b xs) i (pos 0)) (length xs) l (λ i k. e i k ∙ sym (map_at b 0 (pos 0) xs i k))
     ∙ sym (rw (node_is f (map b xs), length-map xs b)))
 
 -- ---- what is kept, by the kinds of the head and of the variable
@@ -194,7 +194,7 @@ module _ {form : ℕ} (f : NodeForm form) (vs : List Variable) (h : ℕ) (xs : L
       ap₂ (λ (b : Bool) (t : Term). cond b (m t.variable) (θ t.variable)) (node_kept i k) (map_at (node_term form) 0 no_term xs i k)
 
   pub node_given : (m θ b : Valuation) → 1 ≤ length xs → All (λ x. read_by vs (variable_in vs h).kind m θ x ≡ b x) xs
-      → gives vs (node_rule form h xs) m θ ≡ Value (node_gives form (map b xs))
+      → gives vs (node_rule form h xs) m θ ≡ Some (node_gives form (map b xs))
   unfolding gives
   node_given m θ b l a =
       node_evaluates f h xs (reading vs (node_rule form h xs) m θ) b l

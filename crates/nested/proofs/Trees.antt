@@ -1,5 +1,6 @@
 -- The rules of a tree, where b has a reading for each leaf and each added variable: they say that each added variable is at or past its node's value, and the
 -- head at or past the tree's.
+use Rattle.std.specs.Prelude.{Some}
 use Prim.Native.Nat.{ℕ, zero, suc, ◌+◌, ◌<◌, ◌≤◌}
 use mathlib.Core.Path.{◌≡◌, refl, sym, ap, subst, ◌∙◌}
 use mathlib.Core.List.{List, [], ◌∷◌, map, map-map, map-append}
@@ -10,7 +11,6 @@ use Rattle.trees.specs.Tree.{Tree, leaf, inner, total, inners, besides}
 use Rattle.program.specs.Encode.{All}
 use Rattle.program.specs.Program.{Rule, variable_in}
 use Rattle.program.specs.Readings.{Valuation, gives}
-use Rattle.program.specs.declared.Given.TheVariants.{Value}
 use Rattle.program.specs.declared.Variable.{Variable}
 use Rattle.nested.specs.Flatten.{node_term, node_rule, node_gives, value_of, inner_values, along, operand, operands, inner_rules, root_values, root_rules}
 use Rattle.nested.proofs.Lists.{Each, none, and, each_append, Standing, AllAlong, along_map, along_each, all_along, along_all, standing_along, along_standing}
@@ -150,7 +150,7 @@ module _ (ws : List Variable) (kind : ℕ) (m θ b : Valuation) where
 
   -- a rule gives its amount, and its head is of this kind
   pub record Gives (r : Rule) : Type 0 where
-    pub given : gives ws r m θ ≡ Value (amount_by b r)
+    pub given : gives ws r m θ ≡ Some (amount_by b r)
     pub kinds : (variable_in ws r.head).kind ≡ kind
 
   -- a rule whose head is an added variable
@@ -160,7 +160,7 @@ module _ (ws : List Variable) (kind : ℕ) (m θ b : Valuation) where
 
   gives_node : {form : ℕ} (h : ℕ) (xs : List ℕ) → NodeForm form → (variable_in ws h).kind ≡ kind → 1 ≤ length xs → All Seen xs → Gives (node_rule form h xs)
   gives_node {form} h xs f e l a = record {
-    given = node_given f ws h xs m θ b l (subst (λ k. All (λ x. read_by ws k m θ x ≡ b x) xs) (sym e) a) ∙ ap Value (sym (amount_node b form h xs));
+    given = node_given f ws h xs m θ b l (subst (λ k. All (λ x. read_by ws k m θ x ≡ b x) xs) (sym e) a) ∙ ap Some (sym (amount_node b form h xs));
     kinds = e;
   }
 

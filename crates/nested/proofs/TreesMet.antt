@@ -1,5 +1,6 @@
 -- The rules of one tree among those of the plain program, whose variables are the declared ones, vs, and more after those: what they ask of a valuation m, read
 -- in the reduct of θ, is that each added variable is at or past its node's value, and the head at or past the tree's.
+use Rattle.std.specs.Prelude.{Option, Some}
 use Prim.Native.Nat.{ℕ, ◌+◌, ◌<◌, ◌≤◌}
 use mathlib.Core.Path.{◌≡◌, sym, ap, subst, ◌∙◌}
 use mathlib.Core.Bool.{Bool, cond}
@@ -14,8 +15,6 @@ use Rattle.program.specs.Encode.{All}
 use Rattle.program.specs.Program.{Rule, variable_in}
 use Rattle.program.specs.Variables.{from_above, swaps, not_past, no_more}
 use Rattle.program.specs.Readings.{Valuation, gives}
-use Rattle.program.specs.declared.Given.{Given}
-use Rattle.program.specs.declared.Given.TheVariants.{Value}
 use Rattle.program.specs.declared.Variable.{Variable}
 use Rattle.program.proofs.Encoding.{all_map}
 use Rattle.program.proofs.Variables.{past_refl, past_trans}
@@ -96,7 +95,7 @@ module _ {vs more : List Variable} {n : ℕ} {t : Rooted} (fine : FineTree vs t)
 
   asked_is : (r : Rule) → Gives ws head.kind m θ b r → Asked ws m θ r ≡ Reaches (amount_by b r) (m r.head)
   asked_is r g =
-      ap (λ (a : Given). T (no_more (variable_in ws r.head) a (m r.head))) g.given
+      ap (λ (a : Option ℤ). T (no_more (variable_in ws r.head) a (m r.head))) g.given
       ∙ ap T (order_same (variable_in ws r.head) head (ap (λ (k : ℕ). eqb k 2) g.kinds) (amount_by b r) (m r.head))
 
   root_is : Asked ws m θ (root_rule max_levels t.head n t.tree) ≡ Reaches (amount_by b (root_rule max_levels t.head n t.tree)) (m t.head)
@@ -125,6 +124,6 @@ module _ {vs more : List Variable} {n : ℕ} {t : Rooted} (fine : FineTree vs t)
   )
 
   -- each gives its amount, read in m at the added variables
-  pub tree_given : All (λ r. gives ws r m θ ≡ Value (amount_by b r)) (tree_rules n t)
-  tree_given = subst (All (λ r. gives ws r m θ ≡ Value (amount_by b r))) (sym (root_first max_levels t.head n t.tree))
+  pub tree_given : All (λ r. gives ws r m θ ≡ Some (amount_by b r)) (tree_rules n t)
+  tree_given = subst (All (λ r. gives ws r m θ ≡ Some (amount_by b r))) (sym (root_first max_levels t.head n t.tree))
       (root.given, all_map (λ r g. g.gives.given) (other_rules max_levels n t.tree) others)

@@ -1,12 +1,10 @@
 -- Document 02, wish 6: "In the nested file a tree is one rule giving its root's value, its leaves plain terms."
-use Rattle.std.specs.Prelude.{ℕ, ◌<◌, ◌≡◌, List, [], ◌∷◌, length, get_or}
+use Rattle.std.specs.Prelude.{ℕ, ◌<◌, ◌≡◌, List, [], ◌∷◌, length, get_or, Option, Some, ℤ}
 use Rattle.trees.specs.Tree.{leaf, max_levels, leaves}
 use Rattle.program.specs.Program.{Rule, variable_in, rule_in}
 use Rattle.program.specs.Directions.{away, direction}
 use Rattle.program.specs.Readings.{Valuation, reading, gives}
 use Rattle.program.specs.declared.Direction.{Direction}
-use Rattle.program.specs.declared.Given.{Given}
-use Rattle.program.specs.declared.Given.TheVariants.{Value}
 use Rattle.program.specs.declared.Variable.{Variable}
 use Rattle.meaning.specs.Founded.{System}
 use Rattle.meaning.specs.Reduct.{system}
@@ -29,8 +27,8 @@ leaf_rule h x = node_rule 1 h (x ∷ [])
 abbrev pub leaf_reading : List Variable → ℕ → Valuation → Valuation → Valuation
 leaf_reading vs h m θ x = reading vs (leaf_rule h x) m θ 0
 
-unfoldable pub tree_gives : List Variable → Rooted → Valuation → Valuation → Given
-tree_gives vs t m θ = Value (value_of max_levels t.tree (leaf_reading vs t.head m θ))
+unfoldable pub tree_gives : List Variable → Rooted → Valuation → Valuation → Option ℤ
+tree_gives vs t m θ = Some (value_of max_levels t.tree (leaf_reading vs t.head m θ))
 
 -- the rule of a nested program: one of the file's rules, or a tree
 pub data NestedRule : Type 0 where
@@ -57,7 +55,7 @@ occurs_in N (tree i) x d =
     let vs = N.plain.variables in
     LeafOf (rooted_in N.trees i) x × (away (variable_in vs x) (direction vs (leaf_rule (rooted_in N.trees i).head x) 0) ≡ d)
 
-abbrev pub gives_in : Nested → NestedRule → Valuation → Valuation → Given
+abbrev pub gives_in : Nested → NestedRule → Valuation → Valuation → Option ℤ
 gives_in N (rule i) m θ = gives N.plain.variables (rule_in N.plain.rules i) m θ
 gives_in N (tree i) m θ = tree_gives N.plain.variables (rooted_in N.trees i) m θ
 

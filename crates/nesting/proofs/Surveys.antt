@@ -1,4 +1,5 @@
 -- The trees of a nested file one after the other.
+use Rattle.std.specs.Prelude.{Result, Ok, Err}
 use Prim.Native.Nat.{ℕ, suc, ◌+◌, ◌-◌, ◌*◌, ◌<◌, ◌≤◌}
 use mathlib.Core.Path.{◌≡◌, refl, sym, ap, subst, subst₂, ◌∙◌}
 use mathlib.Core.Logic.{◌⊎◌, inl, inr, ◌≢◌}
@@ -37,8 +38,6 @@ use Rattle.plainpart.proofs.PlainLaws.{cut_nested}
 use Rattle.spans.specs.Spans.{Tabled}
 use Rattle.nesting.specs.declared.Totals.{Totals}
 use Rattle.nesting.specs.Surveying.{Declares, Known, SoFar, TakenIn, Takes, taken, turned_down, stray_number, Surveyed, per_byte}
-use Rattle.nesting.specs.declared.Found.{Found}
-use Rattle.nesting.specs.declared.Found.TheVariants.{Whole, Refused}
 
 pub denial_positive : (d : Denied) → 0 < denial_number d
 denial_positive (File why at) = number_positive why
@@ -49,11 +48,11 @@ denial_positive (Tree at) = lit< tt
 denial_positive (Added at) = lit< tt
 denial_positive Ranges = lit< tt
 
-denied : {N : Nested} {v : List ℕ} {at : ℕ} {t : Totals} {records : List ℕ} {lows highs : List ℤ} {d : Denied} → Takes N v at t records lows highs (Refused d)
+denied : {N : Nested} {v : List ℕ} {at : ℕ} {t : Totals} {records : List ℕ} {lows highs : List ℤ} {d : Denied} → Takes N v at t records lows highs (Err d)
     → (denial_number d ≡ treed_refusal N (treed_of v)) × (denial_place d ≡ at)
 denied (turned_down e q) = (e, q)
 
-took : {N : Nested} {v : List ℕ} {at : ℕ} {t t' : Totals} {records : List ℕ} {lows highs : List ℤ} → Takes N v at t records lows highs (Whole t')
+took : {N : Nested} {v : List ℕ} {at : ℕ} {t t' : Totals} {records : List ℕ} {lows highs : List ℤ} → Takes N v at t records lows highs (Ok t')
     → TakenIn N v t t' records lows highs
 took (taken k) = k
 
@@ -228,14 +227,14 @@ module _ {s : List ℕ} {n from at : ℕ} {t : Totals} {records : List ℕ} {low
             bounded = omega (arith, k.bounded, r.bounded, w.next_is, l);
           }
 
-      module _ {v : List ℕ} (e : v ≡ value_at s at) {records' : List ℕ} {lows' highs' : List ℤ} {f : Found} (k : Takes (nested s r.fields) v at t records' lows' highs' f) where
-        pub survey_refused : {d : Denied} → f ≡ Refused d → NestedRefuses s (denial_number d) (denial_place d)
+      module _ {v : List ℕ} (e : v ≡ value_at s at) {records' : List ℕ} {lows' highs' : List ℤ} {f : Result Totals Denied} (k : Takes (nested s r.fields) v at t records' lows' highs' f) where
+        pub survey_refused : {d : Denied} → f ≡ Err d → NestedRefuses s (denial_number d) (denial_place d)
         survey_refused {d} q =
             let o = denied (subst (Takes (nested s r.fields) v at t records' lows' highs') q k) in
             subst (NestedRefuses s (denial_number d)) (sym o.1)
             (refuse (denial_number d) w.more (tree_here ∙ ap (λ u. treed_refusal (nested s r.fields) (treed_of u)) (sym e) ∙ sym o.0) (denial_positive d))
 
-        pub survey_more : {t' : Totals} → f ≡ Whole t' → Reached s n from next t' records' lows' highs'
+        pub survey_more : {t' : Totals} → f ≡ Ok t' → Reached s n from next t' records' lows' highs'
         survey_more {t'} q = taken_more e (took (subst (Takes (nested s r.fields) v at t records' lows' highs') q k))
 
 -- ---- the plain part's variables

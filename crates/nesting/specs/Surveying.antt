@@ -1,5 +1,5 @@
 -- What the code finds of a nested file's trees, one after the other.
-use Rattle.std.specs.Prelude.{ℕ, ◌+◌, ◌*◌, ◌<◌, ◌≤◌, ◌≡◌, cond, List, [], ◌∷◌, ◌++◌, ℤ, nat_abs, length, take}
+use Rattle.std.specs.Prelude.{ℕ, ◌+◌, ◌*◌, ◌<◌, ◌≤◌, ◌≡◌, cond, List, [], ◌∷◌, ◌++◌, ℤ, nat_abs, length, take, Result, Ok, Err}
 use Rattle.format.specs.Limits.{max_file, max_variables, max_number}
 use Rattle.program.specs.Program.{variable_in, variables_at}
 use Rattle.program.specs.Refusals.{unknown_tag}
@@ -14,8 +14,6 @@ use Rattle.nested.specs.FlattenCall.{flat}
 use Rattle.nested.proofs.FineNested.{FineNested}
 use Rattle.spans.specs.Spans.{Tabled}
 use Rattle.nesting.specs.declared.Totals.{Totals}
-use Rattle.nesting.specs.declared.Found.{Found}
-use Rattle.nesting.specs.declared.Found.TheVariants.{Whole, Refused}
 
 -- the fields of n variables stand in the file, and their numbers are in range
 pub record Declares (s : List ℕ) (n : ℕ) : Type 0 where
@@ -52,9 +50,9 @@ pub record TakenIn (N : Nested) (v : List ℕ) (before t : Totals) (records : Li
   pub bounded : t.bytes ≤ before.bytes + per_byte * length v
 
 -- what taking in the value of a field at `at` answers
-pub data Takes (N : Nested) (v : List ℕ) (at : ℕ) (before : Totals) (records : List ℕ) (lows highs : List ℤ) : Found → Type 0 where
-  taken : {t : Totals} → TakenIn N v before t records lows highs → Takes N v at before records lows highs (Whole t)
-  turned_down : {why : Denied} → denial_number why ≡ treed_refusal N (treed_of v) → denial_place why ≡ at → Takes N v at before records lows highs (Refused why)
+pub data Takes (N : Nested) (v : List ℕ) (at : ℕ) (before : Totals) (records : List ℕ) (lows highs : List ℤ) : Result Totals Denied → Type 0 where
+  taken : {t : Totals} → TakenIn N v before t records lows highs → Takes N v at before records lows highs (Ok t)
+  turned_down : {why : Denied} → denial_number why ≡ treed_refusal N (treed_of v) → denial_place why ≡ at → Takes N v at before records lows highs (Err why)
 
 -- the refusal of a field with another tag after a tree: "3: unknown tag", "4: tag below the one before"
 unfoldable pub stray_number : ℕ → ℕ
@@ -67,9 +65,9 @@ pub record Surveyed (s : List ℕ) (t : Totals) (records : List ℕ) (lows highs
   pub known : Known (nested s fields) t records lows highs
 
 -- what reading the trees of a nested file answers
-pub data Surveys (s : List ℕ) (records : List ℕ) (lows highs : List ℤ) : Found → Type 0 where
-  passed : {t : Totals} → Surveyed s t records lows highs → Surveys s records lows highs (Whole t)
-  refused : {why : Denied} → NestedRefuses s (denial_number why) (denial_place why) → Surveys s records lows highs (Refused why)
+pub data Surveys (s : List ℕ) (records : List ℕ) (lows highs : List ℤ) : Result Totals Denied → Type 0 where
+  passed : {t : Totals} → Surveyed s t records lows highs → Surveys s records lows highs (Ok t)
+  refused : {why : Denied} → NestedRefuses s (denial_number why) (denial_place why) → Surveys s records lows highs (Err why)
 
 -- no size is larger
 abbrev pub max_bytes : ℕ

@@ -19,7 +19,7 @@ use plainpart::Tag;
 use program::{Counts, Refusal};
 use rewriting::writing::put;
 use spans::fill_tree;
-use treechecks::{Checking, check_tree};
+use treechecks::check_tree;
 
 // The variables and rules of the plain file, and its size.
 #[derive(Drop)]
@@ -27,13 +27,6 @@ pub struct Totals {
     pub variables: usize,
     pub rules: usize,
     pub bytes: usize,
-}
-
-// The totals of a nested file whose fields pass, or its first refusal.
-#[derive(Drop)]
-pub enum Found {
-    Whole(Totals),
-    Refused(Denied),
 }
 
 // Enters the first n variables of the plain part in the tables.
@@ -85,23 +78,19 @@ fn take_in(
     value: &[u8],
     at: usize,
     totals: Totals,
-) -> Found
+) -> Result<Totals, Denied>
     requires n_in_bounds { (8 * n ≤ length plain.now) × (length value.now ≤ max_file) × (totals.bytes ≤ max_bytes) }
     requires so_far { SoFar plain.now n totals records.old lows.old highs.old }
     ensures { (x : SoFar plain.now n totals records.old lows.old highs.old)
         → Takes x.program value.now at totals records.new lows.new highs.new result }
 {
-    match check_tree(plain, n, value, at, totals.variables, totals.rules) {
-        Checking::Bad(why) => Found::Refused(why),
-        Checking::Fine(added) => {
-            let head = variable(plain, value[0]);
-            let tree = &value[1..];
-            if !fill_tree(lows, highs, records, tree, totals.variables, head.kind) {
-                return Found::Refused(Denied::Added(at));
-            }
-            Found::Whole(more(totals, added, tree))
-        }
+    let added = check_tree(plain, n, value, at, totals.variables, totals.rules)?;
+    let head = variable(plain, value[0]);
+    let tree = &value[1..];
+    if !fill_tree(lows, highs, records, tree, totals.variables, head.kind) {
+        return Err(Denied::Added(at));
     }
+    Ok(more(totals, added, tree))
 }
 
 // A field at `at` with another tag, after a tree.
@@ -122,7 +111,7 @@ fn survey_trees(
     file: &[u8],
     counts: Counts,
     from: usize,
-) -> Found
+) -> Result<Totals, Denied>
     requires plain_counted { PlainCounted file.now counts from }
     requires tabled { Tabled (variables_at (take from file.now) counts.variables) records.old lows.old highs.old }
     ensures { Surveys file.now records.new lows.new highs.new result }
@@ -139,7 +128,7 @@ fn survey_trees(
         let at = cursor.at;
         let field = cursor.field(file);
         if let Field::End = field {
-            return Found::Whole(totals);
+            return Ok(totals);
         }
         let Field::Whole {
             tag,
@@ -148,27 +137,14 @@ fn survey_trees(
             next,
         } = field
         else {
-            return Found::Refused(Denied::File(Refusal::CutShort, at));
+            return Err(Denied::File(Refusal::CutShort, at));
         };
         if tag != Tag::TREE {
-            return Found::Refused(stray(tag, at));
+            return Err(stray(tag, at));
         }
-        match take_in(
-            lows,
-            highs,
-            records,
-            plain,
-            n,
-            &file[start..start + len],
-            at,
-            totals,
-        ) {
-            Found::Refused(why) => return Found::Refused(why),
-            Found::Whole(more) => {
-                totals = more;
-                cursor = next;
-            }
-        }
+        let value = &file[start..start + len];
+        totals = take_in(lows, highs, records, plain, n, value, at, totals)?;
+        cursor = next;
     }
 }
 
@@ -180,7 +156,7 @@ pub fn survey(
     file: &[u8],
     counts: Counts,
     from: usize,
-) -> Found
+) -> Result<Totals, Denied>
     requires plain_counted { PlainCounted file.now counts from }
     requires tables { Tables lows.old highs.old × (length records.old ≡ records_length) }
     ensures { Surveys file.now records.new lows.new highs.new result }

@@ -63,6 +63,14 @@ module _ {s : List ℕ} (o : OneTree s) (next : ℕ) (few : next + inners_in (dr
   pub left_begun : Left s 2 next
   left_begun = left_at 1 next (tree_least o) refl
 
+-- where a byte is left, two are
+pub left_some : {s : List ℕ} {at n : ℕ} → Left s at n → at < length s → at + 1 < length s
+left_some {s} {at} l h = go l.many l.stands l.ends
+  where
+    go : (m : ℕ) → Stand (drop at s) m → past (drop at s) m ≡ [] → at + 1 < length s
+    go zero x e = let f : ⊥ = omega (arith, ap length (sym (past_none (drop at s)) ∙ e), length-drop at s) in absurd f
+    go (suc m) x e = omega (arith, stand_some (drop at s) m x, length-drop at s)
+
 -- ---- one node further
 
 module _ {s : List ℕ} {at n : ℕ} (l : Left s at n) (h : at + 1 < length s) where

@@ -123,15 +123,13 @@ fn put_inner(s: &[u8], from: usize, next: usize, out: &mut [u8], at: usize) -> u
     requires { Left s.now from next × (at + size_in (drop from s.now) ≤ length out.old) }
     ensures { PutIn (each rule_bytes (rules_in next (drop from s.now))) out.old at result out.new }
 {
-    let mut place = from;
     let mut number = next;
     let mut end = at;
-    while place + 1 < s.len() {
+    for place in (from..s.len()).step_by(2) {
         if s[place] != 0 {
             end = put_node(s, inner_at(s, place, number), out, end);
             number += 1;
         }
-        place += 2;
     }
     end
 }

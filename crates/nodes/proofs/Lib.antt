@@ -1,3 +1,4 @@
+pub mod Pairs
 pub mod InnerLaws
 pub mod LeafLaws
 pub mod SizeLaws

@@ -1,40 +1,42 @@
 -- The bytes of rules counted along the bytes of nodes.
 use Prim.Native.Nat.{ℕ, ◌+◌, ◌*◌, ◌<◌, ◌≤◌}
 use mathlib.Core.Path.{◌≡◌, refl, ap, ◌∙◌}
-use mathlib.Core.List.{List, [], ◌∷◌}
+use mathlib.Core.List.{List, [], ◌∷◌, ◌++◌}
 use native.Mathlib.Omega.{arith}
-use lib.ListN.{length, drop, get_or}
+use lib.ListN.{length, drop, get_or, length-append}
 use borrow.Author.Tests.{eq-eqb, ne_eqb}
-use Rattle.trees.proofs.TwoBytes.{drop_two, drop_less}
 use Rattle.flat.specs.Flat.{OneTree, size_in, flat_size}
 use Rattle.flat.proofs.Standing.{stand_some}
+use Rattle.nodes.proofs.Pairs.{pair_and, none_left}
 
--- n bytes are those of the nodes from `from` on that stand before `at`
-pub record Sized (s : List ℕ) (from at n : ℕ) : Type 0 where
-  pub inside : at ≤ length s
-  pub few : n ≤ 514 * at
-  pub rest : n + size_in (drop at s) ≡ size_in (drop from s)
+-- n bytes are those of the nodes before the rest of the bytes
+pub record Sized (s rest : List ℕ) (n : ℕ) : Type 0 where
+  pub few : n + 514 * length rest ≤ 514 * length s
+  pub counted : n + size_in rest ≡ size_in s
 
-pub sized_none : (s : List ℕ) (from : ℕ) → from ≤ length s → Sized s from from 0
-sized_none s from h = record { inside = h; few = omega arith; rest = omega arith }
+pub sized_none : {s rest : List ℕ} → rest ≡ s → Sized s rest 0
+sized_none e = record { few = omega (arith, ap length e); counted = omega (arith, ap size_in e) }
 
-module _ (s : List ℕ) (from at n : ℕ) (c : Sized s from at n) where
-  module _ (m : ℕ) (h : at + 1 < length s) where
-    pub sized_inner : (get_or s at 0 ≡ 0 → ⊥) → get_or s (at + 1) 0 < 256 → m ≡ n + (7 + 4 * get_or s (at + 1) 0) → Sized s from (at + 2) m
+module _ {s rest : List ℕ} {n : ℕ} (c : Sized s rest n) where
+  module _ (node after : List ℕ) (p : rest ≡ node ++ after) (two : length node ≡ 2) where
+    shorter : length rest ≡ 2 + length after
+    shorter = omega (arith, ap length p, length-append node after)
+
+    pub sized_inner : (get_or node 0 0 ≡ 0 → ⊥) → get_or node 1 0 < 256 → Sized s after (n + (7 + 4 * get_or node 1 0))
     unfolding size_in
-    sized_inner e k q =
-        let f : size_in (drop at s) ≡ 7 + 4 * get_or s (at + 1) 0 + size_in (drop (at + 2) s) = ap size_in (drop_two s at h) ∙ simp (ne_eqb (get_or s at 0) 0 e) in
-        record { inside = omega arith; few = omega arith; rest = omega arith }
+    sized_inner e k =
+        let f : size_in rest ≡ 7 + 4 * get_or node 1 0 + size_in after = ap size_in (p ∙ pair_and node after two) ∙ simp (ne_eqb (get_or node 0 0) 0 e) in
+        record { few = omega (arith, c.few, shorter); counted = omega (arith, c.counted) }
 
-    pub sized_leaf : get_or s at 0 ≡ 0 → m ≡ n → Sized s from (at + 2) m
+    pub sized_leaf : get_or node 0 0 ≡ 0 → Sized s after n
     unfolding size_in
-    sized_leaf e q =
-        let f : size_in (drop at s) ≡ size_in (drop (at + 2) s) = ap size_in (drop_two s at h) ∙ simp (eq-eqb (get_or s at 0) 0 e) in
-        record { inside = omega arith; few = omega arith; rest = omega arith }
+    sized_leaf e =
+        let f : size_in rest ≡ size_in after = ap size_in (p ∙ pair_and node after two) ∙ simp (eq-eqb (get_or node 0 0) 0 e) in
+        record { few = omega (arith, c.few, shorter); counted = omega (arith, c.counted) }
 
-  pub sized_all : length s ≤ at + 1 → n ≡ size_in (drop from s)
+  pub sized_all : length rest < 2 → n ≡ size_in s
   unfolding size_in
-  sized_all h = let k = drop_less size_in 0 refl (λ a. refl) s at h in omega arith
+  sized_all h = let k = none_left size_in 0 refl (λ a. refl) rest h in omega (arith, c.counted)
 
 -- ---- with the root
 

@@ -12,12 +12,10 @@ pub fn inners(s: &[u8]) -> usize
     ensures { (result ≡ inners_in s.now) × (2 * result ≤ length s.now) }
 {
     let mut n = 0;
-    let mut at = 0;
-    while at + 1 < s.len() {
-        if s[at] != 0 {
+    for node in s.chunks_exact(2) {
+        if node[0] != 0 {
             n += 1;
         }
-        at += 2;
     }
     n
 }
@@ -26,15 +24,13 @@ pub fn inners(s: &[u8]) -> usize
 pub fn is_undeclared(s: &[u8], n: usize) -> bool
     ensures { result ≡ any_in (leb n) (leaves_in s.now) }
 {
-    let mut at = 0;
-    while at + 1 < s.len() {
-        if s[at] == 0 {
-            let x = s[at + 1] as usize;
+    for node in s.chunks_exact(2) {
+        if node[0] == 0 {
+            let x = node[1] as usize;
             if n <= x {
                 return true;
             }
         }
-        at += 2;
     }
     false
 }
@@ -44,32 +40,28 @@ pub fn is_twice(s: &[u8]) -> bool
     ensures { result ≡ twice_with (λ x. false) (leaves_in s.now) }
 {
     let mut seen = Set::empty();
-    let mut at = 0;
-    while at + 1 < s.len() {
-        if s[at] == 0 {
-            let x = s[at + 1];
+    for node in s.chunks_exact(2) {
+        if node[0] == 0 {
+            let x = node[1];
             if seen.contains(x) {
                 return true;
             }
             seen = seen.insert(x);
         }
-        at += 2;
     }
     false
 }
 
-// The bytes of the rules of the inner nodes from `at` on.
+// The bytes of the rules of the inner nodes from `from` on.
 fn size_from(s: &[u8], from: usize) -> usize
     requires { (from ≤ length s.now) × (length s.now ≤ max_file) }
     ensures { (result ≡ size_in (drop from s.now)) × (result ≤ 514 * length s.now) }
 {
     let mut n = 0;
-    let mut at = from;
-    while at + 1 < s.len() {
-        if s[at] != 0 {
-            n += 7 + 4 * s[at + 1] as usize;
+    for node in s[from..].chunks_exact(2) {
+        if node[0] != 0 {
+            n += 7 + 4 * node[1] as usize;
         }
-        at += 2;
     }
     n
 }

@@ -1,4 +1,5 @@
 -- A rule and a constraint read alike with their terms in order, and so does a program in its normal form.
+use Rattle.std.specs.Prelude.{Option}
 use Prim.Native.Nat.{ℕ, ◌<◌}
 use mathlib.Core.Path.{◌≡◌, sym, ap, ap₂, subst, ◌∙◌}
 use mathlib.Core.Bool.{cond, ◌&&◌}
@@ -14,7 +15,6 @@ use Rattle.program.specs.Readings.{Valuation, kept, gives}
 use Rattle.program.specs.Idle.{demanding, most_at, most, lows, highs, is_idle}
 use Rattle.program.specs.Encode.{Proper}
 use Rattle.program.specs.declared.Direction.{Direction}
-use Rattle.program.specs.declared.Given.{Given}
 use Rattle.program.specs.declared.Variable.{Variable}
 use Rattle.program.specs.declared.Term.{Term}
 use Rattle.program.proofs.Promises.{rule_promised}
@@ -44,7 +44,7 @@ module _ (vs : List Variable) (r q : Rule) (e : item_refusal vs (rule r) ≡ 0) 
 
   same_idle : is_idle vs q ≡ is_idle vs r
   unfolding is_idle
-  same_idle = ap₂ (λ (h : ℕ) (a : Given). let x = variable_in vs h in no_more x a (start x)) o.head same_most
+  same_idle = ap₂ (λ (h : ℕ) (a : Option ℤ). let x = variable_in vs h in no_more x a (start x)) o.head same_most
 
   same_stands : (s u : Rule) → s.form ≡ u.form → s.head ≡ u.head → ((i : ℕ) → i < length s.terms → Found (term_form r.form) u.terms i (term_in s.terms i))
       → (x : ℕ) (d : Direction) → Stands vs s x d → Stands vs u x d

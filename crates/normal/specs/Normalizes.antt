@@ -1,20 +1,19 @@
 -- Document 02, wish 4: what the call normalize answers and writes, for a file s and a lent buffer b.
-use Rattle.std.specs.Prelude.{ℕ, ◌<◌, List, [], ◌∷◌, ◌++◌, length, drop}
+use Rattle.std.specs.Prelude.{ℕ, ◌<◌, List, [], ◌∷◌, ◌++◌, length, drop, Result, Ok, Err}
 use Rattle.program.specs.Program.{Program}
 use Rattle.program.specs.Encode.{encode}
 use Rattle.meaning.specs.Calls.{Denial, ◌under◌, Refuses, Called, denial_number, denial_place}
 use Rattle.normal.specs.Normal.{Normal}
-use Rattle.normal.specs.declared.Rewriting.{Rewriting}
-use Rattle.normal.specs.declared.Rewriting.TheVariants.{Refused, Written}
+use Rattle.meaning.specs.declared.Denied.{Denied}
 
 -- an answer: a refusal's number and place, or "the length"
 pub data Answer : Type 0 where
   refusal : ℕ → ℕ → Answer
   written : ℕ → Answer
 
-abbrev pub answer_of : Rewriting → Answer
-answer_of (Refused why) = refusal (denial_number why) (denial_place why)
-answer_of (Written n) = written n
+abbrev pub answer_of : Result ℕ Denied → Answer
+answer_of (Err why) = refusal (denial_number why) (denial_place why)
+answer_of (Ok n) = written n
 
 -- "(Refusal 17, after the file's own: the lent buffer is shorter than the input file.)"
 abbrev pub shorter : List ℕ → List ℕ → Program → List Denial

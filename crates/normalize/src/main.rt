@@ -3,7 +3,8 @@
 
 use format::Format;
 use std::io;
-use telling::{read_full, text};
+use std::io::Write;
+use telling::read_full;
 
 fn main(rt: HostRuntime) -> io::Result<()> {
     // One byte more than the longest file is enough to see that an input is longer.
@@ -11,5 +12,5 @@ fn main(rt: HostRuntime) -> io::Result<()> {
     let read = read_full(&mut rt.stdin(), &mut input)?;
     let mut output = [0u8; Format::MAX_FILE + 1];
     let n = renewing::renew(&input[..read], &mut output);
-    text(&mut rt.stdout(), &output[..n])
+    rt.stdout().write_all(&output[..n])
 }

@@ -1,7 +1,7 @@
 // The word and the numbers of each answer, and how they are packed.
 #![tactic(auto)]
 
-ghost use Rattle.std.specs.Prelude.{◌≡◌};
+ghost use Rattle.std.specs.Prelude.{◌≡◌, Ok};
 ghost use Rattle.program.specs.Reading as read;
 ghost use Rattle.meaning.specs.Calls.{denial_number, denial_place};
 ghost use Rattle.meaning.specs.LeastCall as least;
@@ -12,11 +12,8 @@ ghost use Rattle.lent.specs.BoundsCall as bounds;
 ghost use Rattle.packing.specs.Packing.{parts, Fits, packed, read_parts, least_parts, check_parts, length_parts, normalize_parts, begin_parts, bounds_parts};
 
 use calls::{denial_number, denial_place};
-use lent::Bounding;
 use meaning::{Denied, Solved};
-use normal::Rewriting;
-use program::{Reading, number_of};
-use search::Beginning;
+use program::{Counts, Rejection, number_of};
 use verdict::Verdict;
 
 // An answer's word and its numbers, 0 where there is none.
@@ -86,41 +83,59 @@ fn of_denied(why: Denied) -> Parts
     with_two(Word::REFUSED, denial_number(why), denial_place(why))
 }
 
-pub fn of_reading(reading: Reading) -> Parts
+pub fn of_reading(reading: Result<Counts, Rejection>) -> Parts
     ensures { result ≡ read_parts (read.answer_of reading) }
 {
     match reading {
-        Reading::Accepted(counts) => Parts {
+        Ok(counts) => Parts {
             word: Word::ACCEPTED,
             first: counts.variables,
             second: counts.rules,
             third: counts.constraints,
         },
-        Reading::Refused(why, at) => with_two(Word::REFUSED, number_of(why), at),
+        Err(Rejection { why, at }) => with_two(Word::REFUSED, number_of(why), at),
     }
 }
 
-pub fn of_solved(solved: Solved) -> Parts
-    ensures { result ≡ least_parts (least.answer_of solved) }
+// What `least` answers where it is not turned down.
+fn of_found(solved: Solved) -> Parts
+    ensures { result ≡ least_parts (least.answer_of (Ok solved)) }
 {
     match solved {
-        Solved::Refused(why) => of_denied(why),
         Solved::Range(v) => with_one(Word::RANGE, v),
         Solved::Nothing => alone(Word::NONE),
         Solved::Found => alone(Word::FOUND),
     }
 }
 
-pub fn of_verdict(verdict: Verdict) -> Parts
-    ensures { result ≡ check_parts (check.answer_of verdict) }
+pub fn of_solved(solved: Result<Solved, Denied>) -> Parts
+    ensures { result ≡ least_parts (least.answer_of solved) }
+{
+    match solved {
+        Err(why) => of_denied(why),
+        Ok(solved) => of_found(solved),
+    }
+}
+
+// What `check` answers where it is not turned down.
+fn of_judged(verdict: Verdict) -> Parts
+    ensures { result ≡ check_parts (check.answer_of (Ok verdict)) }
 {
     match verdict {
-        Verdict::Refused(why) => of_denied(why),
         Verdict::Range(v) => with_one(Word::RANGE, v),
         Verdict::Rule(i) => with_one(Word::RULE, i),
         Verdict::Constraint(i) => with_one(Word::CONSTRAINT, i),
         Verdict::Unfounded(bounds, conditions) => with_two(Word::UNFOUNDED, bounds, conditions),
         Verdict::Stable => alone(Word::STABLE),
+    }
+}
+
+pub fn of_verdict(verdict: Result<Verdict, Denied>) -> Parts
+    ensures { result ≡ check_parts (check.answer_of verdict) }
+{
+    match verdict {
+        Err(why) => of_denied(why),
+        Ok(verdict) => of_judged(verdict),
     }
 }
 
@@ -131,30 +146,30 @@ fn of_length(n: usize) -> Parts
     with_two(Word::WRITTEN, n % 65536, n / 65536)
 }
 
-pub fn of_rewriting(rewriting: Rewriting) -> Parts
+pub fn of_rewriting(rewriting: Result<usize, Denied>) -> Parts
     ensures { result ≡ normalize_parts (normalize.answer_of rewriting) }
 {
     match rewriting {
-        Rewriting::Refused(why) => of_denied(why),
-        Rewriting::Written(n) => of_length(n),
+        Err(why) => of_denied(why),
+        Ok(n) => of_length(n),
     }
 }
 
-pub fn of_beginning(beginning: Beginning) -> Parts
+pub fn of_beginning(beginning: Result<usize, Denied>) -> Parts
     ensures { result ≡ begin_parts (begin.answer_of beginning) }
 {
     match beginning {
-        Beginning::Refused(why) => of_denied(why),
-        Beginning::Begun(n) => with_one(Word::BEGUN, n),
+        Err(why) => of_denied(why),
+        Ok(n) => with_one(Word::BEGUN, n),
     }
 }
 
-pub fn of_bounding(bounding: Bounding) -> Parts
+pub fn of_bounding(bounding: Result<(), Denied>) -> Parts
     ensures { result ≡ bounds_parts (bounds.answer_of bounding) }
 {
     match bounding {
-        Bounding::Refused(why) => of_denied(why),
-        Bounding::Bounded => alone(Word::BOUNDED),
+        Err(why) => of_denied(why),
+        Ok(()) => alone(Word::BOUNDED),
     }
 }
 

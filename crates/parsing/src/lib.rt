@@ -3,8 +3,9 @@
 #![tactic(auto)]
 
 ghost use Rattle.std.specs.Prelude.{◌≡◌, ◌≤◌, ◌<◌, length};
+ghost use Rattle.std.specs.Option.{IfSome};
 
-use pieces::{WRONG, appended, decimal, find};
+use pieces::{appended, decimal, find};
 
 // The part of the room that a call is lent starts here.
 const START: usize = 16;
@@ -21,16 +22,38 @@ const MOST: usize = 61000;
 // The bytes of a short output.
 const SHORT: usize = 4;
 
-// The letter of a case that is tried after another: the file that is said to be written is written anew.
-pub const AGAIN: u8 = 1;
+// What a line asks for.
+#[derive(Clone, Copy, PartialEq, Eq, Default)]
+pub enum Case {
+    Read,
+    Least,
+    Check,
+    Bounds,
+    Normalize,
+    Flatten,
+    // The search of components.
+    Begin,
+    // The text of `print_verdict` or `bounds`, into all of the room or into few bytes.
+    Print,
+    PrintShort,
+    List,
+    ListShort,
+    // The bytes that the later cases begin with.
+    Beginning,
+    // Nothing.
+    Comment,
+    // The file that is said to be written, normalized or flattened anew: tried after another case.
+    NormalizeAgain,
+    FlattenAgain,
+    // A line that is written wrongly.
+    #[default]
+    Bad,
+}
 
-// The same where that file is made plain.
-pub const PLAIN: u8 = 2;
-
-// A line's letter, 0 where it is written wrongly, where its name starts and ends, and where its case starts.
+// What a line asks for, where its name starts and ends, and where its case starts.
 #[derive(Drop)]
 struct Head {
-    letter: u8,
+    case: Case,
     start: usize,
     colon: usize,
     rest: usize,
@@ -46,10 +69,10 @@ struct Ends {
     to: usize,
 }
 
-// A line's letter and name as in `Head`, the bytes and the lent part of its case as in `Ends`, and how many bytes the beginning has after the line.
-#[derive(Clone, Copy)]
+// What a line asks for and its name as in `Head`, the bytes and the lent part of its case as in `Ends`, and how many bytes the beginning has after the line.
+#[derive(Clone, Copy, Default)]
 pub struct Line {
-    pub letter: u8,
+    pub case: Case,
     pub start: usize,
     pub colon: usize,
     pub file: usize,
@@ -59,14 +82,36 @@ pub struct Line {
     pub begun: usize,
 }
 
-// A line of which the letter alone counts.
-fn only(letter: u8, end: usize) -> Head
+// What a line asks for, by its first letter. Bytes 1 and 2 stand for cases that no line is to name.
+fn case_of(letter: u8) -> Case {
+    match letter {
+        b'r' => Case::Read,
+        b'l' => Case::Least,
+        b'c' => Case::Check,
+        b'h' => Case::Bounds,
+        b'n' => Case::Normalize,
+        b'f' => Case::Flatten,
+        b'b' => Case::Begin,
+        b'p' => Case::Print,
+        b's' => Case::PrintShort,
+        b'm' => Case::List,
+        b't' => Case::ListShort,
+        b'w' => Case::Beginning,
+        b'#' => Case::Comment,
+        1 => Case::NormalizeAgain,
+        2 => Case::FlattenAgain,
+        _ => Case::Bad,
+    }
+}
+
+// A line with no name and nothing after it.
+fn only(case: Case, end: usize) -> Head
     ensures start_le_colon { result.start ≤ result.colon }
     ensures colon_le_end { result.colon ≤ end }
     ensures rest_le_end { result.rest ≤ end }
 {
     Head {
-        letter,
+        case,
         start: end,
         colon: end,
         rest: end,
@@ -81,23 +126,16 @@ fn head_of(table: &[u8], at: usize, end: usize) -> Head
     ensures colon_le_end { result.colon ≤ end }
     ensures rest_le_end { result.rest ≤ end }
 {
-    if at == end {
-        return only(b'#', end);
-    }
-    let letter = table[at];
-    if letter == b'#' {
-        return only(letter, end);
+    if at == end || table[at] == b'#' {
+        return only(Case::Comment, end);
     }
     let colon = find(table, at, end, b':');
     let space = find(table, at, colon, b' ');
-    if space == colon {
-        return only(0, end);
-    }
-    if colon == end {
-        return only(0, end);
+    if space == colon || colon == end {
+        return only(Case::Bad, end);
     }
     Head {
-        letter,
+        case: case_of(table[at]),
         start: space + 1,
         colon,
         rest: colon + 1,
@@ -105,21 +143,21 @@ fn head_of(table: &[u8], at: usize, end: usize) -> Head
 }
 
 // How many bytes a call is usually lent, of a search how many words.
-fn usual(letter: u8) -> usize
+fn usual(case: Case) -> usize
     ensures { result ≤ 3080 }
 {
-    if letter == b'b' { SETS } else { USUAL }
+    if case == Case::Begin { SETS } else { USUAL }
 }
 
 // Where a call's part ends: it has as many bytes or words as the number after the assignment says, or the usual.
-fn lent_to(letter: u8, text: &[u8]) -> usize
-    ensures { 16 ≤ result }
+fn lent_to(case: Case, text: &[u8]) -> Option<usize>
+    ensures { IfSome result (λ to. 16 ≤ to) }
 {
-    if text.len() == 0 {
-        return START + usual(letter);
+    if text.is_empty() {
+        return Some(START + usual(case));
     }
-    let n = decimal(&text[1..]);
-    if MOST < n { WRONG } else { START + n }
+    let n = decimal(&text[1..])?;
+    if MOST < n { None } else { Some(START + n) }
 }
 
 // A case that has no assignment, and is lent the room's first bytes.
@@ -135,48 +173,68 @@ fn alone(file: usize, to: usize) -> Ends
 }
 
 // The file of a call, before a semicolon, its assignment, its ranges or the file that is said to be written, and the rest.
-fn called(bytes: &mut [u8], begun: usize, letter: u8, text: &[u8]) -> Ends
-    ensures { result.from ≤ result.to }
+fn called(bytes: &mut [u8], begun: usize, case: Case, text: &[u8]) -> Option<Ends>
+    ensures { IfSome result (λ ends. ends.from ≤ ends.to) }
 {
     let end = find(text, 0, text.len(), b';');
     if end == text.len() {
-        return alone(WRONG, 0);
+        return None;
     }
-    let file = appended(bytes, begun, &text[0..end]);
+    let file = appended(bytes, begun, &text[..end])?;
     let start = end + 1;
     let stop = find(text, start, text.len(), b';');
-    Ends {
+    Some(Ends {
         file,
-        all: appended(bytes, file, &text[start..stop]),
+        all: appended(bytes, file, &text[start..stop])?,
         from: START,
-        to: lent_to(letter, &text[stop..]),
-    }
+        to: lent_to(case, &text[stop..])?,
+    })
 }
 
 // How many bytes an output has: all of the room, or few.
-fn output(letter: u8, room: usize) -> usize {
-    match letter {
-        b'p' | b'm' => room,
-        b's' | b't' => SHORT,
-        _ => 0,
+fn output(case: Case, room: usize) -> usize {
+    match case {
+        Case::Print | Case::List => room,
+        Case::PrintShort | Case::ListShort => SHORT,
+        Case::Read
+        | Case::Least
+        | Case::Check
+        | Case::Bounds
+        | Case::Normalize
+        | Case::Flatten
+        | Case::Begin
+        | Case::Beginning
+        | Case::Comment
+        | Case::NormalizeAgain
+        | Case::FlattenAgain
+        | Case::Bad => 0,
     }
 }
 
-// The bytes of a case, by the letter of its line.
-fn filled(bytes: &mut [u8], begun: usize, letter: u8, text: &[u8], room: usize) -> Ends
-    ensures { result.from ≤ result.to }
+// The bytes of a case, by what its line asks for, where they are written as they must be.
+fn filled(bytes: &mut [u8], begun: usize, case: Case, text: &[u8], room: usize) -> Option<Ends>
+    ensures { IfSome result (λ ends. ends.from ≤ ends.to) }
 {
-    match letter {
-        b'l' | b'c' | b'n' | b'f' | b'b' | b'h' => called(bytes, begun, letter, text),
-        b'w' => alone(appended(bytes, 0, text), 0),
-        _ => alone(appended(bytes, begun, text), output(letter, room)),
+    match case {
+        Case::Least | Case::Check | Case::Bounds | Case::Normalize | Case::Flatten | Case::Begin =>
+            called(bytes, begun, case, text),
+        Case::Beginning => Some(alone(appended(bytes, 0, text)?, 0)),
+        Case::Read
+        | Case::Print
+        | Case::PrintShort
+        | Case::List
+        | Case::ListShort
+        | Case::Comment
+        | Case::NormalizeAgain
+        | Case::FlattenAgain
+        | Case::Bad => Some(alone(appended(bytes, begun, text)?, output(case, room))),
     }
 }
 
 // The line with its case, where there are so many bytes for it, and a room of so many.
-fn fitted(head: Head, ends: Ends, begun: usize, len: usize, room: usize) -> Line
+fn fitted(head: Head, ends: Option<Ends>, begun: usize, len: usize, room: usize) -> Line
     requires start_le_colon { head.start ≤ head.colon }
-    requires from_le_to { ends.from ≤ ends.to }
+    requires from_le_to { IfSome ends (λ e. e.from ≤ e.to) }
     ensures start_le_colon_2 { result.start ≤ result.colon }
     ensures colon_le_colon { result.colon ≤ head.colon }
     ensures file_le_all { result.file ≤ result.all }
@@ -184,35 +242,26 @@ fn fitted(head: Head, ends: Ends, begun: usize, len: usize, room: usize) -> Line
     ensures from_le_to_2 { result.from ≤ result.to }
     ensures to_le_room { result.to ≤ room }
 {
-    let letter = head.letter;
-    let file = ends.file;
-    let all = ends.all;
-    let to = ends.to;
-    if all <= len {
-        if file <= all {
-            if to <= room {
-                return Line {
-                    letter,
-                    start: head.start,
-                    colon: head.colon,
-                    file,
-                    all,
-                    from: ends.from,
-                    to,
-                    begun: if letter == b'w' { all } else { begun },
-                };
-            }
-        }
-    }
-    Line {
-        letter: 0,
-        start: 0,
-        colon: 0,
-        file: 0,
-        all: 0,
-        from: 0,
-        to: 0,
-        begun,
+    let case = head.case;
+    match ends {
+        Some(ends) if ends.all <= len && ends.file <= ends.all && ends.to <= room => Line {
+            case,
+            start: head.start,
+            colon: head.colon,
+            file: ends.file,
+            all: ends.all,
+            from: ends.from,
+            to: ends.to,
+            begun: if case == Case::Beginning {
+                ends.all
+            } else {
+                begun
+            },
+        },
+        _ => Line {
+            begun,
+            ..Line::default()
+        },
     }
 }
 
@@ -229,32 +278,28 @@ pub fn parsed(bytes: &mut [u8], begun: usize, table: &[u8], at: usize, room: usi
     let end = find(table, at, table.len(), b'\n');
     let head = head_of(table, at, end);
     let rest = head.rest;
-    let ends = filled(bytes, begun, head.letter, &table[rest..end], room);
+    let ends = filled(bytes, begun, head.case, &table[rest..end], room);
     fitted(head, ends, begun, bytes.len(), room)
 }
 
 // Whether a line says which file is written.
 pub fn is_said(line: Line) -> bool {
-    ((line.letter == b'n') | (line.letter == b'f')) & (line.file < line.all)
+    matches!(line.case, Case::Normalize | Case::Flatten) && line.file < line.all
 }
 
-// The line with the letter `AGAIN`, or `PLAIN`.
+// The line that tries the file that is said to be written.
 pub fn again(line: Line) -> Line
     ensures file_value { result.file ≡ line.file }
     ensures all_value { result.all ≡ line.all }
     ensures from_value { result.from ≡ line.from }
     ensures to_value { result.to ≡ line.to }
 {
-    Line {
-        letter: if line.letter == b'f' { PLAIN } else { AGAIN },
-        start: line.start,
-        colon: line.colon,
-        file: line.file,
-        all: line.all,
-        from: line.from,
-        to: line.to,
-        begun: line.begun,
-    }
+    let case = if line.case == Case::Flatten {
+        Case::FlattenAgain
+    } else {
+        Case::NormalizeAgain
+    };
+    Line { case, ..line }
 }
 
 // Where the line after the one that starts at `at` starts, or the table's end.

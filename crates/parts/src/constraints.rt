@@ -15,10 +15,7 @@ pub fn header(value: &[u8]) -> ConstraintHeader
     ensures { (result.form ≡ (constraint_of value.now).form) × (result.c ≡ (constraint_of value.now).c) }
 {
     let c = format::signed_at(value, 1);
-    ConstraintHeader {
-        form: value[0],
-        c: c,
-    }
+    ConstraintHeader { form: value[0], c }
 }
 
 // The body, as that stretch of the value.

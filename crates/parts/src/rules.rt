@@ -22,7 +22,7 @@ pub fn header(value: &[u8]) -> RuleHeader
     RuleHeader {
         form: value[0],
         head: value[1],
-        c: c,
+        c,
     }
 }
 

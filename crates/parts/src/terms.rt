@@ -14,7 +14,7 @@ fn whole(bytes: &[u8]) -> Term
     Term {
         variable: bytes[0],
         op: bytes[1],
-        number: number,
+        number,
     }
 }
 

@@ -13,8 +13,8 @@ pub fn variable_of(value: &[u8]) -> Variable
     let high = format::signed_at(value, 3);
     Variable {
         kind: value[0],
-        low: low,
-        high: high,
+        low,
+        high,
     }
 }
 

@@ -3,12 +3,9 @@
 
 ghost use Rattle.std.specs.Prelude.{◌≤◌, length};
 
+use sets::Set;
 use std::io;
 use std::io::Write;
-use telling::{say, text};
-
-// The words of a set.
-pub const WORDS: usize = 4;
 
 // The most variables whose sets and components are printed each by itself.
 pub const FEW: usize = 16;
@@ -17,15 +14,10 @@ pub const FEW: usize = 16;
 fn elements<W: Write>(out: &mut W, word: u64, i: usize) -> io::Result<()> {
     for y in 0..64 {
         if (word >> y) % 2 == 1 {
-            say(out, b"", i % WORDS * 64 + y)?;
+            write!(out, " {}", i % Set::WORDS * 64 + y)?;
         }
     }
     Ok(())
-}
-
-// How many elements a word says.
-fn count_of(word: u64) -> u32 {
-    u64::count_ones(word)
 }
 
 // The sum of the elements that the i-th word says.
@@ -35,7 +27,7 @@ fn sum_of(word: u64, i: usize) -> usize
     let mut sum = 0;
     for y in 0..64 {
         if (word >> y) % 2 == 1 {
-            sum += i % WORDS * 64 + y;
+            sum += i % Set::WORDS * 64 + y;
         }
     }
     sum
@@ -44,28 +36,25 @@ fn sum_of(word: u64, i: usize) -> usize
 // A variable before its set.
 fn variable<W: Write>(out: &mut W, x: usize) -> io::Result<()> {
     if 0 < x {
-        text(out, b";")?;
+        write!(out, ";")?;
     }
-    say(out, b"", x)?;
-    text(out, b" ->")
+    write!(out, " {x} ->")
 }
 
 // Each variable's set.
 fn sets_listed<W: Write>(out: &mut W, sets: &[u64]) -> io::Result<()> {
-    for i in 0..sets.len() {
-        if i % WORDS == 0 {
-            variable(out, i / WORDS)?;
+    for (i, &word) in sets.iter().enumerate() {
+        if i % Set::WORDS == 0 {
+            variable(out, i / Set::WORDS)?;
         }
-        elements(out, sets[i], i)?;
+        elements(out, word, i)?;
     }
     Ok(())
 }
 
 // How many there are, and their sum.
 fn in_all<W: Write>(out: &mut W, count: usize, sum: usize) -> io::Result<()> {
-    say(out, b"", count)?;
-    text(out, b" in all")?;
-    say(out, b", sum", sum)
+    write!(out, " {count} in all, sum {sum}")
 }
 
 // How many elements all sets have, and their sum.
@@ -74,9 +63,8 @@ fn sets_counted<W: Write>(out: &mut W, sets: &[u64]) -> io::Result<()>
 {
     let mut count = 0;
     let mut sum = 0;
-    for i in 0..sets.len() {
-        let word = sets[i];
-        count += count_of(word) as usize;
+    for (i, &word) in sets.iter().enumerate() {
+        count += word.count_ones() as usize;
         sum += sum_of(word, i);
     }
     in_all(out, count, sum)
@@ -86,19 +74,19 @@ fn sets_counted<W: Write>(out: &mut W, sets: &[u64]) -> io::Result<()>
 pub fn sets_shown<W: Write>(out: &mut W, sets: &[u64]) -> io::Result<()>
     requires { length sets.now ≤ 2048 }
 {
-    text(out, b":")?;
-    if sets.len() <= WORDS * FEW {
+    write!(out, ":")?;
+    if sets.len() <= Set::WORDS * FEW {
         sets_listed(out, sets)?;
     } else {
         sets_counted(out, sets)?;
     }
-    text(out, b"\n")
+    writeln!(out)
 }
 
 // The first variable of each one's component.
 fn names_listed<W: Write>(out: &mut W, names: &[u8]) -> io::Result<()> {
-    for x in 0..names.len() {
-        say(out, b"", format::wide(names[x]))?;
+    for name in names {
+        write!(out, " {name}")?;
     }
     Ok(())
 }
@@ -109,8 +97,8 @@ fn names_counted<W: Write>(out: &mut W, names: &[u8]) -> io::Result<()>
 {
     let mut count = 0;
     let mut sum = 0;
-    for x in 0..names.len() {
-        let y = format::wide(names[x]);
+    for (x, &name) in names.iter().enumerate() {
+        let y = usize::from(name);
         if x == y {
             count += 1;
         }

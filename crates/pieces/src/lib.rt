@@ -2,9 +2,7 @@
 #![tactic(auto)]
 
 ghost use Rattle.std.specs.Prelude.{◌≤◌, length};
-
-// More than any room has: the answer for a text that is wrong.
-pub const WRONG: usize = 1000000;
+ghost use Rattle.std.specs.Option.{IfSome};
 
 // The place of the first byte x from `from` on and below `to`, and `to` where there is none.
 pub fn find(text: &[u8], from: usize, to: usize, x: u8) -> usize
@@ -12,116 +10,98 @@ pub fn find(text: &[u8], from: usize, to: usize, x: u8) -> usize
     requires inside { to ≤ length text.now }
     ensures { (from ≤ result) × (result ≤ to) }
 {
-    for i in from..to {
-        if text[i] == x {
-            return i;
-        }
+    match text[from..to].iter().position(|&byte| byte == x) {
+        Some(i) => from + i,
+        None => to,
     }
-    to
 }
 
-// What a hexadecimal digit stands for, and 256 for any other character.
-fn digit(x: u8) -> usize
-    ensures { result ≤ 256 }
+// What a hexadecimal digit stands for.
+fn digit(x: u8) -> Option<u8>
+    ensures { IfSome result (λ d. d ≤ 15) }
 {
     match x {
-        b'0'..=b'9' => format::wide(x) - 48,
-        b'a'..=b'f' => format::wide(x) - 87,
-        _ => 256,
+        b'0'..=b'9' => Some(x - b'0'),
+        b'a'..=b'f' => Some(x - b'a' + 10),
+        _ => None,
     }
 }
 
 // The number of decimal digits after a space.
-pub fn decimal(text: &[u8]) -> usize {
-    if text.len() < 2 {
-        return WRONG;
-    }
-    if text[0] != b' ' {
-        return WRONG;
+pub fn decimal(text: &[u8]) -> Option<usize> {
+    let (&space, digits) = text.split_first()?;
+    if space != b' ' || digits.is_empty() {
+        return None;
     }
     let mut n = 0;
-    for i in 1..text.len() {
-        let d = digit(text[i]);
-        if 9 < d {
-            return WRONG;
+    for &x in digits {
+        if !x.is_ascii_digit() || 99999 < n {
+            return None;
         }
-        if 99999 < n {
-            return WRONG;
-        }
-        n = n * 10 + d;
+        n = n * 10 + usize::from(x - b'0');
     }
-    n
+    Some(n)
 }
 
-// A byte's three characters, the k-th time; 256 where they are wrong.
-fn byte(sign: u8, high: u8, low: u8, k: usize) -> usize {
-    let x = digit(high) * 16 + digit(low);
-    if 255 < x {
-        return 256;
-    }
+// A byte's three characters, the k-th time.
+fn byte(sign: u8, high: u8, low: u8, k: usize) -> Option<u8> {
+    let x = digit(high)? * 16 + digit(low)?;
+    let times = (k % 256) as u8;
     match sign {
-        b' ' => x,
-        b'+' => (x + k % 256) % 256,
-        b'-' => (x + 256 - k % 256) % 256,
-        _ => 256,
+        b' ' => Some(x),
+        b'+' => Some(x.wrapping_add(times)),
+        b'-' => Some(x.wrapping_sub(times)),
+        _ => None,
     }
 }
 
-// Appends the text's bytes so many times to the n that there are; answers how many there are then.
-fn repeated(bytes: &mut [u8], n: usize, text: &[u8], times: usize) -> usize {
+// Appends the text's bytes so many times to the n that there are; answers how many there are then, where the text is right and there is room.
+fn repeated(bytes: &mut [u8], n: usize, text: &[u8], times: usize) -> Option<usize> {
+    if text.is_empty() {
+        return None;
+    }
     let mut m = n;
-    let mut at = 0;
-    let mut k = 0;
-    while k < times {
-        if bytes.len() <= m {
-            return WRONG;
+    for k in 0..times {
+        for three in text.chunks_exact(3) {
+            let x = byte(three[0], three[1], three[2], k)?;
+            *bytes.get_mut(m)? = x;
+            m += 1;
         }
-        if text.len() - at < 3 {
-            return WRONG;
-        }
-        let x = byte(text[at], text[at + 1], text[at + 2], k);
-        if 255 < x {
-            return WRONG;
-        }
-        bytes[m] = x as u8;
-        m += 1;
-        at += 3;
-        if at == text.len() {
-            at = 0;
-            k += 1;
+        if text.len() % 3 != 0 {
+            return None;
         }
     }
-    m
+    Some(m)
 }
 
-// Appends a piece.
-fn piece(bytes: &mut [u8], n: usize, text: &[u8]) -> usize {
+// Appends a piece. A count that is wrong is more than there is room for.
+fn piece(bytes: &mut [u8], n: usize, text: &[u8]) -> Option<usize> {
     let end = find(text, 0, text.len(), b'*');
     if end == text.len() {
         return repeated(bytes, n, text, 1);
     }
     let start = end + 1;
-    let times = decimal(&text[0..end]);
+    let times = decimal(&text[..end]).unwrap_or(usize::MAX);
     if times == 0 {
-        return WRONG;
+        return None;
     }
     repeated(bytes, n, &text[start..], times)
 }
 
 // Appends the pieces of a text.
-pub fn appended(bytes: &mut [u8], n: usize, text: &[u8]) -> usize {
-    if text.len() == 0 {
-        return n;
+pub fn appended(bytes: &mut [u8], n: usize, text: &[u8]) -> Option<usize> {
+    if text.is_empty() {
+        return Some(n);
     }
     let mut m = n;
     let mut at = 0;
     while at < text.len() {
         let end = find(text, at, text.len(), b',');
-        m = piece(bytes, m, &text[at..end]);
+        m = piece(bytes, m, &text[at..end])?;
         if end == text.len() {
-            return m;
+            return Some(m);
         }
         at = end + 1;
     }
-    WRONG
+    None
 }

@@ -1,5 +1,5 @@
 -- The plain part of a nested file: the fields before its first tree.
-use Rattle.std.specs.Prelude.{ℕ, ◌<◌, ◌≤◌, ◌≡◌, ◌≢◌, true, false, List, [], length, take}
+use Rattle.std.specs.Prelude.{ℕ, ◌<◌, ◌≤◌, ◌≡◌, ◌≢◌, true, false, List, [], length, take, Result, Ok, Err}
 use Rattle.program.specs.Fields.{tag_at, place}
 use Rattle.program.specs.Program.{program}
 use Rattle.program.specs.Refusals.{cut_short}
@@ -8,8 +8,7 @@ use Rattle.program.specs.declared.Counts.{Counts}
 use Rattle.fields.specs.Scanning.{Counted}
 use Rattle.nested.specs.Nested.{tree_tag, trees}
 use Rattle.nested.specs.NestedReading.{NestedPassed, NestedRefuses}
-use Rattle.plainpart.specs.declared.Plain.{Plain}
-use Rattle.plainpart.specs.declared.Plain.TheVariants.{Whole, Refused}
+use Rattle.program.specs.declared.Rejection.{Rejection}
 
 -- the first k fields are whole, and none of them is a tree
 pub record NoTrees (s : List ℕ) (k : ℕ) : Type 0 where
@@ -39,6 +38,6 @@ pub record PlainCounted (s : List ℕ) (counts : Counts) (from : ℕ) : Type 0 w
   pub no_trees : trees s fields ≡ []
   pub tree : from < length s → tag_at s from ≡ tree_tag
 
-abbrev pub Plains : List ℕ → Plain → Type 0
-Plains s (Whole counts from) = PlainCounted s counts from
-Plains s (Refused why at) = NestedRefuses s (number_of why) at
+abbrev pub Plains : List ℕ → Result (Counts × ℕ) Rejection → Type 0
+Plains s (Ok (counts, from)) = PlainCounted s counts from
+Plains s (Err r) = NestedRefuses s (number_of r.why) r.at

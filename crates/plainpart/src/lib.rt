@@ -3,10 +3,9 @@
 
 ghost use Rattle.plainpart.specs.PlainPart.{FirstTree, Plains};
 
-use fields::answers::Scanned;
 use fields::cursor::{Cursor, Field};
 use format::Format;
-use program::{Counts, Refusal};
+use program::{Counts, Refusal, Rejection};
 
 #[derive(Drop)]
 pub struct Tag {}
@@ -14,13 +13,6 @@ pub struct Tag {}
 impl Tag {
     // The tag of a tree.
     pub const TREE: u8 = 5;
-}
-
-// The counts of the plain part and where it ends, or the first refusal with its place.
-#[derive(Drop)]
-pub enum Plain {
-    Whole(Counts, usize),
-    Refused(Refusal, usize),
 }
 
 // Where the first tree stands; where there is none, or a field before it is cut short, the file's end.
@@ -47,15 +39,16 @@ fn first_tree(file: &[u8]) -> usize
 }
 
 // Reads the plain part as a plain file; the whole file's length is judged first.
-pub fn read_plain(file: &[u8]) -> Plain
+pub fn read_plain(file: &[u8]) -> Result<(Counts, usize), Rejection>
     ensures { Plains file.now result }
 {
     if Format::MAX_FILE < file.len() {
-        return Plain::Refused(Refusal::FileTooLong, 0);
+        return Err(Rejection {
+            why: Refusal::FileTooLong,
+            at: 0,
+        });
     }
     let from = first_tree(file);
-    match fields::scan::scan(&file[..from]) {
-        Scanned::Whole(counts) => Plain::Whole(counts, from),
-        Scanned::Refused(why, at) => Plain::Refused(why, at),
-    }
+    let counts = fields::scan::scan(&file[..from])?;
+    Ok((counts, from))
 }

@@ -1,5 +1,6 @@
 -- A small check to make wrong ones of: where the kind of a variable decides, it goes the way that a number names, and is wrong there or right. It judges what is
 -- left to judge where a file's fields are in order and the assignment lies in its ranges and meets every rule and constraint. It stands in no contract.
+use Rattle.std.specs.Prelude.{Option, Some, None}
 use Prim.Native.Nat.{ℕ, zero, suc, ◌+◌}
 use mathlib.Core.Bool.{Bool, not, cond, ◌&&◌, ◌||◌}
 use mathlib.Core.List.{List, [], ◌∷◌, ◌++◌}
@@ -16,8 +17,6 @@ use Rattle.program.specs.Evaluate.{larger, smaller, evaluate}
 use Rattle.program.specs.Readings.{Valuation, valued, body_variable}
 use Rattle.program.specs.Idle.{is_idle}
 use Rattle.program.specs.declared.Direction.{Direction}
-use Rattle.program.specs.declared.Given.{Given}
-use Rattle.program.specs.declared.Given.TheVariants.{Nothing, Value}
 use Rattle.program.specs.declared.Term.{Term}
 use Rattle.program.specs.declared.Variable.{Variable}
 use Rattle.meaning.specs.Stable.{assigned}
@@ -168,21 +167,21 @@ module _ (way : ℕ) where
 
     -- the least model: each variable takes what its rules give, round by round
     module _ (θ : Valuation) where
-      abbrev given : Valuation → Rule → Given
+      abbrev given : Valuation → Rule → Option ℤ
       given m r = evaluate r (λ j. let x = body_variable r j in cond (keeps (at x) (direct r j)) (m x) (θ x))
 
-      abbrev joint : Variable → Given → Given → Given
-      joint x Nothing g = g
-      joint x (Value a) Nothing = Value a
-      joint x (Value a) (Value b) = Value (takes x a b)
+      abbrev joint : Variable → Option ℤ → Option ℤ → Option ℤ
+      joint x None g = g
+      joint x (Some a) None = Some a
+      joint x (Some a) (Some b) = Some (takes x a b)
 
-      unfoldable pub demanded : Valuation → ℕ → List Rule → Given
-      demanded m v [] = Nothing
+      unfoldable pub demanded : Valuation → ℕ → List Rule → Option ℤ
+      demanded m v [] = None
       demanded m v (r ∷ rs) = let rest = demanded m v rs in cond (eqb r.head v) (joint (at v) (given m r) rest) rest
 
-      abbrev lifted : Variable → Given → ℤ → ℤ
-      lifted x Nothing b = b
-      lifted x (Value a) b = cond (not_past x a b) b a
+      abbrev lifted : Variable → Option ℤ → ℤ → ℤ
+      lifted x None b = b
+      lifted x (Some a) b = cond (not_past x a b) b a
 
       unfoldable pub begun : ℕ → List Variable → List ℤ
       begun v [] = []

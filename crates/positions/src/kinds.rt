@@ -30,7 +30,7 @@ pub fn kinds_of(form: u8, h: Variable) -> Kinds
     let rises = sum | (form == 7) | ((2 <= form) & (form <= 4));
     let up = chosen(rises, chosen(above, 2, 1), 0);
     Kinds {
-        up: up,
+        up,
         down: chosen(sum, chosen(above, 1, 2), up),
     }
 }

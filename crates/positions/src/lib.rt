@@ -38,7 +38,7 @@ pub fn open_rule(file: &[u8], variables: usize, value: &[u8]) -> Opened
     Opened {
         form: rule.form,
         head: rule.head,
-        variable: variable,
+        variable,
     }
 }
 
@@ -54,7 +54,7 @@ pub fn position_at(file: &[u8], variables: usize, value: &[u8], rule: Opened, i:
     let direction = directions::of_term(rule.variable, rule.form, x, t);
     Position {
         variable: t.variable,
-        direction: direction,
+        direction,
         kept: directions::is_kept(x, direction),
     }
 }

@@ -1,5 +1,6 @@
 -- The most that a rule can give over ranges, and that the test of an idle rule is right: each position read where it makes the rule give most bounds
 -- every other reading, and values of the variables give that reading, since no variable stands twice in a body.
+use Rattle.std.specs.Prelude.{Option, Some, None}
 use Prim.Native.Nat.{ℕ, zero, suc, ◌<◌, ◌≤◌}
 use mathlib.Core.Path.{◌≡◌, refl, sym, ap, ◌∙◌}
 use mathlib.Core.Logic.{◌≢◌}
@@ -22,8 +23,6 @@ use Rattle.program.specs.Reading.{Passed}
 use Rattle.program.specs.Idle.{Idle, furthest, nearest, demanding, most_at, most, lows, highs, is_idle}
 use Rattle.program.specs.declared.Direction.{Direction}
 use Rattle.program.specs.declared.Direction.TheVariants.{Rising, Falling, Mixed}
-use Rattle.program.specs.declared.Given.{Given}
-use Rattle.program.specs.declared.Given.TheVariants.{Nothing, Value}
 use Rattle.program.specs.declared.Variable.{Variable}
 use Rattle.program.specs.declared.Term.{Term}
 use Rattle.program.proofs.Conditions.{never, last_or}
@@ -249,10 +248,10 @@ module _ {vs : List Variable} {r : Rule} (p : RulePromise vs r) (low high : Valu
 -- ---- the test
 
 -- what gives no more than the second, which gives no more than b, gives no more than b
-pub under_no_more : (x : Variable) (g h : Given) (b : ℤ) → Under x g h → T (no_more x h b) → T (no_more x g b)
-under_no_more x Nothing h b u n = tt
-under_no_more x (Value a) Nothing b u n = absurd u
-under_no_more x (Value a) (Value c) b u n = past_trans x a c b u n
+pub under_no_more : (x : Variable) (g h : Option ℤ) (b : ℤ) → Under x g h → T (no_more x h b) → T (no_more x g b)
+under_no_more x None h b u n = tt
+under_no_more x (Some a) None b u n = absurd u
+under_no_more x (Some a) (Some c) b u n = past_trans x a c b u n
 
 module _ {P : Program} (promises : Promises P) {r : Rule} (p : RulePromise P.variables r) where
   -- the declared ranges

@@ -1,5 +1,6 @@
 -- The directions of document 01 are right: a rule demands no less of its head when its rising positions rise, its falling ones fall and its
 -- mixed ones stay. Plain positions move the amount, literal ones decide whether it is given. What the rule gives is compared in its head's order.
+use Rattle.std.specs.Prelude.{Option, Some, None}
 use Prim.Native.Nat.{ℕ, zero, suc, ◌-◌, ◌<◌, ◌≤◌}
 use mathlib.Core.Path.{◌≡◌, refl, sym, subst}
 use mathlib.Core.List.{List, [], ◌∷◌}
@@ -19,8 +20,6 @@ use Rattle.program.specs.Evaluate.{sum_below, larger, smaller, pick_to, holds, a
 use Rattle.program.specs.Readings.{body_variable}
 use Rattle.program.specs.declared.Direction.{Direction}
 use Rattle.program.specs.declared.Direction.TheVariants.{Rising, Falling, Mixed}
-use Rattle.program.specs.declared.Given.{Given}
-use Rattle.program.specs.declared.Given.TheVariants.{Nothing, Value}
 use Rattle.program.proofs.Promises.{RulePromise, plain_position, carried_position, divisor_least}
 use Rattle.program.proofs.Quotients.{over_up_rises}
 use Rattle.program.proofs.Gives.{seven, amount_sum, amount_largest, amount_smallest, amount_product, amount_size, amount_literals, amount_carried}
@@ -69,10 +68,10 @@ away_moves x d a b h = subst (λ A. A) (sym (onward_away x d a b)) (tested d h)
     tested Mixed e = e
 
 -- of a head x the first demands no more than the second
-abbrev pub Under : Variable → Given → Given → Type 0
-Under x Nothing h = Unit {0}
-Under x (Value a) Nothing = ⊥
-Under x (Value a) (Value b) = T (not_past x a b)
+abbrev pub Under : Variable → Option ℤ → Option ℤ → Type 0
+Under x None h = Unit {0}
+Under x (Some a) None = ⊥
+Under x (Some a) (Some b) = T (not_past x a b)
 
 -- ---- the numbers
 

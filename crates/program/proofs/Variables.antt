@@ -1,4 +1,5 @@
 -- The laws of a variable's order, its ends and its range, from the order of the whole numbers.
+use Rattle.std.specs.Prelude.{Option, Some, None}
 use Prim.Native.Nat.{ℕ, ◌<◌, ◌≤◌}
 use mathlib.Core.Path.{◌≡◌, refl, sym, ap, subst}
 use mathlib.Core.Logic.{◌⊎◌, inl, inr}
@@ -9,8 +10,6 @@ use lib.IntN.{ℤ, pos, negsuc, neg_ℤ, nat_abs, ◌-ℤ◌}
 use lib.Signed.{le_z, lt_z, le_z_yes, ◌≤ℤ◌, ≤ℤ_refl}
 use Rattle.format.proofs.Int.{int, up, sum_is, neg_is, abs_is, not_negative}
 use Rattle.program.specs.Variables.{is_founded, from_above, swaps, ahead, start, far, not_past, in_range, no_more, started, short}
-use Rattle.program.specs.declared.Given.{Given}
-use Rattle.program.specs.declared.Given.TheVariants.{Nothing, Value}
 use Rattle.program.proofs.Tests.{cases, is_true, and_left, and_right, and_both}
 use Rattle.program.specs.declared.Variable.{Variable}
 
@@ -82,9 +81,9 @@ module _ (x : Variable) where
   before_is a b = cases (from_above x) (λ t. cond t (lt_z b a) (lt_z a b) ≡ not (cond t (le_z a b) (le_z b a))) (λ t. less_is b a) (λ t. less_is a b)
 
   -- what gives no more than the first gives no more than a later one
-  pub no_more_past : (g : Given) (a b : ℤ) → T (not_past x a b) → T (no_more x g a) → T (no_more x g b)
-  no_more_past Nothing a b h k = tt
-  no_more_past (Value c) a b h k = past_trans c a b k h
+  pub no_more_past : (g : Option ℤ) (a b : ℤ) → T (not_past x a b) → T (no_more x g a) → T (no_more x g b)
+  no_more_past None a b h k = tt
+  no_more_past (Some c) a b h k = past_trans c a b k h
 
   -- ---- the range, from the starting end to the far end
 

@@ -1,12 +1,10 @@
 -- Document 01, "Rule forms": what a rule gives, and what a constraint asks, when the variable at position i of its body is read as
 -- `at i`.
-use Rattle.std.specs.Prelude.{ℕ, zero, suc, ◌+◌, ◌-◌, ◌/◌, List, [], ◌∷◌, Bool, true, false, cond, ◌&&◌, ℤ, pos, negsuc, neg_ℤ, nat_abs, ◌+ℤ◌, ◌*ℤ◌, length}
+use Rattle.std.specs.Prelude.{ℕ, zero, suc, ◌+◌, ◌-◌, ◌/◌, List, [], ◌∷◌, Bool, true, false, cond, ◌&&◌, ℤ, pos, negsuc, neg_ℤ, nat_abs, ◌+ℤ◌, ◌*ℤ◌, length, Option, Some, None}
 use Rattle.std.specs.Int.Signed.{le_z, lt_z}
 use Rattle.program.specs.Tables.{◌⇒◌, select, any_below}
 use Rattle.program.specs.Program.{Rule, Constraint, term_form, divisor_of, term_in}
-use Rattle.program.specs.declared.Given.{Given}
 use Rattle.program.specs.declared.Term.{Term}
-use Rattle.program.specs.declared.Given.TheVariants.{Nothing, Value}
 
 -- f 0 + .. + f (n - 1)
 unfoldable pub sum_below : (ℕ → ℤ) → ℕ → ℤ
@@ -40,8 +38,8 @@ unfoldable pub all_hold : List Term → (ℕ → ℤ) → ℕ → Bool
 all_hold ts at zero = true
 all_hold ts at (suc n) = all_hold ts at n && holds (term_in ts n) (at n)
 
-abbrev pub only_if : Bool → ℤ → Given
-only_if b a = cond b (Value a) Nothing
+abbrev pub only_if : Bool → ℤ → Option ℤ
+only_if b a = cond b (Some a) None
 
 -- Document 02, wish 1: "the smallest whole number not below the sum, c included, over the divisor": z over d, rounded up, for d from 1 on (laws
 -- `over_up_reaches`, `over_up_smallest`)
@@ -68,7 +66,7 @@ abbrev pub amount : Rule → (ℕ → ℤ) → ℤ
 amount r at = amount_of (term_form r.form) r.c (divisor_of r) r.terms at
 
 -- "when every literal holds, else nothing": a form without literals always gives its amount
-unfoldable pub evaluate : Rule → (ℕ → ℤ) → Given
+unfoldable pub evaluate : Rule → (ℕ → ℤ) → Option ℤ
 evaluate r at = only_if (all_hold r.terms at (length r.terms)) (amount r at)
 
 -- "Constraint form 1: c + Σ number · variable ≤ 0 .. Form 2: at least one literal holds"

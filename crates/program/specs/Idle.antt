@@ -1,6 +1,6 @@
 -- Document 02, wish 2: "A rule is now idle when the most it can give, over all values in the ranges, is at most its head's low, or it can never
 -- give anything." Wish 3: "directions, idleness, conditions and bounds follow": where the head is founded from above, the least it can give is at least its high.
-use Rattle.std.specs.Prelude.{ℕ, ◌<◌, Bool, cond, List, ℤ, pos, nat_abs, length, T, ltb}
+use Rattle.std.specs.Prelude.{ℕ, ◌<◌, Bool, cond, List, ℤ, pos, nat_abs, length, T, ltb, Option}
 use Rattle.std.specs.Int.Signed.{lt_z}
 use Rattle.program.specs.Program.{Program, Rule, variable_in}
 use Rattle.program.specs.Variables.{swaps, start, in_range, no_more}
@@ -9,7 +9,6 @@ use Rattle.program.specs.Evaluate.{evaluate}
 use Rattle.program.specs.Readings.{Valuation, body_variable}
 use Rattle.program.specs.declared.Direction.{Direction}
 use Rattle.program.specs.declared.Direction.TheVariants.{Rising, Falling, Mixed}
-use Rattle.program.specs.declared.Given.{Given}
 use Rattle.program.specs.declared.Variable.{Variable}
 
 -- every variable of the body has a value in its declared range
@@ -42,7 +41,7 @@ unfoldable pub most_at : List Variable → Rule → Valuation → Valuation → 
 most_at vs r low high i = let x = body_variable r i in demanding (variable_in vs r.head) (direction vs r i) (low x) (high x)
 
 -- the most that a rule can give in these ranges, in its head's order (laws `most_bounds`, `most_given`)
-unfoldable pub most : List Variable → Rule → Valuation → Valuation → Given
+unfoldable pub most : List Variable → Rule → Valuation → Valuation → Option ℤ
 most vs r low high = evaluate r (most_at vs r low high)
 
 -- the ends of the declared ranges

@@ -1,5 +1,5 @@
 -- Document 01, "When a file or call is turned down": what reading a file answers.
-use Rattle.std.specs.Prelude.{ℕ, ◌+◌, ◌<◌, ◌≤◌, ◌≡◌, List, [], ◌∷◌, length}
+use Rattle.std.specs.Prelude.{ℕ, ◌+◌, ◌<◌, ◌≤◌, ◌≡◌, List, [], ◌∷◌, length, Result, Ok, Err}
 use Rattle.format.specs.Limits.{max_file}
 use Rattle.program.specs.Tables.{◌⇒◌, select}
 use Rattle.program.specs.Fields.{place, tag_at}
@@ -10,8 +10,7 @@ use Rattle.program.specs.declared.Refusal.{Refusal}
 use Rattle.program.specs.declared.Refusal.TheVariants.{FileTooLong, CutShort, UnknownTag, TagBelow, OneTooMany, WrongLength, WrongForm, OutsideRange, Undeclared}
 use Rattle.program.specs.declared.Refusal.TheVariants.{WrongCount, VariableTwice, NegativeProduct, NotValid}
 use Rattle.program.specs.declared.Counts.{Counts}
-use Rattle.program.specs.declared.Reading.{Reading}
-use Rattle.program.specs.declared.Reading.TheVariants.{Accepted, Refused}
+use Rattle.program.specs.declared.Rejection.{Rejection}
 
 -- an answer of the call read: the three counts, or a refusal's number and place
 pub data Answer : Type 0 where
@@ -34,9 +33,9 @@ number_of VariableTwice = 11
 number_of NegativeProduct = 12
 number_of NotValid = 13
 
-abbrev pub answer_of : Reading → Answer
-answer_of (Accepted k) = accepted k.variables k.rules k.constraints
-answer_of (Refused why at) = refused (number_of why) at
+abbrev pub answer_of : Result Counts Rejection → Answer
+answer_of (Ok k) = accepted k.variables k.rules k.constraints
+answer_of (Err r) = refused (number_of r.why) r.at
 
 -- one more of the kind that a tag names
 unfoldable pub counted : ℕ → Counts → Counts

@@ -1,11 +1,10 @@
 -- Document 01, "Reduct and least model": a rule read in two valuations, of which one gives the kept positions of its body their values and
 -- the other all else. vs are the program's variables.
-use Rattle.std.specs.Prelude.{ℕ, Bool, cond, ◌&&◌, List, ℤ, pos, get_or}
+use Rattle.std.specs.Prelude.{ℕ, Bool, cond, ◌&&◌, List, ℤ, pos, get_or, Option}
 use Rattle.program.specs.Program.{Rule, variable_in, term_in}
 use Rattle.program.specs.Variables.{is_founded}
 use Rattle.program.specs.Directions.{away, direction, is_rising}
 use Rattle.program.specs.Evaluate.{evaluate}
-use Rattle.program.specs.declared.Given.{Given}
 use Rattle.program.specs.declared.Variable.{Variable}
 
 -- a value for each variable, by its number
@@ -29,5 +28,5 @@ kept vs r i = let x = variable_in vs (body_variable r i) in is_rising (away x (d
 abbrev pub reading : List Variable → Rule → Valuation → Valuation → ℕ → ℤ
 reading vs r m θ i = cond (kept vs r i) (m (body_variable r i)) (θ (body_variable r i))
 
-unfoldable pub gives : List Variable → Rule → Valuation → Valuation → Given
+unfoldable pub gives : List Variable → Rule → Valuation → Valuation → Option ℤ
 gives vs r m θ = evaluate r (reading vs r m θ)

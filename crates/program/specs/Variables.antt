@@ -1,11 +1,9 @@
 -- Document 01, "The rule file" and "Reduct and least model": what a variable's record says of its values. A founded variable is lifted from
 -- its starting end towards its far end; of two values, the one nearer to the starting end comes first in the variable's order. Document 02,
 -- wish 3: "The variable's record carries its starting end everywhere."
-use Rattle.std.specs.Prelude.{Bool, true, not, cond, ◌&&◌, ◌||◌, eqb, ℤ, neg_ℤ}
+use Rattle.std.specs.Prelude.{Bool, true, not, cond, ◌&&◌, ◌||◌, eqb, ℤ, neg_ℤ, Option, Some, None}
 use Rattle.std.specs.Int.Signed.{le_z}
-use Rattle.program.specs.declared.Given.{Given}
 use Rattle.program.specs.declared.Variable.{Variable}
-use Rattle.program.specs.declared.Given.TheVariants.{Nothing, Value}
 
 -- "0 standard, 1 founded"; document 02, wish 3: "Kind 2 .. is founded from above"
 abbrev pub is_founded : Variable → Bool
@@ -39,14 +37,14 @@ abbrev pub in_range : Variable → ℤ → Bool
 in_range x a = le_z x.low a && le_z a x.high
 
 -- "A rule is met when it gives no more than its head has; one that gives nothing never gives more.": x is the head, and has b
-abbrev pub no_more : Variable → Given → ℤ → Bool
-no_more x Nothing b = true
-no_more x (Value a) b = not_past x a b
+abbrev pub no_more : Variable → Option ℤ → ℤ → Bool
+no_more x None b = true
+no_more x (Some a) b = not_past x a b
 
 -- Document 02, wish 7: "A lift stops at the far end of the head's range": what is given to the head x, no further than b
-unfoldable pub cut_off : Variable → ℤ → Given → Given
-cut_off x b Nothing = Nothing
-cut_off x b (Value a) = Value (cond (not_past x a b) a b)
+unfoldable pub cut_off : Variable → ℤ → Option ℤ → Option ℤ
+cut_off x b None = None
+cut_off x b (Some a) = Some (cond (not_past x a b) a b)
 
 -- where the least model's values begin: founded variables at their starting ends, standard ones as assigned
 abbrev pub started : Variable → ℤ → ℤ

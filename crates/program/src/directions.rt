@@ -18,21 +18,13 @@ impl Direction {
     pub fn is_rising(self) -> bool
         ensures { result ≡ is_rising self }
     {
-        match self {
-            Direction::Rising => true,
-            Direction::Falling => false,
-            Direction::Mixed => false,
-        }
+        matches!(self, Direction::Rising)
     }
 
     pub fn is_mixed(self) -> bool
         ensures { result ≡ is_mixed self }
     {
-        match self {
-            Direction::Rising => false,
-            Direction::Falling => false,
-            Direction::Mixed => true,
-        }
+        matches!(self, Direction::Mixed)
     }
 }
 

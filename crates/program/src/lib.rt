@@ -13,40 +13,33 @@ pub mod ranges;
 // Why a file is turned down.
 #[derive(Clone, Copy)]
 pub enum Refusal {
-    FileTooLong,
-    CutShort,
-    UnknownTag,
-    TagBelow,
-    OneTooMany,
-    WrongLength,
-    WrongForm,
-    OutsideRange,
-    Undeclared,
-    WrongCount,
-    VariableTwice,
-    NegativeProduct,
-    NotValid,
+    FileTooLong = 1,
+    CutShort = 2,
+    UnknownTag = 3,
+    TagBelow = 4,
+    OneTooMany = 5,
+    WrongLength = 6,
+    WrongForm = 7,
+    OutsideRange = 8,
+    Undeclared = 9,
+    WrongCount = 10,
+    VariableTwice = 11,
+    NegativeProduct = 12,
+    NotValid = 13,
 }
 
 // The number of a refusal.
 pub fn number_of(why: Refusal) -> usize
     ensures { result ≡ number_of why }
 {
-    match why {
-        Refusal::FileTooLong => 1,
-        Refusal::CutShort => 2,
-        Refusal::UnknownTag => 3,
-        Refusal::TagBelow => 4,
-        Refusal::OneTooMany => 5,
-        Refusal::WrongLength => 6,
-        Refusal::WrongForm => 7,
-        Refusal::OutsideRange => 8,
-        Refusal::Undeclared => 9,
-        Refusal::WrongCount => 10,
-        Refusal::VariableTwice => 11,
-        Refusal::NegativeProduct => 12,
-        Refusal::NotValid => 13,
-    }
+    why as usize
+}
+
+// A refusal and its place.
+#[derive(Clone, Copy)]
+pub struct Rejection {
+    pub why: Refusal,
+    pub at: usize,
 }
 
 // How many variables, rules and constraints a file has.
@@ -76,18 +69,15 @@ impl Counts {
         match tag {
             Format::VARIABLE => Counts {
                 variables: self.variables + 1,
-                rules: self.rules,
-                constraints: self.constraints,
+                ..self
             },
             Format::RULE => Counts {
-                variables: self.variables,
                 rules: self.rules + 1,
-                constraints: self.constraints,
+                ..self
             },
             Format::CONSTRAINT => Counts {
-                variables: self.variables,
-                rules: self.rules,
                 constraints: self.constraints + 1,
+                ..self
             },
             0 | 4..=255 => self,
         }
@@ -110,24 +100,10 @@ pub struct Term {
     pub number: i64,
 }
 
-// What reading a file answers: its counts, or the first refusal with its place.
-#[derive(Drop)]
-pub enum Reading {
-    Accepted(Counts),
-    Refused(Refusal, usize),
-}
-
 // Which way a position of a rule's body pushes.
 #[derive(Clone, Copy)]
 pub enum Direction {
     Rising,
     Falling,
     Mixed,
-}
-
-// What a rule gives.
-#[derive(Drop)]
-pub enum Given {
-    Nothing,
-    Value(i64),
 }

@@ -11,7 +11,7 @@ ghost use Rattle.walks.specs.Walk.{Round, Rounds};
 
 use format::Format;
 use sets::Set;
-use words::{Found, Words, drop_bit};
+use words::{Words, drop_bit};
 
 #[derive(Drop)]
 pub struct Rows {}
@@ -147,7 +147,7 @@ pub fn close_row(sets: &mut [u64], variables: usize, x: usize)
 {
     let mut left = [u64::MAX; Set::WORDS];
     loop {
-        let Found::At(m) = row_left(sets, x, &left).next(0) else {
+        let Some(m) = row_left(sets, x, &left).next(0) else {
             return;
         };
         if variables <= m {
@@ -166,7 +166,7 @@ pub fn close_rows(sets: &mut [u64], variables: usize, of: Set)
 {
     let mut from = 0;
     loop {
-        let Found::At(x) = of.next(from) else {
+        let Some(x) = of.next(from) else {
             return;
         };
         close_row(sets, variables, x);

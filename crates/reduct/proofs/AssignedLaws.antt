@@ -1,4 +1,5 @@
 -- An assignment of an accepted file that lies in its ranges.
+use Rattle.std.specs.Prelude.{None}
 use Prim.Native.Nat.{ℕ, ◌*◌, ◌≤◌}
 use mathlib.Core.Path.{◌≡◌, sym, ap, ◌∙◌}
 use mathlib.Core.List.{List}
@@ -15,12 +16,11 @@ use Rattle.meaning.specs.Stable.{assigned}
 use Rattle.meaning.specs.LeastCall.{AllInside}
 use Rattle.meaning.proofs.InRanges.{assigned_within, assigned_past}
 use Rattle.reduct.specs.Filling.{OutsideIs}
-use Rattle.reduct.specs.declared.loading.Outside.TheVariants.{Nowhere}
 use Rattle.reduct.proofs.Ranges.{all_inside}
 use Rattle.program.specs.Readings.{Valuation}
 
 module _ (s : List ℕ) (k : Counts) (r : AcceptedAs s k) (a : List ℕ) where
-  pub right_range : (θ : Valuation) → θ ≡ assigned a → OutsideIs (variables_at s k.variables) θ k.variables Nowhere
+  pub right_range : (θ : Valuation) → θ ≡ assigned a → OutsideIs (variables_at s k.variables) θ k.variables None
       → (P : Program) → Accepts s P → AllInside P (assigned a)
   right_range θ p o P x = all_inside P s k.variables (assigned a) (variables_are r x) (rw p at o)
 

@@ -39,10 +39,9 @@ fn kept_by_kind(file: &[u8], variables: usize, value: &[u8], kinds: Kinds) -> u3
     requires value_len_bound { length (rule_of value.now).terms ≤ max_terms }
     ensures { Mask (kept (variables_at file.now variables) (rule_of value.now)) (length (rule_of value.now).terms) result }
 {
-    let mut i = rules::positions(value);
+    let n = rules::positions(value);
     let mut bits: u32 = 0;
-    while 0 < i {
-        i -= 1;
+    for i in (0..n).rev() {
         let one = is_position_kept(file, variables, value, kinds, i);
         bits = moved_up(bits, one);
     }
@@ -56,10 +55,9 @@ fn kept_by_direction(file: &[u8], variables: usize, value: &[u8], rule: Opened) 
     requires value_len_bound { length (rule_of value.now).terms ≤ max_terms }
     ensures { Mask (kept (variables_at file.now variables) (rule_of value.now)) (length (rule_of value.now).terms) result }
 {
-    let mut i = rules::positions(value);
+    let n = rules::positions(value);
     let mut bits: u32 = 0;
-    while 0 < i {
-        i -= 1;
+    for i in (0..n).rev() {
         let p = position_at(file, variables, value, rule, i);
         bits = moved_up(bits, p.kept);
     }

@@ -9,13 +9,6 @@ ghost use Rattle.program.specs.Readings.{valued};
 use format::Format;
 use parts::variables;
 
-// The first variable whose value lies outside its range, or that there is none.
-#[derive(Drop)]
-pub enum Outside {
-    At(usize),
-    Nowhere,
-}
-
 // The values of an assignment, two bytes each; those past its end stay.
 pub fn load(bytes: &[u8], values: &mut [i64; Format::MAX_VARIABLES])
     requires { (length bytes.now ≤ 2 * max_variables) × (length values.old ≡ max_variables) }
@@ -34,18 +27,16 @@ pub fn first_outside(
     file: &[u8],
     variables: usize,
     values: &[i64; Format::MAX_VARIABLES],
-) -> Outside
+) -> Option<usize>
     requires { (8 * variables ≤ length file.now) × (variables ≤ max_variables) }
     ensures { OutsideIs (variables_at file.now variables) (valued values.now) variables result }
 {
-    let mut v = 0;
-    while v < variables {
+    for v in 0..variables {
         let value = values[v];
         let x = variables::variable(file, v as u8);
         if !x.contains(value) {
-            return Outside::At(v);
+            return Some(v);
         }
-        v += 1;
     }
-    Outside::Nowhere
+    None
 }

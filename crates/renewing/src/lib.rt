@@ -4,9 +4,7 @@
 ghost use Rattle.std.specs.Prelude.{◌≤◌, length};
 ghost use Rattle.renewing.specs.Renews.{room, Renewed};
 
-use calls::{denial_number, denial_place};
-use lines::put_two;
-use normal::Rewriting;
+use lines::put_refused;
 use rewriting::call::normalize;
 
 // The text for an input, from the output's first byte on; answers how many bytes the text has. The bytes after it keep their values. The call is lent as many
@@ -17,11 +15,7 @@ pub fn renew(input: &[u8], output: &mut [u8]) -> usize
 {
     let size = input.len();
     match normalize(input, &mut output[..size]) {
-        Rewriting::Refused(why) => {
-            let number = denial_number(why);
-            let place = denial_place(why);
-            put_two(output, b"refused ", number, place)
-        }
-        Rewriting::Written(n) => n,
+        Err(why) => put_refused(output, why),
+        Ok(n) => n,
     }
 }

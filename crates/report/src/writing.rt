@@ -9,7 +9,6 @@ ghost use Rattle.program.specs.Evaluable.{Small};
 
 use format::Format;
 use sets::Set;
-use words::Found;
 
 #[derive(Drop)]
 pub struct Mark {}
@@ -97,7 +96,7 @@ fn write_marked(
     let mut from = 0;
     let mut i = 0;
     loop {
-        let Found::At(v) = either.next(from) else {
+        let Some(v) = either.next(from) else {
             return;
         };
         i = write_variable(report, i, v as u8, first, mark, second, other, values);

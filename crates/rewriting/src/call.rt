@@ -9,9 +9,8 @@ ghost use Rattle.rewriting.specs.Writing.{max_fields, Prepared, Rewritten};
 use crate::writing::{put, put_fields};
 use format::Format;
 use meaning::Denied;
-use normal::Rewriting;
 use ordering::field::order_fields;
-use program::{Counts, Reading};
+use program::Counts;
 use sorting::sort::sort;
 use sorting::stretches::Piece;
 
@@ -91,27 +90,23 @@ fn rewrite(
 }
 
 // A call that is not turned down.
-fn normalize_accepted(file: &[u8], buffer: &mut [u8], counts: Counts) -> Rewriting
+fn normalize_accepted(file: &[u8], buffer: &mut [u8], counts: Counts) -> Result<usize, Denied>
     requires { AcceptedAs file.now counts × (length file.now ≤ length buffer.old) }
     ensures { Normalizes file.now buffer.old (answer_of result) buffer.new }
 {
     let mut text = [0u8; Format::MAX_FILE];
     let mut places = [0u16; Fields::MOST];
     let mut spare = [0u16; Fields::MOST];
-    Rewriting::Written(rewrite(file, counts, &mut text, &mut places, &mut spare, buffer))
+    Ok(rewrite(file, counts, &mut text, &mut places, &mut spare, buffer))
 }
 
 // Writes the normal form of a file, from the buffer's first byte on, for every file and buffer.
-pub fn normalize(file: &[u8], buffer: &mut [u8]) -> Rewriting
+pub fn normalize(file: &[u8], buffer: &mut [u8]) -> Result<usize, Denied>
     ensures { Normalizes file.now buffer.old (answer_of result) buffer.new }
 {
-    match reader::read(file) {
-        Reading::Refused(why, at) => Rewriting::Refused(Denied::File(why, at)),
-        Reading::Accepted(counts) => {
-            if buffer.len() < file.len() {
-                return Rewriting::Refused(Denied::Room);
-            }
-            normalize_accepted(file, buffer, counts)
-        }
+    let counts = reader::read(file)?;
+    if buffer.len() < file.len() {
+        return Err(Denied::Room);
     }
+    normalize_accepted(file, buffer, counts)
 }

@@ -9,6 +9,7 @@ pub fn put(bytes: &[u8], buffer: &mut [u8], at: usize) -> usize
     requires { at + length bytes.now ≤ length buffer.old }
     ensures { (result ≡ at + length bytes.now) × (buffer.new ≡ put_at buffer.old at bytes.now) }
 {
+    // (`copy_from_slice` needs memmove, and the archive has memcpy and memset alone)
     for i in 0..bytes.len() {
         let byte = bytes[i];
         buffer[at + i] = byte;
@@ -23,8 +24,8 @@ pub fn put_fields(text: &[u8], places: &[u16], n: usize, buffer: &mut [u8], at: 
     ensures buffer_after { buffer.new ≡ put_at buffer.old at (fields_at text.now places.now n) }
 {
     let mut end = at;
-    for i in 0..n {
-        let field = stretch(text, Piece::Field, wide(places[i]));
+    for &place in &places[..n] {
+        let field = stretch(text, Piece::Field, wide(place));
         end = put(field, buffer, end);
     }
     end

@@ -1,4 +1,5 @@
 -- What a rule of the file gives, and what it demands: the field at its place is the program's rule.
+use Rattle.std.specs.Prelude.{Option, Some, None}
 use Prim.Native.Nat.{ℕ, ◌+◌, ◌*◌, ◌<◌, ◌≤◌}
 use mathlib.Core.Path.{◌≡◌, refl, sym, ap, ◌∙◌, subst}
 use mathlib.Core.Logic.{◌⊎◌, inl, inr}
@@ -17,8 +18,6 @@ use Rattle.program.specs.Evaluate.{evaluate}
 use Rattle.program.specs.Evaluable.{Evaluable}
 use Rattle.program.specs.Readings.{Valuation, body_variable, reading, gives, valued}
 use Rattle.program.specs.declared.Variable.{Variable}
-use Rattle.program.specs.declared.Given.{Given}
-use Rattle.program.specs.declared.Given.TheVariants.{Nothing, Value}
 use Rattle.program.proofs.Conditions.{never, none_below}
 use Rattle.program.proofs.Gives.{evaluate_same}
 use Rattle.program.proofs.Tests.{cases}
@@ -32,8 +31,6 @@ use Rattle.meaning.proofs.Steps.{Raised}
 use Rattle.tables.specs.Tabled.{MaskOf, read_at}
 use Rattle.tables.specs.Laid.{RuleAt}
 use Rattle.run.specs.Running.{head_of, RuleStands, SomeRule, free_bit, stopped, found_by, demand_of, LookedAt, Demanded, AsAssigned, Reckons}
-use Rattle.run.specs.declared.Demand.{Demand}
-use Rattle.run.specs.declared.Demand.TheVariants.{More, Enough}
 
 -- ---- what it gives
 
@@ -68,7 +65,7 @@ module _ {s : List ℕ} {P : Program} {i at : ℕ} (h : RuleStands s P i at) whe
     pub here_headed : rule_header ≤ length v
     here_headed = rw q lies.standing.headed
 
-    pub here_as : (mask : ℕ) (m θ : List ℤ) {g : Given} → g ≡ evaluate (rule_of v) (reading_of mask m θ (rule_of v).terms)
+    pub here_as : (mask : ℕ) (m θ : List ℤ) {g : Option ℤ} → g ≡ evaluate (rule_of v) (reading_of mask m θ (rule_of v).terms)
         → g ≡ evaluate (rule_in P.rules i) (reading_of mask m θ (rule_in P.rules i).terms)
     here_as mask m θ e = e ∙ ap (λ (r : Rule). evaluate r (reading_of mask m θ r.terms)) (ap rule_of q ∙ sym lies.is)
 
@@ -95,20 +92,20 @@ module _ {s : List ℕ} {P : Program} {i at : ℕ} (h : RuleStands s P i at) whe
 -- ---- what it demands
 
 -- it goes by the head's order
-same_demand : (x y : Variable) (g : Given) (z : ℤ) → ((a b : ℤ) → not_past x a b ≡ not_past y a b) → demand_of x g z ≡ demand_of y g z
+same_demand : (x y : Variable) (g : Option ℤ) (z : ℤ) → ((a b : ℤ) → not_past x a b ≡ not_past y a b) → demand_of x g z ≡ demand_of y g z
 unfolding demand_of
-same_demand x y Nothing z e = refl
-same_demand x y (Value a) z e = ap (λ (t : Bool). cond t Enough (More a)) (e a z)
+same_demand x y None z e = refl
+same_demand x y (Some a) z e = ap (λ (t : Bool). cond t None (Some a)) (e a z)
 
-demanded_by : (P : Program) (R : Reckoning) (θ m : Valuation) (i : ℕ) (g : Given) → R.gives i m θ ≡ g
+demanded_by : (P : Program) (R : Reckoning) (θ m : Valuation) (i : ℕ) (g : Option ℤ) → R.gives i m θ ≡ g
     → Demanded P R θ m i (demand_of (R.variable (head_of P i)) g (m (head_of P i)))
 unfolding demand_of
-demanded_by P R θ m i Nothing e = rw e tt
-demanded_by P R θ m i (Value a) e = cases (not_past (R.variable (head_of P i)) a (m (head_of P i))) (λ b. Demanded P R θ m i (cond b Enough (More a)))
+demanded_by P R θ m i None e = rw e tt
+demanded_by P R θ m i (Some a) e = cases (not_past (R.variable (head_of P i)) a (m (head_of P i))) (λ b. Demanded P R θ m i (cond b None (Some a)))
     (λ t. rw e t) (λ t. record { gives_it = e; more = record { lt = t } })
 
 -- what was looked at, where what is found is what is given
-pub looked_demanded : (P : Program) (R : Reckoning) (θ : Valuation) (mask : ℕ) (cut : Bool) (stops others m : List ℤ) (i : ℕ) {d : Demand}
+pub looked_demanded : (P : Program) (R : Reckoning) (θ : Valuation) (mask : ℕ) (cut : Bool) (stops others m : List ℤ) (i : ℕ) {d : Option ℤ}
     → ((a b : ℤ) → not_past (R.variable (head_of P i)) a b ≡ not_past (variable_in P.variables (head_of P i)) a b) → R.gives i (valued m) θ ≡ found_by P mask cut stops others m i
     → LookedAt P mask cut stops others m i d → Demanded P R θ (valued m) i d
 looked_demanded P R θ mask cut stops others m i {d} k f q =
@@ -117,7 +114,7 @@ looked_demanded P R θ mask cut stops others m i {d} k f q =
     (demanded_by P R θ (valued m) i (found_by P mask cut stops others m i) f)
 
 -- what the code found, of the code's variable x, value z and stop b
-pub looked : (P : Program) (mask : ℕ) (cut : Bool) (stops others m : List ℤ) (i : ℕ) {x : Variable} {f g : Given} {z b : ℤ} {d : Demand} → d ≡ demand_of x g z
+pub looked : (P : Program) (mask : ℕ) (cut : Bool) (stops others m : List ℤ) (i : ℕ) {x : Variable} {f g : Option ℤ} {z b : ℤ} {d : Option ℤ} → d ≡ demand_of x g z
     → g ≡ stopped cut x b mask f → x ≡ variable_in P.variables (head_of P i) → f ≡ evaluate (rule_in P.rules i) (reading_of mask m others (rule_in P.rules i).terms)
     → z ≡ valued m (head_of P i) → b ≡ valued stops (head_of P i) → LookedAt P mask cut stops others m i d
 looked P mask cut stops others m i p q o f z b = cc
@@ -138,7 +135,7 @@ same_read r mask m m⁺ others x b is e j l = go (bit mask j) (none_below (lengt
 
 module _ {s : List ℕ} {P : Program} {R : Reckoning} {θ : Valuation} {offsets masks : List ℕ} {others stops : List ℤ} {cut : Bool}
     (k : Reckons s P R θ offsets masks others stops cut) where
-  pub reckons_demanded : (m : List ℤ) → AsAssigned P θ m → (i : ℕ) → i < length P.rules → {d : Demand} → LookedAt P (get_or masks i 0) cut stops others m i d
+  pub reckons_demanded : (m : List ℤ) → AsAssigned P θ m → (i : ℕ) → i < length P.rules → {d : Option ℤ} → LookedAt P (get_or masks i 0) cut stops others m i d
       → Demanded P R θ (valued m) i d
   reckons_demanded m a i l = looked_demanded P R θ (get_or masks i 0) cut stops others m i (narrows_past k.narrows (head_of P i)) (k.finds i l m a)
 
@@ -156,7 +153,7 @@ module _ {s : List ℕ} {P : Program} {R : Reckoning} {θ : Valuation} {offsets 
 
 -- ---- no stops
 
-pub unstopped : (x : Variable) (b : ℤ) (mask : ℕ) (g : Given) → stopped false x b mask g ≡ g
+pub unstopped : (x : Variable) (b : ℤ) (mask : ℕ) (g : Option ℤ) → stopped false x b mask g ≡ g
 unfolding stopped
 unstopped x b mask g = refl
 
@@ -169,42 +166,42 @@ module _ {s : List ℕ} {P : Program} {i at mask : ℕ} (h : RuleAt s P i at mas
 
 -- ---- the ways of the tests
 
-module _ (x : Variable) {g : Given} (z : ℤ) where
-  pub nothing_given : g ≡ Nothing → Enough ≡ demand_of x g z
+module _ (x : Variable) {g : Option ℤ} (z : ℤ) where
+  pub nothing_given : g ≡ None → None ≡ demand_of x g z
   unfolding demand_of
   nothing_given e = rw e
 
-  pub value_more : (a : ℤ) {t : Bool} → g ≡ Value a → t ≡ not (not_past x a z) → t ≡ true → More a ≡ demand_of x g z
+  pub value_more : (a : ℤ) {t : Bool} → g ≡ Some a → t ≡ not (not_past x a z) → t ≡ true → Some a ≡ demand_of x g z
   unfolding demand_of
   value_more a e q h = rw (e, not-true (not_past x a z) (sym q ∙ h))
 
-  pub value_enough : (a : ℤ) {t : Bool} → g ≡ Value a → t ≡ not (not_past x a z) → t ≡ false → Enough ≡ demand_of x g z
+  pub value_enough : (a : ℤ) {t : Bool} → g ≡ Some a → t ≡ not (not_past x a z) → t ≡ false → None ≡ demand_of x g z
   unfolding demand_of
   value_enough a e q h = rw (e, not-false (not_past x a z) (sym q ∙ h))
 
   -- cut off at z
-  pub nothing_cut : g ≡ Nothing → Nothing ≡ cut_off x z g
+  pub nothing_cut : g ≡ None → None ≡ cut_off x z g
   unfolding cut_off
   nothing_cut e = rw e
 
-  pub value_past : (a : ℤ) {t : Bool} → g ≡ Value a → t ≡ not (not_past x a z) → t ≡ true → Value z ≡ cut_off x z g
+  pub value_past : (a : ℤ) {t : Bool} → g ≡ Some a → t ≡ not (not_past x a z) → t ≡ true → Some z ≡ cut_off x z g
   unfolding cut_off
   value_past a e q h = rw (e, not-true (not_past x a z) (sym q ∙ h))
 
-  pub value_stays : (a : ℤ) {t : Bool} → g ≡ Value a → t ≡ not (not_past x a z) → t ≡ false → Value a ≡ cut_off x z g
+  pub value_stays : (a : ℤ) {t : Bool} → g ≡ Some a → t ≡ not (not_past x a z) → t ≡ false → Some a ≡ cut_off x z g
   unfolding cut_off
   value_stays a e q h = rw (e, not-false (not_past x a z) (sym q ∙ h))
 
 -- stopped at z, where lifts stop
-module _ (x : Variable) (g : Given) (z : ℤ) (mask : ℕ) where
+module _ (x : Variable) (g : Option ℤ) (z : ℤ) (mask : ℕ) where
   pub never_stops : {cut : Bool} → cut ≡ false → g ≡ stopped cut x z mask g
   unfolding stopped
   never_stops e = rw e
 
-  pub stops_free : {cut : Bool} → cut ≡ true → bit mask free_bit ≡ true → Value z ≡ stopped cut x z mask g
+  pub stops_free : {cut : Bool} → cut ≡ true → bit mask free_bit ≡ true → Some z ≡ stopped cut x z mask g
   unfolding stopped
   stops_free e f = rw (e, f)
 
-  pub stops_cut : {cut : Bool} {r : Given} → cut ≡ true → bit mask free_bit ≡ false → r ≡ cut_off x z g → r ≡ stopped cut x z mask g
+  pub stops_cut : {cut : Bool} {r : Option ℤ} → cut ≡ true → bit mask free_bit ≡ false → r ≡ cut_off x z g → r ≡ stopped cut x z mask g
   unfolding stopped
   stops_cut e f q = rw (e, f) q

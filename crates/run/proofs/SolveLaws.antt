@@ -1,4 +1,5 @@
 -- A run: the readers of a raised head, and what a raise keeps.
+use Rattle.std.specs.Prelude.{Option, Some, None}
 use Prim.Native.Nat.{ℕ, ◌+◌, ◌*◌, ◌-◌, ◌/◌, ◌%◌, ◌<◌, ◌≤◌}
 use mathlib.Core.Path.{◌≡◌, refl, sym, ap, ap₂, ◌∙◌, subst}
 use mathlib.Core.Logic.{inl}
@@ -22,7 +23,6 @@ use Rattle.program.specs.Fields.{value_at}
 use Rattle.program.specs.Variables.{far, not_past}
 use Rattle.program.specs.Readings.{Valuation, valued}
 use Rattle.program.specs.Evaluable.{Small}
-use Rattle.program.specs.declared.Given.TheVariants.{Value}
 use Rattle.program.specs.declared.Variable.{Variable}
 use Rattle.program.proofs.Conditions.{neither, both}
 use Rattle.program.proofs.Promises.{accepts_promises}
@@ -37,8 +37,6 @@ use Rattle.meaning.proofs.Steps.{Raised, gap}
 use Rattle.tables.specs.Tabled.{row_words, read_at, ReadersAre}
 use Rattle.tables.specs.Laid.{Placed}
 use Rattle.run.specs.Running.{head_of, RuleMetIn, RuleStands, SomeRule, AsAssigned, Reckons, Basis, Underway, MetOutside, Among, Inside, Ready, Lifting, Raising, Stepped, RaisedTo, Lifted, Running}
-use Rattle.run.specs.declared.Step.{Step}
-use Rattle.run.specs.declared.Step.TheVariants.{Raise, Done}
 use Rattle.run.proofs.RunLaws.{at_stands, found_reduct, here_head, head_field, head_variable, reckons_unread}
 use Rattle.run.proofs.RaiseLaws.{way_small, way_assigned, way_done, way_stands, head_few, way_over, way_raised, way_stored, way_on, way_risen, way_nearer}
 
@@ -155,16 +153,16 @@ module _ {s : List ℕ} {P : Program} {R : Reckoning} {θ : Valuation} {offsets 
   run_done = way_done way
 
   -- what a step answers, for the reckoning of the run
-  module _ (w : List ℕ) {r : Step}
+  module _ (w : List ℕ) {r : Option (ℕ × ℤ)}
       (f : (Q : Program) (S : Reckoning) (ρ : Valuation) → Reckons s Q S ρ offsets masks others stops cut → AsAssigned Q ρ m → MetOutside Q S ρ (valued m) (has waiting)
       → Stepped Q S ρ (valued m) (has w) r) where
-    pub run_raising : {i : ℕ} {a : ℤ} → r ≡ Raise i a → Raising P R θ (valued m) (has w) i a
+    pub run_raising : {i : ℕ} {a : ℤ} → r ≡ Some (i, a) → Raising P R θ (valued m) (has w) i a
     run_raising e = rw e at (f P R θ reckons (way_assigned way) k.outside)
 
-    pub run_stepped : {i : ℕ} {a : ℤ} → r ≡ Raise i a → Lifting P R θ (valued m) (has w) i a
+    pub run_stepped : {i : ℕ} {a : ℤ} → r ≡ Some (i, a) → Lifting P R θ (valued m) (has w) i a
     run_stepped e = (run_raising e).lifting
 
-    pub run_ended : r ≡ Done → (i : ℕ) → i < length P.rules → RuleMetIn P R θ (valued m) i
+    pub run_ended : r ≡ None → (i : ℕ) → i < length P.rules → RuleMetIn P R θ (valued m) i
     run_ended e = rw e at (f P R θ reckons (way_assigned way) k.outside)
 
   -- a variable is raised on the way, and its readers join a set
@@ -231,7 +229,7 @@ module _ {s : List ℕ} {P : Program} {R : Reckoning} {θ : Valuation} {offsets 
 
           go : Dec (j ≡ i) → RuleMetIn P R θ (valued m⁺) j
           go (yes q) =
-              let g : R.gives i (valued m⁺) θ ≡ Value a = subst (λ (n : ℕ). R.gives n (valued m⁺) θ ≡ R.gives n (valued m) θ) q same.1 ∙ x.exceeds.gives_it in
+              let g : R.gives i (valued m⁺) θ ≡ Some a = subst (λ (n : ℕ). R.gives n (valued m⁺) θ ≡ R.gives n (valued m) θ) q same.1 ∙ x.exceeds.gives_it in
               subst (λ (n : ℕ). RuleMetIn P R θ (valued m⁺) n) (sym q)
               (subst (λ b. GivenNoMore (reckoned P R) (head_of P i) b (valued m⁺ (head_of P i))) (sym g)
               (rw (way_stored way x.among x.exceeds full t r.model_is) (past_refl (R.variable (head_of P i)) a)))

@@ -1,4 +1,5 @@
 -- The waiting set, and the rule that leaves it.
+use Rattle.std.specs.Prelude.{Option, Some, None}
 use Prim.Native.Nat.{ℕ, ◌*◌, ◌<◌}
 use mathlib.Core.Path.{◌≡◌, sym, ap, ◌∙◌, subst}
 use mathlib.Core.Bool.{Bool, true, false, not, ◌&&◌, true≢false}
@@ -12,32 +13,28 @@ use borrow.Author.Tests.{ne_eqb}
 use Rattle.format.specs.Limits.{max_rules}
 use Rattle.words.specs.Bit.{word_bits, has, size_below, LeastFrom, NoneIn}
 use Rattle.sets.proofs.Counts.{count_drop}
-use Rattle.words.specs.declared.Found.{Found}
-use Rattle.words.specs.declared.Found.TheVariants.{At, Nothing}
 use Rattle.program.specs.Program.{Program}
 use Rattle.program.specs.Reading.{Accepts}
 use Rattle.reader.proofs.Published.{accepts_unique, program_limited}
 use Rattle.run.specs.Running.{SomeRule, MetOutside, RuleMetIn, Exceeds, Demanded, Inside, Dropped, Taken, Empty, Takes, Ready, Lifting, Raising}
 use Rattle.meaning.specs.Reduct.{Reckoning}
 use Rattle.tables.specs.Tabled.{row_words}
-use Rattle.run.specs.declared.Demand.{Demand}
 use Rattle.program.specs.Readings.{Valuation}
-use Rattle.run.specs.declared.Demand.TheVariants.{More, Enough}
 
 -- ---- answers that are known
 
-module _ (old new : ℕ → Bool) {r : Found} (h : Takes old new r) where
-  pub takes_at : {i : ℕ} → r ≡ At i → Taken old new i
+module _ (old new : ℕ → Bool) {r : Option ℕ} (h : Takes old new r) where
+  pub takes_at : {i : ℕ} → r ≡ Some i → Taken old new i
   takes_at e = rw e at h
 
-  pub takes_none : r ≡ Nothing → Empty old new
+  pub takes_none : r ≡ None → Empty old new
   takes_none e = rw e at h
 
-module _ (P : Program) (R : Reckoning) (θ m : Valuation) (i : ℕ) {d : Demand} (h : Demanded P R θ m i d) where
-  pub demands_more : {a : ℤ} → d ≡ More a → Exceeds P R θ m i a
+module _ (P : Program) (R : Reckoning) (θ m : Valuation) (i : ℕ) {d : Option ℤ} (h : Demanded P R θ m i d) where
+  pub demands_more : {a : ℤ} → d ≡ Some a → Exceeds P R θ m i a
   demands_more e = rw e at h
 
-  pub demands_enough : d ≡ Enough → RuleMetIn P R θ m i
+  pub demands_enough : d ≡ None → RuleMetIn P R θ m i
   demands_enough e = rw e at h
 
 -- ---- the set

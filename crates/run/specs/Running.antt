@@ -1,18 +1,13 @@
 -- What holds on the way to the least model of a program P of a file s, read by a reckoning R, θ being the assignment and m the values reached. The reduct is one
 -- reckoning; a file with lent ranges is another.
-use Rattle.std.specs.Prelude.{ℕ, ◌+◌, ◌*◌, ◌<◌, ◌≡◌, ◌⊎◌, Bool, true, false, not, cond, ◌||◌, ◌&&◌, List, T, eqb, ℤ, length, get_or, set}
+use Rattle.std.specs.Prelude.{ℕ, ◌+◌, ◌*◌, ◌<◌, ◌≡◌, ◌⊎◌, Bool, true, false, not, cond, ◌||◌, ◌&&◌, List, T, eqb, ℤ, length, get_or, set, Option, Some, None, Result, Ok, Err}
 use Rattle.format.specs.Limits.{max_rules}
 use Rattle.words.specs.Bit.{bit, has, LeastFrom, NoneIn}
-use Rattle.words.specs.declared.Found.{Found}
-use Rattle.words.specs.declared.Found.TheVariants.{At}
-use Rattle.words.specs.declared.Found.TheVariants as found
 use Rattle.program.specs.Program.{Program, rule_in, variable_in}
 use Rattle.program.specs.Reading.{Accepts}
 use Rattle.program.specs.Evaluate.{evaluate}
 use Rattle.program.specs.Evaluable.{Small}
 use Rattle.program.specs.declared.Variable.{Variable}
-use Rattle.program.specs.declared.Given.{Given}
-use Rattle.program.specs.declared.Given.TheVariants.{Nothing, Value}
 use Rattle.bodies.specs.Readings.{reading_of}
 use Rattle.reader.specs.Parts.{rule_place}
 use Rattle.meaning.specs.Founded.{AtOrBefore, GivenNoMore, Before, Within, Model, Least}
@@ -21,14 +16,9 @@ use Rattle.meaning.specs.Narrowing.{Narrows}
 use Rattle.meaning.proofs.Laws.{Laws}
 use Rattle.meaning.proofs.Theory.{Progress}
 use Rattle.tables.specs.Tabled.{ReadersAre}
-use Rattle.run.specs.declared.Demand.{Demand}
-use Rattle.run.specs.declared.Demand.TheVariants.{More, Enough}
-use Rattle.run.specs.declared.Step.{Step}
-use Rattle.run.specs.declared.Step.TheVariants.{Raise, Done}
-use Rattle.run.specs.declared.Ending.{Ending}
 use Rattle.program.specs.Variables.{is_founded, far, not_past, cut_off}
 use Rattle.program.specs.Readings.{Valuation, valued, body_variable, kept}
-use Rattle.run.specs.declared.Ending.TheVariants as ending
+use Rattle.run.specs.declared.NoModel.{NoModel}
 
 -- the head of rule i
 abbrev pub head_of : Program → ℕ → ℕ
@@ -40,7 +30,7 @@ RuleMetIn P R θ m i = GivenNoMore (reckoned P R) (head_of P i) (R.gives i m θ)
 
 -- rule i gives a, which is more than its head has
 pub record Exceeds (P : Program) (R : Reckoning) (θ m : Valuation) (i : ℕ) (a : ℤ) : Type 0 where
-  pub gives_it : R.gives i m θ ≡ Value a
+  pub gives_it : R.gives i m θ ≡ Some a
   pub more : Before (reckoned P R) (head_of P i) (m (head_of P i)) a
 
 -- ---- one rule
@@ -62,28 +52,28 @@ abbrev pub free_bit : ℕ
 free_bit = 31
 
 -- what is given to the head x where lifts stop at b, if `cut` says that they do
-unfoldable pub stopped : Bool → Variable → ℤ → ℕ → Given → Given
-stopped cut x b mask g = cond cut (cond (bit mask free_bit) (Value b) (cut_off x b g)) g
+unfoldable pub stopped : Bool → Variable → ℤ → ℕ → Option ℤ → Option ℤ
+stopped cut x b mask g = cond cut (cond (bit mask free_bit) (Some b) (cut_off x b g)) g
 
 -- what rule i is found to give: positions whose bit is set are read in m, all others in `others`; lifts stop at `stops`
-abbrev pub found_by : Program → ℕ → Bool → List ℤ → List ℤ → List ℤ → ℕ → Given
+abbrev pub found_by : Program → ℕ → Bool → List ℤ → List ℤ → List ℤ → ℕ → Option ℤ
 found_by P mask cut stops others m i =
     let r = rule_in P.rules i in
     stopped cut (variable_in P.variables r.head) (valued stops r.head) mask (evaluate r (reading_of mask m others r.terms))
 
 -- what is given, against what the head has; x is the head's variable
-unfoldable pub demand_of : Variable → Given → ℤ → Demand
-demand_of x Nothing z = Enough
-demand_of x (Value a) z = cond (not_past x a z) Enough (More a)
+unfoldable pub demand_of : Variable → Option ℤ → ℤ → Option ℤ
+demand_of x None z = None
+demand_of x (Some a) z = cond (not_past x a z) None (Some a)
 
 -- the answer for rule i is what is found
-abbrev pub LookedAt : Program → ℕ → Bool → List ℤ → List ℤ → List ℤ → ℕ → Demand → Type 0
+abbrev pub LookedAt : Program → ℕ → Bool → List ℤ → List ℤ → List ℤ → ℕ → Option ℤ → Type 0
 LookedAt P mask cut stops others m i d = d ≡ demand_of (variable_in P.variables (head_of P i)) (found_by P mask cut stops others m i) (valued m (head_of P i))
 
 -- the answer for rule i is right
-abbrev pub Demanded : Program → Reckoning → Valuation → Valuation → ℕ → Demand → Type 0
-Demanded P R θ m i (More a) = Exceeds P R θ m i a
-Demanded P R θ m i Enough = RuleMetIn P R θ m i
+abbrev pub Demanded : Program → Reckoning → Valuation → Valuation → ℕ → Option ℤ → Type 0
+Demanded P R θ m i (Some a) = Exceeds P R θ m i a
+Demanded P R θ m i None = RuleMetIn P R θ m i
 
 -- ---- what the tables say
 
@@ -119,7 +109,7 @@ pub record Basis (s : List ℕ) (P : Program) (R : Reckoning) (θ : Valuation) (
   pub assigned : Within (reckoned P R) θ
   pub small : Small others
   -- what is given inside the head's declared range is inside that of the reckoning
-  pub inside : (i : ℕ) → i < length P.rules → (m : Valuation) (a : ℤ) → R.gives i m θ ≡ Value a
+  pub inside : (i : ℕ) → i < length P.rules → (m : Valuation) (a : ℤ) → R.gives i m θ ≡ Some a
       → T (not_past (variable_in P.variables (head_of P i)) a (far (variable_in P.variables (head_of P i))))
       → AtOrBefore (reckoned P R) (head_of P i) a (far (R.variable (head_of P i)))
 
@@ -162,9 +152,9 @@ pub record Empty (old new : ℕ → Bool) : Type 0 where
   pub inside : Inside new old
 
 -- the lowest rule that left the set, or that there is none
-abbrev pub Takes : (ℕ → Bool) → (ℕ → Bool) → Found → Type 0
-Takes old new (At i) = Taken old new i
-Takes old new found.Nothing = Empty old new
+abbrev pub Takes : (ℕ → Bool) → (ℕ → Bool) → Option ℕ → Type 0
+Takes old new (Some i) = Taken old new i
+Takes old new None = Empty old new
 
 -- what a step needs of the tables and of the set
 pub record Ready (s offsets waiting : List ℕ) : Type 0 where
@@ -184,9 +174,9 @@ pub record Raising (P : Program) (R : Reckoning) (θ m : Valuation) (waiting : �
   pub below : (j : ℕ) → j < i → RuleMetIn P R θ m j
 
 -- what a step answers: the raise to make, or that every rule is met
-abbrev pub Stepped : Program → Reckoning → Valuation → Valuation → (ℕ → Bool) → Step → Type 0
-Stepped P R θ m waiting (Raise i a) = Raising P R θ m waiting i a
-Stepped P R θ m waiting Done = (i : ℕ) → i < length P.rules → RuleMetIn P R θ m i
+abbrev pub Stepped : Program → Reckoning → Valuation → Valuation → (ℕ → Bool) → Option (ℕ × ℤ) → Type 0
+Stepped P R θ m waiting (Some (i, a)) = Raising P R θ m waiting i a
+Stepped P R θ m waiting None = (i : ℕ) → i < length P.rules → RuleMetIn P R θ m i
 
 -- ---- one raise
 
@@ -233,6 +223,6 @@ pub record SomeWay (s offsets masks : List ℕ) (others stops : List ℤ) (cut :
   pub way : Underway s program reckoning assigned offsets masks others stops cut m
 
 -- the least model, or no model
-abbrev pub EndsWith : Program → Reckoning → Valuation → Valuation → Ending → Type 0
-EndsWith P R θ m ending.Model = Least (reckoned P R) θ m
-EndsWith P R θ m ending.NoModel = (m' : Valuation) → Model (reckoned P R) θ m' → ⊥
+abbrev pub EndsWith : Program → Reckoning → Valuation → Valuation → Result (Unit {0}) NoModel → Type 0
+EndsWith P R θ m (Ok _) = Least (reckoned P R) θ m
+EndsWith P R θ m (Err _) = (m' : Valuation) → Model (reckoned P R) θ m' → ⊥

@@ -4,8 +4,28 @@
 ghost use Rattle.std.specs.Prelude.{◌≡◌};
 ghost use Rattle.run.specs.Running.{free_bit};
 
+use format::Format;
+use program::Counts;
+
 pub mod demands;
 pub mod solve;
+
+// What a run reads and never writes: the file and its counts, for each rule the place of its field and its mask, the values that positions which are not kept read, and the
+// stops of lifts, which count only where `cut` says so. The readers of the variables are a list of their own, for they are filled by these.
+#[derive(Clone, Copy)]
+pub struct Source<'a> {
+    pub file: &'a [u8],
+    pub counts: Counts,
+    pub offsets: &'a [u16],
+    pub masks: &'a [u32],
+    pub others: &'a [i64; Format::MAX_VARIABLES],
+    pub stops: &'a [i64; Format::MAX_VARIABLES],
+    pub cut: bool,
+}
+
+// There is no model.
+#[derive(Clone, Copy)]
+pub struct NoModel;
 
 #[derive(Drop)]
 pub struct Masks {}
@@ -18,25 +38,4 @@ impl Masks {
     pub fn quoted()
         ensures { Masks.FREE ≡ free_bit }
     {}
-}
-
-// What a rule asks of its head: more than it has, or no more.
-#[derive(Drop)]
-pub enum Demand {
-    More(i64),
-    Enough,
-}
-
-// The lowest rule that demands more than its head has, with what it gives, or that there is none.
-#[derive(Drop)]
-pub enum Step {
-    Raise(usize, i64),
-    Done,
-}
-
-// The least model was reached, or there is no model.
-#[derive(Drop)]
-pub enum Ending {
-    Model,
-    NoModel,
 }

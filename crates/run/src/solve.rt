@@ -4,11 +4,12 @@ ghost use Rattle.format.specs.Limits.{max_variables, max_rules};
 ghost use Rattle.words.specs.Bit.{word_bits, has};
 ghost use Rattle.program.specs.Program.{Program};
 ghost use Rattle.meaning.specs.Reduct.{Reckoning};
-ghost use Rattle.run.specs.Running.{Stored, Lifted, Running, SomeRun, EndsWith};
+ghost use Rattle.run.specs.Running.{Stored, Lifted, EndsWith};
+ghost use Rattle.run.specs.Sourced.{RunningBy, SomeRunBy};
 ghost use Rattle.tables.specs.Tabled.{readers_words, row_words};
 ghost use Rattle.program.specs.Readings.{Valuation, valued};
 
-use crate::{Ending, Step, demands};
+use crate::{NoModel, Source, demands};
 use format::Format;
 use parts::variables;
 use program::Variable;
@@ -21,12 +22,10 @@ fn join_rest(waiting: &mut [u64; Tables::ROW], readers: &[u64], start: usize)
     ensures waiting_len_2 { length waiting.new ≡ row_words }
     ensures by_index { (i : ℕ) → has waiting.new i ≡ (has waiting.old i || has readers.now (word_bits * start + i)) }
 {
-    let n = readers.len();
-    let mut t = 0;
-    while start + t < n {
+    let n = readers.len().saturating_sub(start);
+    for t in 0..n {
         let w = readers[start + t];
         waiting[t] = waiting[t] | w;
-        t += 1;
     }
 }
 
@@ -83,35 +82,29 @@ pub fn raise(
 // The values reach the least model, or some rule asks for more than its head's range has. Positions whose bit is set in a rule's mask are read in the model, all
 // others in `others`; with `cut` what is given to a head stops at its value in `stops`.
 pub fn solve(
-    file: &[u8],
-    offsets: &[u16],
-    masks: &[u32],
+    source: &Source,
     readers: &[u64],
     model: &mut [i64; Format::MAX_VARIABLES],
-    others: &[i64; Format::MAX_VARIABLES],
-    stops: &[i64; Format::MAX_VARIABLES],
-    cut: bool,
     waiting: &mut [u64; Tables::ROW],
-) -> Ending
-    requires some_run { SomeRun file.now offsets.now masks.now readers.now others.now stops.now cut model.old waiting.old }
+) -> Result<(), NoModel>
+    requires some_run { SomeRunBy source.now readers.now model.old waiting.old }
     requires model_len { length model.old ≡ max_variables }
     requires waiting_len { length waiting.old ≡ row_words }
     ensures model_len_2 { length model.new ≡ max_variables }
     ensures waiting_len_2 { length waiting.new ≡ row_words }
     ensures ends_with { (P : Program) (R : Reckoning) (θ : Valuation)
-        → Running file.now P R θ offsets.now masks.now readers.now others.now stops.now cut
-        model.old waiting.old
+        → RunningBy source.now P R θ readers.now model.old waiting.old
         → EndsWith P R θ (valued model.new) result }
 {
     loop {
-        let next = demands::step(file, offsets, masks, model, others, stops, cut, waiting);
-        let Step::Raise(i, a) = next else {
-            return Ending::Model;
+        let next = demands::step(source, model, waiting);
+        let Some((i, a)) = next else {
+            return Ok(());
         };
-        let head = demands::head_of(file, offsets, i);
-        let x = variables::variable(file, head);
+        let head = demands::head_of(source.file, source.offsets, i);
+        let x = variables::variable(source.file, head);
         if !raise(x, readers, head, a, model, waiting) {
-            return Ending::NoModel;
+            return Err(NoModel);
         }
     }
 }

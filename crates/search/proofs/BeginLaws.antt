@@ -1,13 +1,11 @@
 -- The sets before the first round, from what is marked and copied; and the answers.
 use Prim.Native.Nat.{ℕ, ◌+◌, ◌*◌, ◌/◌, ◌%◌, ◌<◌, ◌≤◌}
 use mathlib.Core.Path.{◌≡◌, refl, ap, ◌∙◌, subst}
-use mathlib.Core.Logic.{◌⊎◌, inl, inr}
+use mathlib.Core.Logic.{inl}
 use mathlib.Core.Bool.{Bool, false}
 use mathlib.Core.List.{List}
-use native.Mathlib.Nat.{eq-or-lt_of_le, not-suc-le-zero}
 use native.Mathlib.Omega.{arith}
-use lib.ListN.{length, get_or, set, length-set}
-use lib.Seq.{get_or-set_same, get_or-set_other}
+use lib.ListN.{length}
 use Rattle.format.specs.Limits.{max_variables}
 use Rattle.words.specs.Bit.{word_bits, word_count, bit}
 use Rattle.program.specs.Program.{program}
@@ -21,23 +19,6 @@ use Rattle.validity.proofs.RuleLaws.{counted_variables, variables_few}
 use Rattle.validity.proofs.ComponentLaws.{marked_edges}
 use Rattle.search.specs.BeginCall.{AtEdges, bad_field, bad_call, BeginCall, turned_down, starts, refusal, begun}
 use Rattle.search.specs.Copying.{Copied}
-
--- ---- copying
-
-module _ (rows w : List ℕ) where
-  pub copied_none : Copied rows w w 0
-  copied_none = record { long = refl; first = λ i l. absurd (not-suc-le-zero l); rest = λ i l. refl }
-
-  pub copied_more : {w' : List ℕ} (i : ℕ) → i < length w → Copied rows w w' i → Copied rows w (set w' i (get_or rows i 0)) (i + 1)
-  copied_more {w'} i l c = record {
-    long = length-set w' i _ ∙ c.long;
-    first = λ j m. go j (eq-or-lt_of_le (omega arith));
-    rest = λ j m. get_or-set_other w' i j _ 0 (omega arith) ∙ c.rest j (omega arith);
-  }
-    where
-      go : (j : ℕ) → (j ≡ i) ⊎ (j < i) → get_or (set w' i (get_or rows i 0)) j 0 ≡ get_or rows j 0
-      go j (inl p) = rw p (get_or-set_same w' i _ 0 (omega (arith, c.long)))
-      go j (inr m) = get_or-set_other w' i j _ 0 (omega arith) ∙ c.first j m
 
 -- ---- a file whose fields passed
 

@@ -1,5 +1,5 @@
 -- Document 02, wish 5: the sets before the first round. What the call begin answers and writes, for a file s and lent words w.
-use Rattle.std.specs.Prelude.{ℕ, ◌*◌, ◌<◌, ◌≤◌, ◌≡◌, List, [], ◌∷◌, length, get_or}
+use Rattle.std.specs.Prelude.{ℕ, ◌*◌, ◌<◌, ◌≤◌, ◌≡◌, List, [], ◌∷◌, length, get_or, Result, Ok, Err}
 use Rattle.format.specs.Limits.{max_variables}
 use Rattle.words.specs.Bit.{word_count}
 use Rattle.program.specs.Program.{Program, program}
@@ -7,17 +7,16 @@ use Rattle.program.specs.Components.{edge}
 use Rattle.program.specs.Reading.{Reads, refused, Whole}
 use Rattle.meaning.specs.Calls.{Denial, FirstGiven, NoneGiven, too_short, denial_number, denial_place}
 use Rattle.reach.specs.Rows.{row_has}
-use Rattle.search.specs.declared.Beginning.{Beginning}
-use Rattle.search.specs.declared.Beginning.TheVariants as beginning
+use Rattle.meaning.specs.declared.Denied.{Denied}
 
 -- an answer: a refusal's number and place, or how many variables have sets
 pub data Answer : Type 0 where
   refusal : ℕ → ℕ → Answer
   begun : ℕ → Answer
 
-abbrev pub answer_of : Beginning → Answer
-answer_of (beginning.Refused why) = refusal (denial_number why) (denial_place why)
-answer_of (beginning.Begun n) = begun n
+abbrev pub answer_of : Result ℕ Denied → Answer
+answer_of (Err why) = refusal (denial_number why) (denial_place why)
+answer_of (Ok n) = begun n
 
 -- the set of each variable holds what an edge leads to; every other word is as it was
 pub record AtEdges (P : Program) (w w' : List ℕ) : Type 0 where

@@ -82,8 +82,7 @@ pub fn collect(
     let mut fresh = [0u64; Set::WORDS];
     let mut parts = Parts { done: 0, count: 0 };
     words::fill_bits(&mut fresh, n);
-    for k in 0..n {
-        let x = get(finished, n - 1 - k);
+    for &x in finished[..n].iter().rev() {
         parts = part_of(back, x, &mut fresh, list, ends, parts);
     }
     parts.count

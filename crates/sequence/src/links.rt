@@ -84,7 +84,5 @@ pub fn link(
 pub fn unlink(rows: &mut [u64])
     ensures { length rows.new ≡ length rows.old }
 {
-    for t in 0..rows.len() {
-        rows[t] = 0;
-    }
+    rows.fill(0);
 }

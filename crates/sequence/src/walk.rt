@@ -6,7 +6,7 @@ ghost use Rattle.words.specs.Bit.{word_bits, word_count};
 
 use format::Format;
 use sets::Set;
-use words::{Found, Words};
+use words::Words;
 
 // How many nodes are on the way, and how many are done.
 #[derive(Drop)]
@@ -54,15 +54,15 @@ fn word(rows: &[u64], i: usize) -> u64 {
 }
 
 // The first node that follows x and is still fresh.
-fn first_fresh(rows: &[u64], x: u8, fresh: &[u64; Set::WORDS]) -> Found {
+fn first_fresh(rows: &[u64], x: u8, fresh: &[u64; Set::WORDS]) -> Option<usize> {
     let from = Set::WORDS * format::wide(x);
-    for t in 0..Set::WORDS {
-        let w = word(rows, from + t) & fresh[t];
+    for (t, &left) in fresh.iter().enumerate() {
+        let w = word(rows, from + t) & left;
         if w != 0 {
-            return Found::At(Words::BITS * t + zeros_below(w));
+            return Some(Words::BITS * t + zeros_below(w));
         }
     }
-    Found::Nothing
+    None
 }
 
 // One step from the last node on the way: to a fresh node that follows it, or, where there is none, it is done and goes to the list.
@@ -83,13 +83,13 @@ fn advance(
     let x = get(way, depth - 1);
     let next = first_fresh(rows, x, fresh);
     if depth < Format::MAX_VARIABLES {
-        if let Found::At(i) = next {
+        if let Some(i) = next {
             let y = node(i);
             words::drop_bit(fresh, format::wide(y));
             put(way, depth, y);
             return Walk {
                 depth: depth + 1,
-                done: done,
+                done,
             };
         }
     }
@@ -120,12 +120,8 @@ pub fn walk_from(
     }
     words::drop_bit(fresh, format::wide(x));
     put(way, 0, x);
-    let mut walk = Walk {
-        depth: 1,
-        done: done,
-    };
-    let mut left = 2 * Format::MAX_VARIABLES;
-    while left > 0 {
+    let mut walk = Walk { depth: 1, done };
+    for _ in 0..2 * Format::MAX_VARIABLES {
         if walk.depth == 0 {
             return walk.done;
         }
@@ -133,7 +129,6 @@ pub fn walk_from(
             return walk.done;
         }
         walk = advance(rows, fresh, way, list, walk);
-        left -= 1;
     }
     walk.done
 }

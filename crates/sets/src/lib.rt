@@ -5,7 +5,7 @@ ghost use Rattle.std.specs.Prelude.{◌≡◌, ◌||◌, false, ℕ, eqb};
 ghost use Rattle.format.specs.Limits.{max_variables};
 ghost use Rattle.words.specs.Bit.{word_count, has, count_from, NextIs};
 
-use words::{Found, Words, next_bit};
+use words::{Words, next_bit};
 
 // The words' bits are the numbers in order, the lowest bit first.
 #[derive(Clone, Copy)]
@@ -76,7 +76,7 @@ impl Set {
     }
 
     // The least variable of the set at or above `from`.
-    pub fn next(self, from: usize) -> Found
+    pub fn next(self, from: usize) -> Option<usize>
         ensures { NextIs (has self.words) from max_variables result }
     {
         next_bit(&self.words, from)

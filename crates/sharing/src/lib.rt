@@ -31,12 +31,10 @@ fn first_sharing(sets: &[u64], x: usize) -> usize
     requires { (x < max_variables) × (word_count * (x + 1) ≤ length sets.now) }
     ensures { (result ≤ x) × FirstSharing (row_has sets.now) x result }
 {
-    let mut y = 0;
-    while y < x {
+    for y in 0..x {
         if share(sets, x, y) {
             return y;
         }
-        y += 1;
     }
     x
 }

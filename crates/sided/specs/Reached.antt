@@ -1,5 +1,5 @@
 -- What stands on the two sides: for each variable the value that it has reached, where the positions that are kept read it, and another beside it.
-use Rattle.std.specs.Prelude.{ℕ, ◌≡◌, Bool, true, false, not, cond, List, T, eqb, ℤ, pos}
+use Rattle.std.specs.Prelude.{ℕ, ◌≡◌, Bool, true, false, not, cond, List, T, eqb, ℤ, pos, Option}
 use Rattle.std.specs.Int.Signed.{le_z}
 use Rattle.program.specs.Program.{Rule, term_form, variable_in}
 use Rattle.program.specs.Variables.{is_founded, from_above}
@@ -7,7 +7,6 @@ use Rattle.program.specs.Evaluate.{evaluate}
 use Rattle.program.specs.Readings.{Valuation, body_variable}
 use Rattle.program.specs.declared.Direction.{Direction}
 use Rattle.program.specs.declared.Direction.TheVariants.{Rising, Falling, Mixed}
-use Rattle.program.specs.declared.Given.{Given}
 use Rattle.program.specs.declared.Variable.{Variable}
 use Rattle.sided.specs.Sides.{on_side, sided_reading}
 
@@ -45,5 +44,5 @@ abbrev pub rule_side : List Variable → Rule → Bool
 rule_side vs r = plain_side (term_form r.form) (variable_in vs r.head) (variable_in vs (body_variable r 0))
 
 -- what a rule gives, each position read on its side
-abbrev pub sided_gives : List Variable → List ℤ → Rule → Given
+abbrev pub sided_gives : List Variable → List ℤ → Rule → Option ℤ
 sided_gives vs sides r = evaluate r (sided_reading sides (term_form r.form) (rule_side vs r) r.terms)

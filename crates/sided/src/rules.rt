@@ -12,7 +12,7 @@ use crate::{Sides, all_hold, extreme, product, read_position, sum};
 use bodies::numbers;
 use evaluation::quotients;
 use parts::rules;
-use program::{Given, Variable};
+use program::Variable;
 
 // The form as which the terms of a form are read.
 fn read_as(form: u8) -> u8
@@ -94,7 +94,7 @@ pub fn gives_past(
     sides: &[i64; Sides::LENGTH],
     x: Variable,
     z: i64,
-) -> Given
+) -> Option<i64>
     requires evaluable { Evaluable (rule_of value.now) }
     requires rule_header_in_bounds { rule_header ≤ length value.now }
     requires small { Small sides.now }
@@ -103,10 +103,10 @@ pub fn gives_past(
 {
     let a = amount_of(value, side, sides);
     if !x.is_before(z, a) {
-        return Given::Nothing;
+        return None;
     }
     if !is_rule_met(value, sides) {
-        return Given::Nothing;
+        return None;
     }
-    Given::Value(a)
+    Some(a)
 }

@@ -14,12 +14,11 @@ ghost use Rattle.sided.specs.Sides.{sides_length};
 ghost use Rattle.run.specs.Running.{EndsWith};
 ghost use Rattle.ascent.specs.Level.{LevelPast};
 
-use ascent::Climbed;
 use ascent::starts::{start_sides, values_of};
 use ascent::sweeping::climb;
 use format::Format;
 use program::Counts;
-use run::Ending;
+use run::{NoModel, Source};
 use settling::settle;
 use sided::Sides;
 use tables::{Tables, fill_tables};
@@ -32,7 +31,7 @@ fn finish_in(
     offsets: &mut [u16],
     masks: &mut [u32],
     model: &mut [i64; Format::MAX_VARIABLES],
-) -> Ending
+) -> Result<(), NoModel>
     requires accepted_as { AcceptedAs file.now counts }
     requires rules_in_bounds { (counts.rules ≤ length offsets.old) × (counts.rules ≤ length masks.old) }
     requires within { (P : Program) → Accepts file.now P → Within (system P) (valued assigned.now) }
@@ -42,9 +41,16 @@ fn finish_in(
     ensures ends_with { (P : Program) → Accepts file.now P → EndsWith P (reduct P) (valued assigned.now) (valued model.new) result }
 {
     fill_tables(file, counts, offsets, masks);
-    settle(
-        file, counts, offsets, masks, model, assigned, assigned, false,
-    )
+    let source = Source {
+        file,
+        counts,
+        offsets,
+        masks,
+        others: assigned,
+        stops: assigned,
+        cut: false,
+    };
+    settle(&source, model)
 }
 
 // The same, the tables made by size.
@@ -53,7 +59,7 @@ fn finish(
     counts: Counts,
     assigned: &[i64; Format::MAX_VARIABLES],
     model: &mut [i64; Format::MAX_VARIABLES],
-) -> Ending
+) -> Result<(), NoModel>
     requires accepted_as { AcceptedAs file.now counts }
     requires within { (P : Program) → Accepts file.now P → Within (system P) (valued assigned.now) }
     requires progress { (P : Program) → Accepts file.now P → Progress (system P) (valued assigned.now) (valued model.old) }
@@ -79,7 +85,7 @@ pub fn run(
     full: bool,
     sides: &mut [i64; Sides::LENGTH],
     model: &mut [i64; Format::MAX_VARIABLES],
-) -> Ending
+) -> Result<(), NoModel>
     requires accepted_as { AcceptedAs file.now counts }
     requires within { (P : Program) → Accepts file.now P → Within (system P) (valued assigned.now) }
     requires rule_met { full ≡ true → (P : Program) → Accepts file.now P → (i : ℕ) → i < length P.rules → RuleMet P (valued assigned.now) i }
@@ -94,7 +100,7 @@ pub fn run(
     let climbed = climb(file, counts, sides, assigned, full);
     values_of(file, n, sides, model);
     match climbed {
-        Climbed::Ended(ending) => ending,
-        Climbed::Open => finish(file, counts, assigned, model),
+        Some(ending) => ending,
+        None => finish(file, counts, assigned, model),
     }
 }

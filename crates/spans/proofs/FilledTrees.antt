@@ -48,11 +48,12 @@ pub inners_after : (s : List ℕ) → inners_in (take (length s - 2) (drop 2 s))
 inners_after s = ap inners_in (take_all (length s - 2) (drop 2 s) (omega (arith, length-drop 2 s)))
 
 pub filling_begun : {s : List ℕ} {next : ℕ} (kind : ℕ) {lows highs : List ℤ} {records : List ℕ} → OneTree s → Tables lows highs → length records ≡ records_length
-    → (n : ℕ) → n ≡ next + inners_in (drop 2 s) → Filling s next kind lows highs records lows highs records (length s) n
+    → (n : ℕ) → n ≡ next + inners_in (drop 2 s) → Filling s next kind lows highs records lows highs records (2 * (length s / 2)) n
 unfolding values_in inners_in ranged
-filling_begun {s} kind {lows} {highs} {records} o t m n e =
+filling_begun {s} {next} kind {lows} {highs} {records} o t m n e =
     let d = drop-length s in
-    record {
+    subst (λ (p : ℕ). Filling s next kind lows highs records lows highs records p n) (tree_even o)
+    (record {
       half = length s / 2;
       even = tree_even o;
       least = omega (arith, tree_least o);
@@ -63,7 +64,7 @@ filling_begun {s} kind {lows} {highs} {records} o t m n e =
       fielded =
           subst (λ (r : List ℕ). Fielded records n (ranged kind (values_in (valued lows) n r) (values_in (valued highs) n r)) records) (sym d)
           (fielded_none records n m);
-    }
+    })
 
 module _ {s : List ℕ} {next kind : ℕ} {lows highs : List ℤ} {records : List ℕ} {lows' highs' : List ℤ} {records' : List ℕ} where
   pub filling_tables : {at n : ℕ} → Filling s next kind lows highs records lows' highs' records' at n → Tables lows' highs'
@@ -212,17 +213,17 @@ module _ {s : List ℕ} {next kind : ℕ} {lows highs : List ℤ} {records : Lis
                 let tables = subst (λ (x : List ℤ). Tables x highs'') (sym p.lows_kept) (subst (Tables lows') (sym p.highs_kept) (filling_tables k)) in
                 (passing_all p, (tables, ap length p.records_kept ∙ k.fielded.many))
 
-  -- the walk goes two bytes back, and at an inner node to the number before
-  module _ {at n : ℕ} (k : Filling s next kind lows highs records lows' highs' records' at n) (h : 3 < at) where
-    pub filling_back : Filling s next kind lows highs records lows' highs' records' (at - 2 + 2) n
+  -- the walk goes one node back, and at an inner node to the number before
+  module _ {i n : ℕ} (k : Filling s next kind lows highs records lows' highs' records' (2 * i) n) (h : 1 < i) where
+    pub filling_back : Filling s next kind lows highs records lows' highs' records' (2 * (i - 1) + 2) n
     filling_back =
-        let e : at ≡ at - 2 + 2 = omega arith in
+        let e : 2 * i ≡ 2 * (i - 1) + 2 = omega arith in
         subst (λ (p : ℕ). Filling s next kind lows highs records lows' highs' records' p n) e k
 
-    pub filling_apart : (get_or s (at - 2) 0 ≡ 0 → ⊥) → Filling s next kind lows highs records lows' highs' records' (at - 2 + 2) (n - 1 + 1)
+    pub filling_apart : (get_or s (2 * (i - 1)) 0 ≡ 0 → ⊥) → Filling s next kind lows highs records lows' highs' records' (2 * (i - 1) + 2) (n - 1 + 1)
     filling_apart ne =
-        let e : n ≡ n - 1 + 1 = omega (arith, filling_some (at - 2) (omega arith) n filling_back ne) in
-        subst (Filling s next kind lows highs records lows' highs' records' (at - 2 + 2)) e filling_back
+        let e : n ≡ n - 1 + 1 = omega (arith, filling_some (2 * (i - 1)) (omega arith) n filling_back ne) in
+        subst (Filling s next kind lows highs records lows' highs' records' (2 * (i - 1) + 2)) e filling_back
 
   -- ---- all nodes
 

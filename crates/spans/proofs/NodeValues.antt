@@ -1,4 +1,5 @@
 -- What a node gives, read from the bytes of its rule.
+use Rattle.std.specs.Prelude.{Option, Some}
 use Prim.Native.Nat.{ℕ, ◌-◌, ◌<◌, ◌≤◌}
 use mathlib.Core.Path.{◌≡◌, refl, sym, ap, subst, ◌∙◌}
 use mathlib.Core.Bool.{Bool, true, false, cond}
@@ -17,8 +18,6 @@ use Rattle.program.specs.Evaluable.{fewest, Evaluable}
 use Rattle.program.specs.Readings.{valued}
 use Rattle.program.specs.Encode.{field_bytes, rule_bytes}
 use Rattle.program.specs.declared.Term.{Term}
-use Rattle.program.specs.declared.Given.{Given}
-use Rattle.program.specs.declared.Given.TheVariants.{Value}
 use Rattle.program.proofs.Encoding.{rule_value, rule_read, rule_size}
 use Rattle.program.proofs.Gives.{seven}
 use Rattle.program.proofs.Tests.{cases}
@@ -101,8 +100,8 @@ module _ (s : List ℕ) (node : Inner) (w : Writable s node) (from : 1 ≤ node.
     pub value_headed : rule_header ≤ length (take (end - 3) (drop 3 b'))
     value_headed = omega (arith, ap length (field_value (rule_value (rule_at s node)) p), rule_size (rule_at s node))
 
-    pub value_given : (table : List ℤ) {g : Given}
-        → g ≡ evaluate (rule_of (take (end - 3) (drop 3 b'))) (reading_of 0 table table (rule_of (take (end - 3) (drop 3 b'))).terms) → g ≡ Value (node_value s node table)
+    pub value_given : (table : List ℤ) {g : Option ℤ}
+        → g ≡ evaluate (rule_of (take (end - 3) (drop 3 b'))) (reading_of 0 table table (rule_of (take (end - 3) (drop 3 b'))).terms) → g ≡ Some (node_value s node table)
     unfolding reading_of
     value_given table e =
         e

@@ -13,10 +13,11 @@ ghost use Rattle.noderules.specs.NodeRules.{Writable};
 ghost use Rattle.spans.specs.Spans.{records_length, Tables, Tabled, any_beyond};
 ghost use Rattle.spans.specs.Filling.{node_value, node_variable, Filled};
 
+use bodies::Readings;
 use evaluation::rules::gives;
 use format::Format;
 use noderules::{Inner, inner_at, put_node};
-use program::{Given, Variable};
+use program::Variable;
 use rewriting::writing::put;
 
 #[derive(Drop)]
@@ -40,9 +41,14 @@ fn value(s: &[u8], node: Inner, table: &[i64; Format::MAX_VARIABLES]) -> i64
 {
     let mut rule = [0u8; Inner::FIELD];
     let end = put_node(s, node, &mut rule, 0);
-    match gives(&rule[3..end], 0, table, table) {
-        Given::Value(a) => a,
-        Given::Nothing => 0,
+    let readings = Readings {
+        kept: 0,
+        first: table,
+        second: table,
+    };
+    match gives(&rule[3..end], readings) {
+        Some(a) => a,
+        None => 0,
     }
 }
 
@@ -107,10 +113,9 @@ pub fn fill_tree(
         (values_in (valued highs.old) next (drop 2 s.now)))
         records.new lows.new highs.new }
 {
-    let mut at = s.len();
     let mut number = next + nodes::inners(&s[2..]);
-    while 3 < at {
-        at -= 2;
+    for i in (1..s.len() / 2).rev() {
+        let at = 2 * i;
         if s[at] != 0 {
             number -= 1;
             if !fill_node(lows, highs, records, s, inner_at(s, at, number), kind) {

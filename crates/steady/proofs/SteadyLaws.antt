@@ -1,5 +1,6 @@
 -- The estimate is steady: values at most n strides short of the aims, and not behind the present ones, take at most n strides of the head off what the rule is estimated
 -- to give.
+use Rattle.std.specs.Prelude.{Option, Some}
 use Prim.Native.Nat.{ℕ, ◌+◌, ◌*◌, ◌<◌, ◌≤◌}
 use mathlib.Core.Path.{◌≡◌, refl, sym, subst}
 use mathlib.Core.List.{List}
@@ -22,8 +23,6 @@ use Rattle.program.specs.Evaluate.{sum_below, all_hold, only_if, over_up, amount
 use Rattle.program.specs.Readings.{body_variable, kept}
 use Rattle.program.specs.declared.Direction.{Direction}
 use Rattle.program.specs.declared.Direction.TheVariants.{Rising, Falling, Mixed}
-use Rattle.program.specs.declared.Given.{Given}
-use Rattle.program.specs.declared.Given.TheVariants.{Value}
 use Rattle.program.specs.declared.Variable.{Variable}
 use Rattle.program.specs.declared.Term.{Term}
 use Rattle.program.proofs.Conditions.{both, none_below}
@@ -160,7 +159,7 @@ module _ (vs : List Variable) (r : Rule) (at aim to : ℕ → ℤ) (n : ℕ) whe
 
 -- ---- one rule
 
-value_same : {a b : ℤ} → ◌≡◌ {A = Given} (Value a) (Value b) → a ≡ b
+value_same : {a b : ℤ} → ◌≡◌ {A = (Option ℤ)} (Some a) (Some b) → a ≡ b
 value_same e = cc
 
 -- a rule whose positions have moved
@@ -385,20 +384,20 @@ module _ {vs : List Variable} {r : Rule} (p : RulePromise vs r) (own : ℕ) (str
       go true false u k = u
       go false t u k = absurd k
 
-  pub steady : (b : ℤ) → estimate (variable_in vs r.head) own stride r at aim ≡ Value b
-      → (a : ℤ) × (evaluate r to ≡ Value a) × ShortBy (n * own) (variable_in vs r.head) b a
+  pub steady : (b : ℤ) → estimate (variable_in vs r.head) own stride r at aim ≡ Some b
+      → (a : ℤ) × (evaluate r to ≡ Some a) × ShortBy (n * own) (variable_in vs r.head) b a
   unfolding estimate evaluate
   steady b q = go (all_hold r.terms at (length r.terms)) (all_hold r.terms to (length r.terms)) still_hold q
     where
-      go : (s t : Bool) → (T s → T t) → only_if s (estimated (variable_in vs r.head) own stride r at aim) ≡ Value b → (a : ℤ) × (only_if t (amount r to) ≡ Value a) × ShortBy (n * own) (variable_in vs r.head) b a
+      go : (s t : Bool) → (T s → T t) → only_if s (estimated (variable_in vs r.head) own stride r at aim) ≡ Some b → (a : ℤ) × (only_if t (amount r to) ≡ Some a) × ShortBy (n * own) (variable_in vs r.head) b a
       go true true f e = (amount r to, refl, subst (λ (z : ℤ). ShortBy (n * own) (variable_in vs r.head) z (amount r to)) (value_same e) amount_steady)
       go true false f e = absurd (f tt)
       go false t f e = let z : ◌≡◌ {A = ℕ} 0 1 = cc in absurd (omega arith)
 
 -- values at most n strides short of the aims take at most n strides of the head off the guess at what a rule gives
-abbrev pub Steady : (Variable → ℕ → (ℕ → ℕ) → Rule → (ℕ → ℤ) → (ℕ → ℤ) → Given) → Type 0
+abbrev pub Steady : (Variable → ℕ → (ℕ → ℕ) → Rule → (ℕ → ℤ) → (ℕ → ℤ) → Option ℤ) → Type 0
 Steady guess = (vs : List Variable) (r : Rule) → RulePromise vs r → (own : ℕ) (stride : ℕ → ℕ) (at aim to : ℕ → ℤ) (n : ℕ) → Short vs r at aim to n stride
-    → (b : ℤ) → guess (variable_in vs r.head) own stride r at aim ≡ Value b → (a : ℤ) × (evaluate r to ≡ Value a) × ShortBy (n * own) (variable_in vs r.head) b a
+    → (b : ℤ) → guess (variable_in vs r.head) own stride r at aim ≡ Some b → (a : ℤ) × (evaluate r to ≡ Some a) × ShortBy (n * own) (variable_in vs r.head) b a
 
 pub estimate_steady : Steady estimate
 estimate_steady vs r p own stride at aim to n s = steady p own stride at aim to n s

@@ -1,4 +1,5 @@
 -- Estimates of small rules, and wrong ones, each refuted: a steady guess does not have them. Strides are 1 where nothing else is said.
+use Rattle.std.specs.Prelude.{Option, Some, None}
 use Prim.Native.Nat.{ℕ, zero, suc, ◌*◌}
 use mathlib.Core.Path.{◌≡◌, refl, sym, subst, ◌∙◌}
 use mathlib.Core.Bool.{Bool, true, false, not, ◌&&◌}
@@ -15,8 +16,6 @@ use Rattle.program.specs.Variables.{not_past, ahead, in_range}
 use Rattle.program.specs.Evaluate.{evaluate}
 use Rattle.program.specs.Readings.{body_variable, kept}
 use Rattle.program.specs.Refusals.{item_refusal}
-use Rattle.program.specs.declared.Given.{Given}
-use Rattle.program.specs.declared.Given.TheVariants.{Nothing, Value}
 use Rattle.program.specs.declared.Term.{Term}
 use Rattle.program.specs.declared.Variable.{Variable}
 use Rattle.program.proofs.Tests.{is_true, is_test}
@@ -115,108 +114,108 @@ module _ (r : Rule) (aim to : ℕ → ℤ) (n : ℕ) (stride : ℕ → ℕ) wher
       inl (record { is_kept = is_true (kept vs r i) (f 0); at_in = f 1; aim_in = f 2; to_in = f 3; aims = f 4; goes = f 5; short = le_z_yes (f 6) })
 
 -- a value is given to x, at most n steps short of b
-abbrev reaches : Variable → ℤ → ℕ → Given → Bool
-reaches x b n Nothing = false
-reaches x b n (Value a) = le_z (ahead x b) (ahead x a +ℤ pos n)
+abbrev reaches : Variable → ℤ → ℕ → Option ℤ → Bool
+reaches x b n None = false
+reaches x b n (Some a) = le_z (ahead x b) (ahead x a +ℤ pos n)
 
 -- what the estimates are
 estimates_compute : Unit {0}
 unfolding computes any_below distance further weight room_below rise_below rise factor_rise held moved_as estimated_as estimate
 estimates_compute = tt
 
-pub sum-estimate : estimate (variable_in vs 0) 1 ones sum (pair (pos 0) (pos 0)) (pair (pos 3) (pos 3)) ≡ Value (pos 3)
+pub sum-estimate : estimate (variable_in vs 0) 1 ones sum (pair (pos 0) (pos 0)) (pair (pos 3) (pos 3)) ≡ Some (pos 3)
 unfolding estimates_compute
 sum-estimate = refl
 
-pub third_estimate : estimate (variable_in vs 0) 1 ones third (pair (pos 0) (pos 0)) (pair (pos 6) (pos 6)) ≡ Value (pos 4)
+pub third_estimate : estimate (variable_in vs 0) 1 ones third (pair (pos 0) (pos 0)) (pair (pos 6) (pos 6)) ≡ Some (pos 4)
 unfolding estimates_compute
 third_estimate = refl
 
-pub condition-estimate : estimate (variable_in vs 0) 1 ones condition (pair (pos 0) (pos 0)) (pair (pos 3) (pos 3)) ≡ Nothing
+pub condition-estimate : estimate (variable_in vs 0) 1 ones condition (pair (pos 0) (pos 0)) (pair (pos 3) (pos 3)) ≡ None
 unfolding estimates_compute
 condition-estimate = refl
 
-pub product_estimate : estimate (variable_in vs 0) 1 ones product (pair (pos 0) (pos 0)) (pair (pos 3) (pos 0)) ≡ Value (pos 0)
+pub product_estimate : estimate (variable_in vs 0) 1 ones product (pair (pos 0) (pos 0)) (pair (pos 3) (pos 0)) ≡ Some (pos 0)
 unfolding estimates_compute
 product_estimate = refl
 
-pub smaller-estimate : estimate (variable_in vs 0) 1 ones smaller_of (pair (pos 0) (pos 0)) (pair (pos 3) (pos 0)) ≡ Value (pos 0)
+pub smaller-estimate : estimate (variable_in vs 0) 1 ones smaller_of (pair (pos 0) (pos 0)) (pair (pos 3) (pos 0)) ≡ Some (pos 0)
 unfolding estimates_compute
 smaller-estimate = refl
 
 -- a head with a longer stride counts it twice
-pub double-estimate : estimate (variable_in vs 0) 1 ones double (pair (pos 0) (pos 0)) (pair (pos 3) (pos 3)) ≡ Value (pos 3)
+pub double-estimate : estimate (variable_in vs 0) 1 ones double (pair (pos 0) (pos 0)) (pair (pos 3) (pos 3)) ≡ Some (pos 3)
 unfolding estimates_compute
 double-estimate = refl
 
-pub double-estimate_in_twos : estimate (variable_in vs 0) 2 ones double (pair (pos 0) (pos 0)) (pair (pos 3) (pos 3)) ≡ Value (pos 6)
+pub double-estimate_in_twos : estimate (variable_in vs 0) 2 ones double (pair (pos 0) (pos 0)) (pair (pos 3) (pos 3)) ≡ Some (pos 6)
 unfolding estimates_compute
 double-estimate_in_twos = refl
 
 -- one with a shorter stride than the position does not count it
-pub larger-estimate : estimate (variable_in vs 0) 1 twos larger_of (pair (pos 0) (pos 0)) (pair (pos 3) (pos 3)) ≡ Value (pos 0)
+pub larger-estimate : estimate (variable_in vs 0) 1 twos larger_of (pair (pos 0) (pos 0)) (pair (pos 3) (pos 3)) ≡ Some (pos 0)
 unfolding estimates_compute
 larger-estimate = refl
 
-pub larger-estimate_in_twos : estimate (variable_in vs 0) 2 twos larger_of (pair (pos 0) (pos 0)) (pair (pos 3) (pos 3)) ≡ Value (pos 3)
+pub larger-estimate_in_twos : estimate (variable_in vs 0) 2 twos larger_of (pair (pos 0) (pos 0)) (pair (pos 3) (pos 3)) ≡ Some (pos 3)
 unfolding estimates_compute
 larger-estimate_in_twos = refl
 
 -- the room of a quotient by 2 holds a stride of 2, and none of 3
-pub half_estimate_in_twos : estimate (variable_in vs 0) 1 twos half (pair (pos 0) (pos 0)) (pair (pos 6) (pos 6)) ≡ Value (pos 4)
+pub half_estimate_in_twos : estimate (variable_in vs 0) 1 twos half (pair (pos 0) (pos 0)) (pair (pos 6) (pos 6)) ≡ Some (pos 4)
 unfolding estimates_compute
 half_estimate_in_twos = refl
 
-pub half_estimate_in_threes : estimate (variable_in vs 0) 1 threes half (pair (pos 0) (pos 0)) (pair (pos 6) (pos 6)) ≡ Value (pos 1)
+pub half_estimate_in_threes : estimate (variable_in vs 0) 1 threes half (pair (pos 0) (pos 0)) (pair (pos 6) (pos 6)) ≡ Some (pos 1)
 unfolding estimates_compute
 half_estimate_in_threes = refl
 
-module _ (guess : Variable → ℕ → (ℕ → ℕ) → Rule → (ℕ → ℤ) → (ℕ → ℤ) → Given) (law : Steady guess) where
+module _ (guess : Variable → ℕ → (ℕ → ℕ) → Rule → (ℕ → ℤ) → (ℕ → ℤ) → Option ℤ) (law : Steady guess) where
   -- b is not the guess for a head of stride 1: at `to`, n strides short of the aims, the rule gives nothing, or more than n steps less than b
-  refuted : {r : Rule} {stride : ℕ → ℕ} {aim : ℕ → ℤ} {b : ℤ} → guess (variable_in vs r.head) 1 stride r zeros aim ≡ Value b → (to : ℕ → ℤ) (n : ℕ) (given : Given)
+  refuted : {r : Rule} {stride : ℕ → ℕ} {aim : ℕ → ℤ} {b : ℤ} → guess (variable_in vs r.head) 1 stride r zeros aim ≡ Some b → (to : ℕ → ℤ) (n : ℕ) (given : Option ℤ)
       → item_refusal vs (rule r) ≡ 0 → any_below (length r.terms) (fails r aim to n stride) ≡ false → evaluate r to ≡ given
       → reaches (variable_in vs r.head) b (n * 1) given ≡ false → ⊥
   refuted {r} {stride} {aim} {b} e to n given fine short gives far =
       let reached = reaches (variable_in vs r.head) b (n * 1) in
       let g = law vs r (rule_promised vs r fine) 1 stride zeros aim to n (all_short r aim to n stride short) b e in
-      never (is_true (reached (Value g.0)) g.2.le) (subst (λ (y : Given). reached y ≡ false) (sym gives ∙ g.1) far)
+      never (is_true (reached (Some g.0)) g.2.le) (subst (λ (y : Option ℤ). reached y ≡ false) (sym gives ∙ g.1) far)
 
   -- x1 + x2 is 4 at 2, 2, one step short: one that counts both positions has 6
-  pub not_both_counted : guess (variable_in vs 0) 1 ones sum (pair (pos 0) (pos 0)) (pair (pos 3) (pos 3)) ≡ Value (pos 6) → ⊥
+  pub not_both_counted : guess (variable_in vs 0) 1 ones sum (pair (pos 0) (pos 0)) (pair (pos 3) (pos 3)) ≡ Some (pos 6) → ⊥
   unfolding computes ahead
-  not_both_counted e = refuted e (pair (pos 2) (pos 2)) 1 (Value (pos 4)) refl refl refl refl
+  not_both_counted e = refuted e (pair (pos 2) (pos 2)) 1 (Some (pos 4)) refl refl refl refl
 
   -- 2·x1 over 3 is 4 at 6: one that takes the whole room for it has 6
-  pub not_the_whole_room : guess (variable_in vs 0) 1 ones third (pair (pos 0) (pos 0)) (pair (pos 6) (pos 6)) ≡ Value (pos 6) → ⊥
+  pub not_the_whole_room : guess (variable_in vs 0) 1 ones third (pair (pos 0) (pos 0)) (pair (pos 6) (pos 6)) ≡ Some (pos 6) → ⊥
   unfolding computes ahead
-  not_the_whole_room e = refuted e (pair (pos 6) (pos 6)) 0 (Value (pos 4)) refl refl refl refl
+  not_the_whole_room e = refuted e (pair (pos 6) (pos 6)) 0 (Some (pos 4)) refl refl refl refl
 
   -- x1 ≥ 3 does not hold at 2: one that judges it at the aim has 5
-  pub not_at_the_aim : guess (variable_in vs 0) 1 ones condition (pair (pos 0) (pos 0)) (pair (pos 3) (pos 3)) ≡ Value (pos 5) → ⊥
+  pub not_at_the_aim : guess (variable_in vs 0) 1 ones condition (pair (pos 0) (pos 0)) (pair (pos 3) (pos 3)) ≡ Some (pos 5) → ⊥
   unfolding computes ahead
-  not_at_the_aim e = refuted e (pair (pos 2) (pos 2)) 1 Nothing refl refl refl refl
+  not_at_the_aim e = refuted e (pair (pos 2) (pos 2)) 1 None refl refl refl refl
 
   -- x1 · x2 is 0 at 3, 0: one that does not ask the other factor has 3
-  pub not_by_a_factor_of_zero : guess (variable_in vs 0) 1 ones product (pair (pos 0) (pos 0)) (pair (pos 3) (pos 0)) ≡ Value (pos 3) → ⊥
+  pub not_by_a_factor_of_zero : guess (variable_in vs 0) 1 ones product (pair (pos 0) (pos 0)) (pair (pos 3) (pos 0)) ≡ Some (pos 3) → ⊥
   unfolding computes ahead
-  not_by_a_factor_of_zero e = refuted e (pair (pos 3) (pos 0)) 0 (Value (pos 0)) refl refl refl refl
+  not_by_a_factor_of_zero e = refuted e (pair (pos 3) (pos 0)) 0 (Some (pos 0)) refl refl refl refl
 
   -- the smaller of x1 and x2 is 0 at 3, 0: one that leaves the second out has 3
-  pub not_without_an_argument : guess (variable_in vs 0) 1 ones smaller_of (pair (pos 0) (pos 0)) (pair (pos 3) (pos 0)) ≡ Value (pos 3) → ⊥
+  pub not_without_an_argument : guess (variable_in vs 0) 1 ones smaller_of (pair (pos 0) (pos 0)) (pair (pos 3) (pos 0)) ≡ Some (pos 3) → ⊥
   unfolding computes ahead
-  not_without_an_argument e = refuted e (pair (pos 3) (pos 0)) 0 (Value (pos 0)) refl refl refl refl
+  not_without_an_argument e = refuted e (pair (pos 3) (pos 0)) 0 (Some (pos 0)) refl refl refl refl
 
   -- 2·x1 is 4 at 2, one step short: one that counts it twice has 6
-  pub not_counted_twice : guess (variable_in vs 0) 1 ones double (pair (pos 0) (pos 0)) (pair (pos 3) (pos 3)) ≡ Value (pos 6) → ⊥
+  pub not_counted_twice : guess (variable_in vs 0) 1 ones double (pair (pos 0) (pos 0)) (pair (pos 3) (pos 3)) ≡ Some (pos 6) → ⊥
   unfolding computes ahead
-  not_counted_twice e = refuted e (pair (pos 2) (pos 2)) 1 (Value (pos 4)) refl refl refl refl
+  not_counted_twice e = refuted e (pair (pos 2) (pos 2)) 1 (Some (pos 4)) refl refl refl refl
 
   -- the larger of x1 is 1 at 1, one stride of 2 short: one whose head has a stride of 1 and that has 3 falls by more
-  pub not_a_longer_stride : guess (variable_in vs 0) 1 twos larger_of (pair (pos 0) (pos 0)) (pair (pos 3) (pos 3)) ≡ Value (pos 3) → ⊥
+  pub not_a_longer_stride : guess (variable_in vs 0) 1 twos larger_of (pair (pos 0) (pos 0)) (pair (pos 3) (pos 3)) ≡ Some (pos 3) → ⊥
   unfolding computes ahead
-  not_a_longer_stride e = refuted e (pair (pos 1) (pos 1)) 1 (Value (pos 1)) refl refl refl refl
+  not_a_longer_stride e = refuted e (pair (pos 1) (pos 1)) 1 (Some (pos 1)) refl refl refl refl
 
   -- x1 + 1 over 2 is 2 at 3, one stride of 3 short: one that has room for it has 4
-  pub not_past_the_room : guess (variable_in vs 0) 1 threes half (pair (pos 0) (pos 0)) (pair (pos 6) (pos 6)) ≡ Value (pos 4) → ⊥
+  pub not_past_the_room : guess (variable_in vs 0) 1 threes half (pair (pos 0) (pos 0)) (pair (pos 6) (pos 6)) ≡ Some (pos 4) → ⊥
   unfolding computes ahead
-  not_past_the_room e = refuted e (pair (pos 3) (pos 3)) 1 (Value (pos 2)) refl refl refl refl
+  not_past_the_room e = refuted e (pair (pos 3) (pos 3)) 1 (Some (pos 2)) refl refl refl refl

@@ -1,13 +1,12 @@
 -- What a rule is estimated to give on the way from present values to aims: position i of its body is at `at i` and has the aim `aim i`, and goes there in strides of
 -- `stride i` steps, the head in strides of `own`. The estimate is steady: values that fall short of the aims by n strides take at most n strides of the head off it
 -- (law `estimate_steady`).
-use Rattle.std.specs.Prelude.{ℕ, zero, suc, ◌+◌, ◌-◌, ◌*◌, ◌/◌, Bool, cond, not, ◌&&◌, List, [], ◌∷◌, eqb, ltb, ℤ, pos, nat_abs, ◌+ℤ◌, ◌-ℤ◌, ◌*ℤ◌, length}
+use Rattle.std.specs.Prelude.{ℕ, zero, suc, ◌+◌, ◌-◌, ◌*◌, ◌/◌, Bool, cond, not, ◌&&◌, List, [], ◌∷◌, eqb, ltb, ℤ, pos, nat_abs, ◌+ℤ◌, ◌-ℤ◌, ◌*ℤ◌, length, Option}
 use Rattle.std.specs.Int.Signed.{le_z}
 use Rattle.program.specs.Tables.{◌⇒◌, select, any_below}
 use Rattle.program.specs.Program.{Rule, term_form, divisor_of, term_in}
 use Rattle.program.specs.Variables.{swaps}
 use Rattle.program.specs.Evaluate.{sum_below, all_hold, only_if, over_up, amount_of}
-use Rattle.program.specs.declared.Given.{Given}
 use Rattle.program.specs.declared.Term.{Term}
 use Rattle.program.specs.declared.Variable.{Variable}
 
@@ -85,5 +84,5 @@ abbrev pub estimated : Variable → ℕ → (ℕ → ℕ) → Rule → (ℕ → 
 estimated x own stride r at aim = estimated_as (term_form r.form) x own stride r.c (divisor_of r) r.terms at aim
 
 -- where every literal holds at the present values; else nothing
-unfoldable pub estimate : Variable → ℕ → (ℕ → ℕ) → Rule → (ℕ → ℤ) → (ℕ → ℤ) → Given
+unfoldable pub estimate : Variable → ℕ → (ℕ → ℕ) → Rule → (ℕ → ℤ) → (ℕ → ℤ) → Option ℤ
 estimate x own stride r at aim = only_if (all_hold r.terms at (length r.terms)) (estimated x own stride r at aim)

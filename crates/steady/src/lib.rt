@@ -1,5 +1,5 @@
-// What a rule is estimated to give on the way from present values to aims: position i of its body is read in `first`, and its aim in `aims`, where bit i of `kept` is
-// set, and both in `second` else.
+// What a rule is estimated to give on the way from present values to aims: a position that is read in `first` has its aim in `aims`, and one that is read in
+// `second` stays. The functions are inlined, so that the readings are not stored anew at each call.
 #![tactic(auto)]
 
 ghost use Rattle.std.specs.Prelude.{◌≡◌, ◌≤◌, pos, nat_abs, ◌≤ℤ◌, length};
@@ -11,114 +11,114 @@ ghost use Rattle.bodies.specs.Readings.{reading_of};
 ghost use Rattle.steady.specs.Estimate.{moved_as, estimated_as, estimate};
 ghost use Rattle.steady.specs.Strides.{stride_of, stride_at};
 
-use bodies::numbers;
+use bodies::{Readings, numbers};
 use evaluation::quotients;
 use evaluation::rules::{amount, is_met};
 use format::Format;
 use parts::rules;
 use parts::rules::RuleHeader;
-use program::{Given, Variable};
+use program::Variable;
 
 mod rises;
 pub mod steps;
 pub mod strides;
 
 // The estimate of a sum over a divisor; the head's variable is x, and its stride `own`.
+#[inline(always)]
 fn summed(
     x: Variable,
     own: i64,
     c: i64,
     divisor: i64,
     body: &[u8],
-    kept: u32,
-    first: &[i64; Format::MAX_VARIABLES],
+    readings: Readings,
     aims: &[i64; Format::MAX_VARIABLES],
-    second: &[i64; Format::MAX_VARIABLES],
     strides: &[i64; Format::MAX_VARIABLES],
 ) -> i64
     requires evaluable_as { EvaluableAs 1 c divisor (terms_of body.now) }
     requires pos_bound { (pos 1 ≤ℤ own) × (nat_abs own ≤ max_number) }
-    requires small { Small first.now × Small aims.now × Small second.now }
+    requires small { Small readings.first.now × Small aims.now × Small readings.second.now }
     ensures { result ≡ estimated_as 1 x (nat_abs own) (stride_at strides.now (terms_of body.now)) c divisor (terms_of body.now)
-        (reading_of kept first.now second.now (terms_of body.now))
-        (reading_of kept aims.now second.now (terms_of body.now)) }
+        (reading_of readings.entry.kept readings.entry.first.now readings.entry.second.now (terms_of body.now))
+        (reading_of readings.entry.kept aims.now readings.entry.second.now (terms_of body.now)) }
 {
-    let sum = bodies::sum(c, body, kept, first, second);
+    let sum = bodies::sum(c, body, readings);
     let room = numbers::times(divisor, own);
-    let rise = rises::rise(room, body, kept, first, aims, strides);
+    let rise = rises::rise(room, body, readings, aims, strides);
     quotients::over_up(steps::further(x, sum, rise), divisor)
 }
 
 // A product moved towards the aims.
+#[inline(always)]
 fn multiplied(
     x: Variable,
     c: i64,
     body: &[u8],
-    kept: u32,
-    first: &[i64; Format::MAX_VARIABLES],
+    readings: Readings,
     aims: &[i64; Format::MAX_VARIABLES],
-    second: &[i64; Format::MAX_VARIABLES],
 ) -> i64
     requires evaluable_as { EvaluableAs 4 c (pos 1) (terms_of body.now) }
-    requires small { Small first.now × Small aims.now × Small second.now }
+    requires small { Small readings.first.now × Small aims.now × Small readings.second.now }
     ensures { result ≡ moved_as 4 x c (pos 1) (terms_of body.now)
-        (reading_of kept first.now second.now (terms_of body.now))
-        (reading_of kept aims.now second.now (terms_of body.now)) }
+        (reading_of readings.entry.kept readings.entry.first.now readings.entry.second.now (terms_of body.now))
+        (reading_of readings.entry.kept aims.now readings.entry.second.now (terms_of body.now)) }
 {
-    let total = numbers::plus(c, bodies::product(body, kept, first, second));
-    let rise = rises::factor_rise(body, kept, first, aims, second);
+    let total = numbers::plus(c, bodies::product(body, readings));
+    let rise = rises::factor_rise(body, readings, aims);
     steps::further(x, total, rise)
 }
 
 // Another form than a sum, moved towards the aims.
+#[inline(always)]
 fn moved(
     x: Variable,
     rule: RuleHeader,
     body: &[u8],
-    kept: u32,
-    first: &[i64; Format::MAX_VARIABLES],
+    readings: Readings,
     aims: &[i64; Format::MAX_VARIABLES],
-    second: &[i64; Format::MAX_VARIABLES],
 ) -> i64
     requires evaluable_as { EvaluableAs rule.form rule.c (pos 1) (terms_of body.now) }
-    requires small { Small first.now × Small aims.now × Small second.now }
+    requires small { Small readings.first.now × Small aims.now × Small readings.second.now }
     ensures { result ≡ moved_as rule.form x rule.c (pos 1) (terms_of body.now)
-        (reading_of kept first.now second.now (terms_of body.now))
-        (reading_of kept aims.now second.now (terms_of body.now)) }
+        (reading_of readings.entry.kept readings.entry.first.now readings.entry.second.now (terms_of body.now))
+        (reading_of readings.entry.kept aims.now readings.entry.second.now (terms_of body.now)) }
 {
     if rule.form == 4 {
-        return multiplied(x, rule.c, body, kept, first, aims, second);
+        return multiplied(x, rule.c, body, readings, aims);
     }
-    amount(rule, body, kept, aims, second)
+    let moved = Readings {
+        first: aims,
+        ..readings
+    };
+    amount(rule, body, moved)
 }
 
 // The estimate of the rule with this header and body, where it has no divisor and its literals hold. Where a stride outruns the head's, no position moves.
+#[inline(always)]
 fn estimated(
     x: Variable,
     own: i64,
     rule: RuleHeader,
     body: &[u8],
-    kept: u32,
-    first: &[i64; Format::MAX_VARIABLES],
+    readings: Readings,
     aims: &[i64; Format::MAX_VARIABLES],
-    second: &[i64; Format::MAX_VARIABLES],
     strides: &[i64; Format::MAX_VARIABLES],
 ) -> i64
     requires evaluable_as { EvaluableAs rule.form rule.c (pos 1) (terms_of body.now) }
     requires pos_bound { (pos 1 ≤ℤ own) × (nat_abs own ≤ max_number) }
-    requires small { Small first.now × Small aims.now × Small second.now }
+    requires small { Small readings.first.now × Small aims.now × Small readings.second.now }
     ensures { result ≡ estimated_as rule.form x (nat_abs own) (stride_at strides.now (terms_of body.now)) rule.c (pos 1)
         (terms_of body.now)
-        (reading_of kept first.now second.now (terms_of body.now))
-        (reading_of kept aims.now second.now (terms_of body.now)) }
+        (reading_of readings.entry.kept readings.entry.first.now readings.entry.second.now (terms_of body.now))
+        (reading_of readings.entry.kept aims.now readings.entry.second.now (terms_of body.now)) }
 {
     if rule.form == 1 {
-        return summed(x, own, rule.c, 1, body, kept, first, aims, second, strides);
+        return summed(x, own, rule.c, 1, body, readings, aims, strides);
     }
-    if strides::any_outruns(own, body, kept, first, aims, strides) {
-        return moved(x, rule, body, kept, first, first, second);
+    if strides::any_outruns(own, body, readings, aims, strides) {
+        return moved(x, rule, body, readings, readings.first);
     }
-    moved(x, rule, body, kept, first, aims, second)
+    moved(x, rule, body, readings, aims)
 }
 
 // The rule in a field's value; x is the variable of its head, which has this number. The strides are advice, and may be any numbers.
@@ -126,30 +126,26 @@ pub fn estimate(
     value: &[u8],
     x: Variable,
     head: u8,
-    kept: u32,
-    first: &[i64; Format::MAX_VARIABLES],
+    readings: Readings,
     aims: &[i64; Format::MAX_VARIABLES],
-    second: &[i64; Format::MAX_VARIABLES],
     strides: &[i64; Format::MAX_VARIABLES],
-) -> Given
+) -> Option<i64>
     requires evaluable { Evaluable (rule_of value.now) }
     requires rule_header_in_bounds { rule_header ≤ length value.now }
-    requires small { Small first.now × Small aims.now × Small second.now }
+    requires small { Small readings.first.now × Small aims.now × Small readings.second.now }
     ensures { result ≡ estimate x (stride_of strides.now head) (stride_at strides.now (rule_of value.now).terms) (rule_of value.now)
-        (reading_of kept first.now second.now (rule_of value.now).terms)
-        (reading_of kept aims.now second.now (rule_of value.now).terms) }
+        (reading_of readings.entry.kept readings.entry.first.now readings.entry.second.now (rule_of value.now).terms)
+        (reading_of readings.entry.kept aims.now readings.entry.second.now (rule_of value.now).terms) }
 {
     let rule = rules::header(value);
     let body = rules::body(value);
     let own = strides::stride_of(strides, head);
     if rule.form == 8 {
         let divisor = rules::divisor(value);
-        return Given::Value(summed(
-            x, own, rule.c, divisor, body, kept, first, aims, second, strides,
-        ));
+        return Some(summed(x, own, rule.c, divisor, body, readings, aims, strides));
     }
-    if !is_met(rule.form, body, kept, first, second) {
-        return Given::Nothing;
+    if !is_met(rule.form, body, readings) {
+        return None;
     }
-    Given::Value(estimated(x, own, rule, body, kept, first, aims, second, strides))
+    Some(estimated(x, own, rule, body, readings, aims, strides))
 }

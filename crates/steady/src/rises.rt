@@ -9,7 +9,7 @@ ghost use Rattle.steady.specs.Steps.{steps_of, steps_at, Shared};
 ghost use Rattle.steady.specs.Strides.{stride_of, stride_at};
 
 use crate::{steps, strides};
-use bodies::numbers;
+use bodies::{Readings, numbers};
 use format::Format;
 use parts::terms;
 use program::Term;
@@ -26,41 +26,36 @@ fn share_of(
     room: i64,
     term: Term,
     i: usize,
-    kept: u32,
-    first: &[i64; Format::MAX_VARIABLES],
+    readings: Readings,
     aims: &[i64; Format::MAX_VARIABLES],
     strides: &[i64; Format::MAX_VARIABLES],
 ) -> Share
     requires pos_bound { (pos 0 ≤ℤ room) × (nat_abs room ≤ max_divisor * max_number) × (nat_abs term.number ≤ max_coefficient) × (i < max_terms) }
-    requires small { Small first.now × Small aims.now }
+    requires small { Small readings.first.now × Small aims.now }
     ensures { Shared (nat_abs room) term.number (stride_of strides.now term.variable)
-        (steps_of kept first.now aims.now i term.variable) result.taken result.rise }
+        (steps_of readings.entry.kept readings.entry.first.now aims.now i term.variable) result.taken result.rise }
 {
-    let steps = steps::steps_of(term.variable, i, kept, first, aims);
+    let steps = steps::steps_of(term.variable, i, readings, aims);
     let stride = strides::stride_of(strides, term.variable);
     let weight = steps::weight(room, term.number, stride, steps);
     let taken = numbers::times(weight, stride);
     let rise = numbers::times(weight, steps);
-    Share {
-        taken: taken,
-        rise: rise,
-    }
+    Share { taken, rise }
 }
 
 // The rise of a sum that has this room: once none is left it is whole.
 pub fn rise(
     room: i64,
     body: &[u8],
-    kept: u32,
-    first: &[i64; Format::MAX_VARIABLES],
+    readings: Readings,
     aims: &[i64; Format::MAX_VARIABLES],
     strides: &[i64; Format::MAX_VARIABLES],
 ) -> i64
     requires pos_bound { (pos 0 ≤ℤ room) × (nat_abs room ≤ max_divisor * max_number) × (length body.now / 4 ≤ max_terms) }
     requires coefficients { Coefficients (terms_of body.now) }
-    requires small { Small first.now × Small aims.now }
+    requires small { Small readings.first.now × Small aims.now }
     ensures { result ≡ pos (rise_below (nat_abs room) (number_at (terms_of body.now)) (stride_at strides.now (terms_of body.now))
-        (steps_at kept first.now aims.now (terms_of body.now)) (length (terms_of body.now))) }
+        (steps_at readings.entry.kept readings.entry.first.now aims.now (terms_of body.now)) (length (terms_of body.now))) }
 {
     let n = body.len() / 4;
     let mut left = room;
@@ -70,7 +65,7 @@ pub fn rise(
             return total;
         }
         let term = terms::term(body, i);
-        let part = share_of(left, term, i, kept, first, aims, strides);
+        let part = share_of(left, term, i, readings, aims, strides);
         total = total + part.rise;
         left = left - part.taken;
     }
@@ -78,28 +73,22 @@ pub fn rise(
 }
 
 // The rise of a product: the first factor's steps where it moves and the second is at least 1, else the second's where the first is.
-pub fn factor_rise(
-    body: &[u8],
-    kept: u32,
-    first: &[i64; Format::MAX_VARIABLES],
-    aims: &[i64; Format::MAX_VARIABLES],
-    second: &[i64; Format::MAX_VARIABLES],
-) -> i64
+pub fn factor_rise(body: &[u8], readings: Readings, aims: &[i64; Format::MAX_VARIABLES]) -> i64
     requires in_bounds { 8 ≤ length body.now }
-    requires small { Small first.now × Small aims.now }
-    ensures { result ≡ pos (factor_rise (reading_of kept first.now second.now (terms_of body.now))
-        (reading_of kept aims.now second.now (terms_of body.now))) }
+    requires small { Small readings.first.now × Small aims.now }
+    ensures { result ≡ pos (factor_rise (reading_of readings.entry.kept readings.entry.first.now readings.entry.second.now (terms_of body.now))
+        (reading_of readings.entry.kept aims.now readings.entry.second.now (terms_of body.now))) }
 {
     let left = terms::term(body, 0);
-    let steps = steps::steps_of(left.variable, 0, kept, first, aims);
+    let steps = steps::steps_of(left.variable, 0, readings, aims);
     let moves = steps != 0;
-    let lifts = 1 <= bodies::read_position(body, 1, kept, first, second);
+    let lifts = 1 <= readings.read_position(body, 1);
     if moves & lifts {
         return steps;
     }
-    if 1 <= bodies::read_position(body, 0, kept, first, second) {
+    if 1 <= readings.read_position(body, 0) {
         let right = terms::term(body, 1);
-        return steps::steps_of(right.variable, 1, kept, first, aims);
+        return steps::steps_of(right.variable, 1, readings, aims);
     }
     0
 }

@@ -5,7 +5,7 @@ ghost use Rattle.program.specs.Evaluable.{Small};
 ghost use Rattle.steady.specs.Estimate.{distance, further, weight};
 ghost use Rattle.steady.specs.Steps.{steps_of};
 
-use bodies::numbers;
+use bodies::{Readings, numbers};
 use format::Format;
 use program::Variable;
 
@@ -18,19 +18,13 @@ pub fn distance(a: i64, b: i64) -> i64
 }
 
 // The steps of variable x at position i to its aim; a position whose bit is not set stays.
-pub fn steps_of(
-    x: u8,
-    i: usize,
-    kept: u32,
-    first: &[i64; Format::MAX_VARIABLES],
-    aims: &[i64; Format::MAX_VARIABLES],
-) -> i64
-    requires { (i < max_terms) × Small first.now × Small aims.now }
-    ensures { result ≡ pos (steps_of kept first.now aims.now i x) }
+pub fn steps_of(x: u8, i: usize, readings: Readings, aims: &[i64; Format::MAX_VARIABLES]) -> i64
+    requires { (i < max_terms) × Small readings.first.now × Small aims.now }
+    ensures { result ≡ pos (steps_of readings.entry.kept readings.entry.first.now aims.now i x) }
 {
     let v = format::wide(x);
-    if (kept >> i) % 2 == 1 {
-        distance(first[v], aims[v])
+    if (readings.kept >> i) % 2 == 1 {
+        distance(readings.first[v], aims[v])
     } else {
         0
     }

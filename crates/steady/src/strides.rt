@@ -9,6 +9,7 @@ ghost use Rattle.steady.specs.Steps.{steps_at};
 ghost use Rattle.steady.specs.Strides.{stride_by, stride_of, stride_at};
 
 use crate::steps;
+use bodies::Readings;
 use format::Format;
 use parts::terms;
 
@@ -34,18 +35,17 @@ fn outruns(
     own: i64,
     body: &[u8],
     i: usize,
-    kept: u32,
-    first: &[i64; Format::MAX_VARIABLES],
+    readings: Readings,
     aims: &[i64; Format::MAX_VARIABLES],
     strides: &[i64; Format::MAX_VARIABLES],
 ) -> bool
     requires pos_bound { (pos 1 ≤ℤ own) × (4 * i + 4 ≤ length body.now) × (i < max_terms) }
-    requires small { Small first.now × Small aims.now }
+    requires small { Small readings.first.now × Small aims.now }
     ensures { result ≡ outruns (nat_abs own) (stride_at strides.now (terms_of body.now)) (terms_of body.now)
-        (steps_at kept first.now aims.now (terms_of body.now)) i }
+        (steps_at readings.entry.kept readings.entry.first.now aims.now (terms_of body.now)) i }
 {
     let term = terms::term(body, i);
-    let steps = steps::steps_of(term.variable, i, kept, first, aims);
+    let steps = steps::steps_of(term.variable, i, readings, aims);
     let stride = stride_of(strides, term.variable);
     let plain = term.op == 0;
     let moves = steps != 0;
@@ -57,20 +57,19 @@ fn outruns(
 pub fn any_outruns(
     own: i64,
     body: &[u8],
-    kept: u32,
-    first: &[i64; Format::MAX_VARIABLES],
+    readings: Readings,
     aims: &[i64; Format::MAX_VARIABLES],
     strides: &[i64; Format::MAX_VARIABLES],
 ) -> bool
     requires pos_bound { (pos 1 ≤ℤ own) × (length body.now / 4 ≤ max_terms) }
-    requires small { Small first.now × Small aims.now }
+    requires small { Small readings.first.now × Small aims.now }
     ensures { result ≡ any_below (length (terms_of body.now)) (outruns (nat_abs own) (stride_at strides.now (terms_of body.now))
-        (terms_of body.now) (steps_at kept first.now aims.now (terms_of body.now))) }
+        (terms_of body.now) (steps_at readings.entry.kept readings.entry.first.now aims.now (terms_of body.now))) }
 {
     let n = body.len() / 4;
     let mut found = false;
     for i in 0..n {
-        let longer = outruns(own, body, i, kept, first, aims, strides);
+        let longer = outruns(own, body, i, readings, aims, strides);
         found = found | longer;
     }
     found

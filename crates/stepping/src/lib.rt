@@ -5,12 +5,13 @@
 ghost use Rattle.std.specs.Prelude.{◌+◌, ◌*◌, ◌≤◌, length};
 
 use founded::{founded_begin, founded_components, founded_step};
-use guarding::{exceeded, is_kept, patterned, patterned_words, tell_kept, words_are_kept};
+use guarding::{exceeded, is_kept, patterned, tell_kept};
 use packing::Word;
-use picturing::{FEW, WORDS, names_shown, sets_shown};
+use picturing::{FEW, names_shown, sets_shown};
+use sets::Set;
 use std::io;
 use std::io::Write;
-use telling::{say, tell, text, unpacked};
+use telling::{Told, unpacked};
 
 // The words of the room of which a search is lent a part.
 const ROOM: usize = 2048;
@@ -19,33 +20,27 @@ const ROOM: usize = 2048;
 const GUARD: usize = 16;
 
 // The room of which the call for the components is lent a part: a byte for each set that the other room has place for, and the guard.
-const BYTES: usize = ROOM / WORDS + 2 * GUARD;
+const BYTES: usize = ROOM / Set::WORDS + 2 * GUARD;
 
 // Which round it was, or that there is none.
 fn round_told<W: Write>(out: &mut W, is_round: bool, k: usize) -> io::Result<()> {
-    if is_round {
-        say(out, b"  round", k)
-    } else {
-        say(out, b"  no round", k)
-    }
+    let word = if is_round { "round" } else { "no round" };
+    write!(out, "  {word} {k}")
 }
 
 // Whether the sets of n variables are printed after the step for k: of few each time, of many where it was the last round or none.
 fn is_told(is_round: bool, n: usize, k: usize) -> bool {
-    if n <= FEW {
-        return true;
-    }
-    if is_round { n - 1 <= k } else { true }
+    n <= FEW || !is_round || n - 1 <= k
 }
 
 // The sets of n variables before the first round and after each step; the last step is for as many as there are, which is no round.
 fn rounds<W: Write>(out: &mut W, sets: &mut [u64], n: usize) -> io::Result<()>
     requires { (4 * n ≤ length sets.old) × (length sets.old ≤ 2048) }
 {
-    let end = WORDS * n;
-    text(out, b"\n  edges")?;
+    let end = Set::WORDS * n;
+    write!(out, "\n  edges")?;
     sets_shown(out, &sets[0..end])?;
-    for k in 0..n + 1 {
+    for k in 0..=n {
         let is_round = founded_step(sets, n, k);
         if is_told(is_round, n, k) {
             round_told(out, is_round, k)?;
@@ -61,11 +56,12 @@ fn components<W: Write>(out: &mut W, sets: &[u64], n: usize, room: &mut [u8]) ->
 {
     let end = GUARD + n;
     let is_named = founded_components(sets, n, &mut room[GUARD..end]);
-    if is_named {
-        text(out, b"  components:")?;
+    let word = if is_named {
+        "components"
     } else {
-        text(out, b"  no components:")?;
-    }
+        "no components"
+    };
+    write!(out, "  {word}:")?;
     names_shown(out, &room[GUARD..end])
 }
 
@@ -80,14 +76,14 @@ fn stepped<W: Write>(
 ) -> io::Result<()>
     requires { (from ≤ to) × (to ≤ length room.old) × (length room.old ≤ 2048) }
 {
-    if (to - from) / WORDS < n {
+    if (to - from) / Set::WORDS < n {
         return exceeded(out);
     }
     rounds(out, &mut room[from..to], n)?;
     let mut bytes = [0u8; BYTES];
     patterned(&mut bytes);
     components(out, &room[from..to], n, &mut bytes)?;
-    let words = words_are_kept(room, from, from + WORDS * n);
+    let words = is_kept(room, from, from + Set::WORDS * n);
     tell_kept(out, words & is_kept(&bytes, GUARD, GUARD + n))
 }
 
@@ -101,13 +97,13 @@ fn begun<W: Write>(
 ) -> io::Result<()>
     requires { (from ≤ to) × (to ≤ length room.old) × (length room.old ≤ 2048) }
 {
-    patterned_words(room);
+    patterned(room);
     let answer = unpacked(founded_begin(file, &mut room[from..to]));
-    tell(out, answer)?;
+    write!(out, "{}", Told(answer))?;
     if answer.word == Word::BEGUN {
         stepped(out, room, from, to, answer.first)
     } else {
-        tell_kept(out, words_are_kept(room, 0, 0))
+        tell_kept(out, is_kept(room, 0, 0))
     }
 }
 
@@ -116,7 +112,7 @@ pub fn searched<W: Write>(out: &mut W, file: &[u8], from: usize, to: usize) -> i
     requires { from ≤ to }
 {
     if ROOM - GUARD < to {
-        return text(out, b": no room for so many words\n");
+        return writeln!(out, ": no room for so many words");
     }
     let mut room = [0u64; ROOM];
     begun(out, &mut room, file, from, to)

@@ -102,10 +102,8 @@ fn enter_rule(readers: &mut [u64], value: &[u8], mask: u32, k: usize)
     ensures entered { Entered readers.old readers.new k (read_at (rule_of value.now) mask) }
 {
     let n = rules::positions(value);
-    let mut j = 0;
-    while j < n {
+    for j in 0..n {
         enter_position(readers, value, mask, k, j);
-        j += 1;
     }
 }
 
@@ -137,11 +135,9 @@ pub fn fill_tables(file: &[u8], counts: Counts, offsets: &mut [u16], masks: &mut
     let n = counts.variables;
     let rules = counts.rules;
     let mut at = 8 * n;
-    let mut i = 0;
-    while i < rules {
+    for i in 0..rules {
         let next = enter(file, n, at, i, offsets, masks);
         at = next;
-        i += 1;
     }
 }
 
@@ -161,11 +157,9 @@ pub fn fill_readers(
     ensures readers_are { (P : Program) → Accepts file.now P → ReadersAre P (length P.rules) masks.now readers.new }
 {
     let rules = counts.rules;
-    let mut i = 0;
-    while i < rules {
+    for i in 0..rules {
         let at = place_in(offsets, i);
         let mask = mask_in(masks, i);
         enter_rule(readers, value_at(file, at), mask, i);
-        i += 1;
     }
 }

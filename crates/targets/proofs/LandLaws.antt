@@ -12,7 +12,7 @@ use Rattle.format.specs.Limits.{max_variables}
 use Rattle.words.specs.Bit.{has}
 use Rattle.program.specs.Program.{Program, variable_in, variables_at}
 use Rattle.program.specs.Reading.{Accepts}
-use Rattle.program.specs.Variables.{is_founded, far, not_past}
+use Rattle.program.specs.Variables.{is_founded, not_past}
 use Rattle.program.specs.Readings.{Valuation, valued}
 use Rattle.program.specs.declared.Variable.{Variable}
 use Rattle.program.proofs.Tests.{cases}

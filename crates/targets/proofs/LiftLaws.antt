@@ -1,4 +1,5 @@
 -- A rule lifts the aim of its head, and the aims that arrive.
+use Rattle.std.specs.Prelude.{Option, Some, None}
 use Prim.Native.Nat.{ℕ, ◌<◌}
 use mathlib.Core.Path.{◌≡◌, refl, sym, ap, ap₂, subst, ◌∙◌}
 use mathlib.Core.Bool.{Bool, true, false, not, cond}
@@ -15,8 +16,6 @@ use Rattle.program.specs.Variables.{not_past}
 use Rattle.program.specs.Readings.{Valuation, valued}
 use Rattle.program.specs.Evaluable.{Small}
 use Rattle.program.specs.declared.Counts.{Counts}
-use Rattle.program.specs.declared.Given.{Given}
-use Rattle.program.specs.declared.Given.TheVariants.{Nothing, Value}
 use Rattle.program.specs.declared.Variable.{Variable}
 use Rattle.program.proofs.Promises.{accepts_promises}
 use Rattle.program.proofs.Tests.{cases}
@@ -42,20 +41,20 @@ use Rattle.targets.proofs.RuleLaws.{rule_steady}
 use Rattle.targets.proofs.OpenLaws.{open_on, open_ends, first_from, all_short, aims_are, arrived_drawn}
 
 -- what is given where the aim z is lifted to a on the way to t
-record LiftedTo (x : Variable) (z t : ℤ) (g : Given) (a : ℤ) : Type 0 where
+record LiftedTo (x : Variable) (z t : ℤ) (g : Option ℤ) (a : ℤ) : Type 0 where
   given : ℤ
-  gives_it : g ≡ Value given
+  gives_it : g ≡ Some given
   enough : T (not_past x a given)
   on : T (not_past x z a)
   within : T (not_past x a t)
 
-lift_to_lem : (x : Variable) (z t : ℤ) (g : Given) → T (not_past x z t) → (lift_to x z t g ≡ z → ⊥) → LiftedTo x z t g (lift_to x z t g)
+lift_to_lem : (x : Variable) (z t : ℤ) (g : Option ℤ) → T (not_past x z t) → (lift_to x z t g ≡ z → ⊥) → LiftedTo x z t g (lift_to x z t g)
 unfolding lift_to later_of
-lift_to_lem x z t Nothing o f = absurd (f refl)
-lift_to_lem x z t (Value b) o f =
-    cases (not_past x t b) (λ u. (cond u t (cond (not_past x b z) z b) ≡ z → ⊥) → LiftedTo x z t (Value b) (cond u t (cond (not_past x b z) z b)))
+lift_to_lem x z t None o f = absurd (f refl)
+lift_to_lem x z t (Some b) o f =
+    cases (not_past x t b) (λ u. (cond u t (cond (not_past x b z) z b) ≡ z → ⊥) → LiftedTo x z t (Some b) (cond u t (cond (not_past x b z) z b)))
     (λ u f. record { given = b; gives_it = refl; enough = u; on = o; within = past_refl x t })
-    (λ u. cases (not_past x b z) (λ w. (cond w z b ≡ z → ⊥) → LiftedTo x z t (Value b) (cond w z b)) (λ w f. absurd (f refl))
+    (λ u. cases (not_past x b z) (λ w. (cond w z b ≡ z → ⊥) → LiftedTo x z t (Some b) (cond w z b)) (λ w f. absurd (f refl))
     (λ w f. record { given = b; gives_it = refl; enough = past_refl x b; on = past_total x z b w; within = past_total x b t u }))
     f
 
@@ -80,7 +79,7 @@ module _ {s : List ℕ} {P : Program} {R : Reckoning} {θ : Valuation} {offsets 
     few : head_of P i < max_variables
     few = omega (arith, ((accepts_promises k.reckons.accepts).rules i l).head_declared, (program_limited k.reckons.accepts).few_variables)
 
-    abbrev found : Given
+    abbrev found : Option ℤ
     found = estimated_by P (get_or masks i 0) cut strides stops others m aims i
 
     -- the aim, its target, and what it is lifted to
@@ -164,18 +163,18 @@ module _ {s : List ℕ} {P : Program} {R : Reckoning} {θ : Valuation} {offsets 
       drawn = arrived_drawn k.task.basis.reckons strides m target k.progress r before first zero f (same e)
 
 -- what rule r, whose head is h, is estimated to give
-abbrev estimate_of : List ℤ → ℕ → List ℤ → List ℤ → List ℤ → Variable → ℕ → Rule → Given
+abbrev estimate_of : List ℤ → ℕ → List ℤ → List ℤ → List ℤ → Variable → ℕ → Rule → Option ℤ
 estimate_of strides mask m others aims x h r =
     estimate x (stride_of strides h) (stride_at strides r.terms) r (reading_of mask m others r.terms) (reading_of mask aims others r.terms)
 
 -- ---- the ways of the tests
 
-module _ (x : Variable) (z t : ℤ) {g : Given} where
-  pub nothing_lifts : g ≡ Nothing → z ≡ lift_to x z t g
+module _ (x : Variable) (z t : ℤ) {g : Option ℤ} where
+  pub nothing_lifts : g ≡ None → z ≡ lift_to x z t g
   unfolding lift_to
   nothing_lifts e = rw e
 
-  module _ (b : ℤ) (e : g ≡ Value b) {q : Bool} (h : q ≡ not (not_past x t b)) where
+  module _ (b : ℤ) (e : g ≡ Some b) {q : Bool} (h : q ≡ not (not_past x t b)) where
     pub reached_lifts : not q ≡ true → t ≡ lift_to x z t g
     unfolding lift_to
     reached_lifts k = rw (e, sym (not_not (not_past x t b)) ∙ ap not (sym h) ∙ k)
@@ -191,7 +190,7 @@ module _ (P : Program) (mask : ℕ) (cut : Bool) (strides stops others m target 
   unfolding next_aim
   closed_next e = rw (← ex, ← eb, ← ez, ← et, e)
 
-  pub open_next : {a : ℤ} {f g : Given} → is_open cut x b z t ≡ true → a ≡ lift_to x z t g → g ≡ stopped cut x b mask f
+  pub open_next : {a : ℤ} {f g : Option ℤ} → is_open cut x b z t ≡ true → a ≡ lift_to x z t g → g ≡ stopped cut x b mask f
       → f ≡ estimate_of strides mask m others aims x (head_of P i) (rule_in P.rules i)
       → a ≡ next_aim P mask cut strides stops others m target aims i
   unfolding next_aim
@@ -199,7 +198,7 @@ module _ (P : Program) (mask : ℕ) (cut : Bool) (strides stops others m target 
 
 -- what the field's value is estimated to give, by the code's head
 pub estimate_here : {s : List ℕ} {P : Program} {i at : ℕ} → RuleStands s P i at → {v : List ℕ} → v ≡ value_at s at → (x : Variable) (mask : ℕ) (strides m aims others : List ℤ) {h : ℕ}
-    → h ≡ head_of P i → {g : Given} → g ≡ estimate_of strides mask m others aims x h (rule_of v) → g ≡ estimate_of strides mask m others aims x (head_of P i) (rule_in P.rules i)
+    → h ≡ head_of P i → {g : Option ℤ} → g ≡ estimate_of strides mask m others aims x h (rule_of v) → g ≡ estimate_of strides mask m others aims x (head_of P i) (rule_in P.rules i)
 estimate_here k q x mask strides m aims others p e =
     e ∙ ap₂ (estimate_of strides mask m others aims x) p (ap rule_of q ∙ sym (lies k).is)
 

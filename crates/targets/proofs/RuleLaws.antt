@@ -1,4 +1,5 @@
 -- What a rule is estimated to give, stopped where lifts stop, is steady: by the law of `steady`, for the positions that the tables say are read in the model.
+use Rattle.std.specs.Prelude.{Option, Some, None}
 use Prim.Native.Nat.{ℕ, zero, suc, ◌*◌, ◌<◌, ◌≤◌}
 use mathlib.Core.Path.{◌≡◌, refl, sym, ap, fun_ext, subst, ◌∙◌}
 use mathlib.Core.Logic.{◌⊎◌, inl, inr}
@@ -15,8 +16,6 @@ use Rattle.program.specs.Variables.{is_founded, swaps, ahead, not_past, in_range
 use Rattle.program.specs.Evaluate.{evaluate}
 use Rattle.program.specs.Readings.{Valuation, valued, body_variable, kept}
 use Rattle.program.specs.declared.Term.{Term}
-use Rattle.program.specs.declared.Given.{Given}
-use Rattle.program.specs.declared.Given.TheVariants.{Nothing, Value}
 use Rattle.program.specs.declared.Variable.{Variable}
 use Rattle.program.proofs.Promises.{accepts_promises}
 use Rattle.program.proofs.Tests.{cases}
@@ -50,10 +49,10 @@ listed_is (suc n) M past (suc v) = listed_is n (λ u. M (suc u)) (λ u l. past (
 -- ---- what stops is as steady
 
 -- g is given at the aims, h at the values
-abbrev NearBy : ℕ → Variable → Given → Given → Type 0
-NearBy n x g h = (b : ℤ) → g ≡ Value b → (a : ℤ) × (h ≡ Value a) × ShortBy n x b a
+abbrev NearBy : ℕ → Variable → Option ℤ → Option ℤ → Type 0
+NearBy n x g h = (b : ℤ) → g ≡ Some b → (a : ℤ) × (h ≡ Some a) × ShortBy n x b a
 
-value_is : {a b : ℤ} → ◌≡◌ {A = Given} (Value a) (Value b) → a ≡ b
+value_is : {a b : ℤ} → ◌≡◌ {A = (Option ℤ)} (Some a) (Some b) → a ≡ b
 value_is e = cc
 
 module _ (n : ℕ) (x : Variable) (stop : ℤ) where
@@ -72,18 +71,18 @@ module _ (n : ℕ) (x : Variable) (stop : ℤ) where
       second = cases (not_past x b stop) (λ t. ShortBy n x (cond t b stop) stop)
           (λ t. let h = past_ahead x b stop t in omega (int, h, sum_is (ahead x stop) (pos n))) (λ t. same_near stop)
 
-  stopped_near : (cut : Bool) (mask : ℕ) (g h : Given) → NearBy n x g h → NearBy n x (stopped cut x stop mask g) (stopped cut x stop mask h)
+  stopped_near : (cut : Bool) (mask : ℕ) (g h : Option ℤ) → NearBy n x g h → NearBy n x (stopped cut x stop mask g) (stopped cut x stop mask h)
   unfolding stopped cut_off
   stopped_near false mask g h k = k
   stopped_near true mask g h k = go (bit mask free_bit) g h k
     where
-      at_stop : NearBy n x (Value stop) (Value stop)
+      at_stop : NearBy n x (Some stop) (Some stop)
       at_stop b e = (stop, refl, subst (λ (z : ℤ). ShortBy n x z stop) (value_is e) (same_near stop))
 
-      go : (f : Bool) (g h : Given) → NearBy n x g h → NearBy n x (cond f (Value stop) (cut_off x stop g)) (cond f (Value stop) (cut_off x stop h))
+      go : (f : Bool) (g h : Option ℤ) → NearBy n x g h → NearBy n x (cond f (Some stop) (cut_off x stop g)) (cond f (Some stop) (cut_off x stop h))
       go true g h k b e = at_stop b e
-      go false Nothing h k b e = let z : ◌≡◌ {A = ℕ} 0 1 = cc in absurd (omega arith)
-      go false (Value c) h k b e =
+      go false None h k b e = let z : ◌≡◌ {A = ℕ} 0 1 = cc in absurd (omega arith)
+      go false (Some c) h k b e =
           let r = k c refl in
           let a = r.0 in
           (cond (not_past x a stop) a stop, ap (cut_off x stop) r.1, subst (λ (z : ℤ). ShortBy n x z (cond (not_past x a stop) a stop)) (value_is e) (cut_near c a r.2))
@@ -181,7 +180,7 @@ module _ {s : List ℕ} {P : Program} {R : Reckoning} {θ : Valuation} {offsets 
             })
 
     -- what is found at the values is near to the estimate
-    found_near : (b : ℤ) → estimated_by P mask cut strides stops others m aims i ≡ Value b → GivesNear (reckoned P R) (stride_of strides) θ (valued to) i n b
+    found_near : (b : ℤ) → estimated_by P mask cut strides stops others m aims i ≡ Some b → GivesNear (reckoned P R) (stride_of strides) θ (valued to) i n b
     found_near b e =
         let h = rule.head in
         let x = variable_in vs h in
@@ -195,7 +194,7 @@ module _ {s : List ℕ} {P : Program} {R : Reckoning} {θ : Valuation} {offsets 
           near = rw (narrows_ahead k.narrows h b, narrows_ahead k.narrows h r.0) r.2;
         }
 
-  pub rule_steady : (b : ℤ) → estimated_by P mask cut strides stops others m aims i ≡ Value b → Steady (reckoned P R) (stride_of strides) θ (valued m) (valued aims) i b
+  pub rule_steady : (b : ℤ) → estimated_by P mask cut strides stops others m aims i ≡ Some b → Steady (reckoned P R) (stride_of strides) θ (valued m) (valued aims) i b
   rule_steady b e n M f near = subst (λ (N : Valuation). GivesNear (reckoned P R) (stride_of strides) θ N i n b) is (found_near n (listed M (length vs)) (rw (sym is) at f) (rw (sym is) at near) b e)
     where
       is : valued (listed M (length vs)) ≡ M

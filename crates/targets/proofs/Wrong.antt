@@ -1,4 +1,5 @@
 -- Small systems, and wrong statements of targets, each refuted by one of them.
+use Rattle.std.specs.Prelude.{Option, Some}
 use Prim.Native.Nat.{ℕ, zero, suc, ◌+◌, ◌*◌, ◌/◌, ◌≤◌}
 use mathlib.Core.Path.{◌≡◌, refl}
 use mathlib.Core.Logic.{◌⊎◌, inl, inr}
@@ -10,8 +11,6 @@ use lib.Signed.{◌≤ℤ◌, le_z_yes}
 use Rattle.format.proofs.Int.{int, sum_is}
 use Rattle.program.specs.Variables.{ahead, in_range}
 use Rattle.program.specs.Readings.{Valuation}
-use Rattle.program.specs.declared.Given.{Given}
-use Rattle.program.specs.declared.Given.TheVariants.{Value}
 use Rattle.program.specs.declared.Variable.{Variable}
 use Rattle.program.proofs.Examples.{computes}
 use Rattle.program.proofs.Variables.{low_in_is, high_in_is, start_first}
@@ -29,10 +28,10 @@ abbrev everywhere : ℤ → Valuation
 everywhere a v = a
 
 -- a rule for each variable
-abbrev system : (ℕ → Valuation → Given) → System
+abbrev system : (ℕ → Valuation → Option ℤ) → System
 system gives = record { variable = λ v. ranged; Rule = ℕ; In = λ r. Unit {0}; head = λ r. r; occurs = λ r v d. ⊥; gives = λ r M θ. gives r M }
 
-module _ (gives : ℕ → Valuation → Given) where
+module _ (gives : ℕ → Valuation → Option ℤ) where
   within : (a : ℤ) → T (in_range ranged a) → Within (system gives) (everywhere a)
   within a t = record { inside = λ v. t }
 
@@ -68,8 +67,8 @@ partner (suc zero) = 0
 partner (suc (suc v)) = suc (suc v)
 
 -- x0 ≥ x1 and x1 ≥ x0
-abbrev circle : ℕ → Valuation → Given
-circle r M = Value (M (partner r))
+abbrev circle : ℕ → Valuation → Option ℤ
+circle r M = Some (M (partner r))
 
 circle_at_zero : Model (system circle) (everywhere (pos 0)) (everywhere (pos 0))
 unfolding computes
@@ -106,8 +105,8 @@ DrawnByOne = (𝒮 : System) (θ m T' A₀ : Valuation) → Progress 𝒮 θ m �
     → ((M : Valuation) → Model 𝒮 θ M → AllShort 𝒮 (λ v. 2) N M A₀) → Floor 𝒮 θ T'
 
 -- the next even number
-abbrev even : ℕ → Valuation → Given
-even r M = Value (pos (2 * ((nat_abs (M r) + 1) / 2)))
+abbrev even : ℕ → Valuation → Option ℤ
+even r M = Some (pos (2 * ((nat_abs (M r) + 1) / 2)))
 
 even_at_zero : Model (system even) (everywhere (pos 0)) (everywhere (pos 0))
 unfolding computes

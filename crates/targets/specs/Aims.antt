@@ -1,11 +1,9 @@
 -- What the code finds of targets, in lists of values: which are open, the aims at first, and how values become their targets.
-use Rattle.std.specs.Prelude.{ℕ, ◌<◌, ◌≡◌, ◌⊎◌, Bool, true, not, cond, ◌&&◌, ◌||◌, List, ℤ, pos, ◌+ℤ◌, ◌-ℤ◌}
+use Rattle.std.specs.Prelude.{ℕ, ◌<◌, ◌≡◌, ◌⊎◌, Bool, true, not, cond, ◌&&◌, ◌||◌, List, ℤ, pos, ◌+ℤ◌, ◌-ℤ◌, Option, Some, None}
 use Rattle.program.specs.Program.{Program, variable_in, rule_in}
 use Rattle.program.specs.Variables.{is_founded, swaps, far, not_past}
 use Rattle.program.specs.Readings.{Valuation, valued}
 use Rattle.program.specs.declared.Variable.{Variable}
-use Rattle.program.specs.declared.Given.{Given}
-use Rattle.program.specs.declared.Given.TheVariants.{Nothing, Value}
 use Rattle.bodies.specs.Readings.{reading_of}
 use Rattle.meaning.specs.Founded.{AtOrBefore}
 use Rattle.meaning.specs.Reduct.{Reckoning, reckoned}
@@ -14,6 +12,7 @@ use Rattle.steady.specs.Estimate.{estimate}
 use Rattle.steady.specs.Strides.{stride_of, stride_at}
 use Rattle.targets.specs.Targets.{Justified}
 use Rattle.run.specs.Running.{head_of, stopped, Reckons, RaisedTo, Unchanged, Running}
+use Rattle.run.specs.declared.Source.{Source}
 
 -- the target t of a founded variable x that has z is open: it comes after z, and is no further than the far end, nor than the stop where lifts stop
 unfoldable pub is_open : Bool → Variable → ℤ → ℤ → ℤ → Bool
@@ -36,7 +35,7 @@ abbrev pub first_aims : List Variable → Bool → List ℤ → List ℤ → Lis
 first_aims vs cut strides stops m target v = first_aim cut (variable_in vs v) (stride_of strides v) (valued stops v) (valued m v) (valued target v)
 
 -- what rule i is estimated to give on the way from m to the aims, where lifts stop at `stops`
-abbrev pub estimated_by : Program → ℕ → Bool → List ℤ → List ℤ → List ℤ → List ℤ → List ℤ → ℕ → Given
+abbrev pub estimated_by : Program → ℕ → Bool → List ℤ → List ℤ → List ℤ → List ℤ → List ℤ → ℕ → Option ℤ
 estimated_by P mask cut strides stops others m aims i =
     let r = rule_in P.rules i in
     let x = variable_in P.variables r.head in
@@ -44,9 +43,9 @@ estimated_by P mask cut strides stops others m aims i =
     (estimate x (stride_of strides r.head) (stride_at strides r.terms) r (reading_of mask m others r.terms) (reading_of mask aims others r.terms))
 
 -- the aim z of x lifted to what is given, but no further than the target t; or z, where what is given does not come after it
-unfoldable pub lift_to : Variable → ℤ → ℤ → Given → ℤ
-lift_to x z t Nothing = z
-lift_to x z t (Value b) = cond (not_past x t b) t (later_of x z b)
+unfoldable pub lift_to : Variable → ℤ → ℤ → Option ℤ → ℤ
+lift_to x z t None = z
+lift_to x z t (Some b) = cond (not_past x t b) t (later_of x z b)
 
 -- the aim of the head of rule i after the rule has lifted it, where its target is open
 unfoldable pub next_aim : Program → ℕ → Bool → List ℤ → List ℤ → List ℤ → List ℤ → List ℤ → List ℤ → ℕ → ℤ
@@ -79,6 +78,13 @@ pub record SomeAims (s offsets masks : List ℕ) (others stops : List ℤ) (cut 
 abbrev pub AimsKept : List ℕ → List ℕ → List ℕ → List ℤ → List ℤ → Bool → List ℤ → List ℤ → List ℤ → List ℤ → Type 0
 AimsKept s offsets masks others stops cut strides m aims aims⁺ =
     (P : Program) (R : Reckoning) (θ A₀ : Valuation) → Aiming s P R θ offsets masks others stops cut strides m A₀ aims → Aiming s P R θ offsets masks others stops cut strides m A₀ aims⁺
+
+-- the same, said of what the run reads
+abbrev pub SomeAimsBy : Source → List ℤ → List ℤ → List ℤ → Type 0
+SomeAimsBy q strides m aims = SomeAims q.file.now q.offsets.now q.masks.now q.others.now q.stops.now q.cut strides m aims
+
+abbrev pub AimsKeptBy : Source → List ℤ → List ℤ → List ℤ → List ℤ → Type 0
+AimsKeptBy q strides m aims aims⁺ = AimsKept q.file.now q.offsets.now q.masks.now q.others.now q.stops.now q.cut strides m aims aims⁺
 
 -- variable v gets the value t, and its readers join the set where that is another value
 abbrev pub PlacedAt : List ℕ → ℕ → ℤ → List ℤ → List ℤ → List ℕ → List ℕ → Type 0

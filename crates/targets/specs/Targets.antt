@@ -1,9 +1,8 @@
 -- Targets on the way to the least model. The aims are the targets drawn back at first, each by the stride of its variable, and rules lift them; where every aim is its
 -- target, every model is at or after the targets (law `target_floor`). m are the values reached, which every model is at or after.
-use Rattle.std.specs.Prelude.{ℕ, ◌*◌, ◌≡◌, ◌⊎◌, not, T, ℤ, pos, ◌+ℤ◌}
+use Rattle.std.specs.Prelude.{ℕ, ◌*◌, ◌≡◌, ◌⊎◌, not, T, ℤ, pos, ◌+ℤ◌, Some}
 use Rattle.program.specs.Variables.{is_founded, ahead}
 use Rattle.program.specs.Readings.{Valuation}
-use Rattle.program.specs.declared.Given.TheVariants.{Value}
 use Rattle.meaning.specs.Founded.{System, AtOrBefore, Within, Model}
 use Rattle.steady.specs.Short.{ShortBy}
 
@@ -24,7 +23,7 @@ module _ (𝒮 : System) where
     -- what rule r gives at M is at most n strides of its head short of b
     pub record GivesNear (θ M : Valuation) (r : Rule) (n : ℕ) (b : ℤ) : Type 0 where
       pub given : ℤ
-      pub gives_it : gives r M θ ≡ Value given
+      pub gives_it : gives r M θ ≡ Some given
       pub near : ShortBy (n * stride (head r)) (variable (head r)) b given
 
     -- what rule r gives is no more strides short of b than the values are of A

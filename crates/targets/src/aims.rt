@@ -10,6 +10,7 @@ ghost use Rattle.targets.specs.Aims.{is_open, drawn_back, later_of, first_aim, f
 use format::Format;
 use parts::variables;
 use program::Variable;
+use run::Source;
 use steady::strides::stride_by;
 
 // Whether the target of x, which has this value, comes after it, no further than the far end, nor than the stop where lifts stop.
@@ -54,46 +55,40 @@ fn first_aim(x: Variable, cut: bool, stop: i64, value: i64, target: i64, stride:
 
 // The first aim of variable v of a file.
 fn aim_at(
-    file: &[u8],
-    variables: usize,
+    source: &Source,
     v: usize,
     model: &[i64; Format::MAX_VARIABLES],
-    stops: &[i64; Format::MAX_VARIABLES],
-    cut: bool,
     target: &[i64; Format::MAX_VARIABLES],
     strides: &[i64; Format::MAX_VARIABLES],
 ) -> i64
-    requires variables_in_bounds { (8 * variables ≤ length file.now) × (variables ≤ max_variables) }
-    requires v_lt_variables { (v < variables) × Small model.now }
-    ensures { result ≡ first_aims (variables_at file.now variables) cut strides.now stops.now model.now target.now v }
+    requires variables_in_bounds { (8 * source.now.counts.variables ≤ length source.now.file.now) × (source.now.counts.variables ≤ max_variables) }
+    requires v_lt_variables { (v < source.now.counts.variables) × Small model.now }
+    ensures { result ≡ first_aims (variables_at source.now.file.now source.now.counts.variables) source.now.cut strides.now source.now.stops.now model.now target.now v }
 {
     let value = model[v];
-    let stop = stops[v];
+    let stop = source.stops[v];
     let goal = target[v];
     let number = strides[v];
-    let x = variables::variable(file, v as u8);
-    first_aim(x, cut, stop, value, goal, stride_by(number))
+    let x = variables::variable(source.file, v as u8);
+    first_aim(x, source.cut, stop, value, goal, stride_by(number))
 }
 
 // The first aims of the variables.
 pub fn draw_back(
-    file: &[u8],
-    variables: usize,
+    source: &Source,
     model: &[i64; Format::MAX_VARIABLES],
-    stops: &[i64; Format::MAX_VARIABLES],
-    cut: bool,
     target: &[i64; Format::MAX_VARIABLES],
     strides: &[i64; Format::MAX_VARIABLES],
     aims: &mut [i64; Format::MAX_VARIABLES],
 )
-    requires variables_in_bounds { (8 * variables ≤ length file.now) × (variables ≤ max_variables) }
+    requires variables_in_bounds { (8 * source.now.counts.variables ≤ length source.now.file.now) × (source.now.counts.variables ≤ max_variables) }
     requires aims_len { (length aims.old ≡ max_variables) × Small model.now }
     ensures aims_len_2 { length aims.new ≡ max_variables }
-    ensures filled { Filled (first_aims (variables_at file.now variables) cut strides.now stops.now model.now target.now)
-        variables aims.old aims.new }
+    ensures filled { Filled (first_aims (variables_at source.now.file.now source.now.counts.variables) source.now.cut strides.now source.now.stops.now model.now target.now)
+        source.now.counts.variables aims.old aims.new }
 {
-    for v in 0..variables {
-        let aim = aim_at(file, variables, v, model, stops, cut, target, strides);
+    for v in 0..source.counts.variables {
+        let aim = aim_at(source, v, model, target, strides);
         aims[v] = aim;
     }
 }
@@ -107,14 +102,5 @@ pub fn arrived(
     requires { variables ≤ max_variables }
     ensures { SameIf variables aims.now target.now result }
 {
-    let mut v = 0;
-    while v < variables {
-        let aim = aims[v];
-        let goal = target[v];
-        if aim != goal {
-            return false;
-        }
-        v += 1;
-    }
-    true
+    aims[..variables] == target[..variables]
 }

@@ -5,34 +5,37 @@ ghost use Rattle.std.specs.Prelude.{◌≡◌, length, IfOk, OnErr};
 ghost use Rattle.telling.specs.Counts.{Counts};
 
 use packing::{Parts, Word};
-use std::io;
 use std::io::{Read, Write};
+use std::{fmt, io};
 
-pub fn text<W: Write>(out: &mut W, s: &[u8]) -> io::Result<()> {
-    out.write_all(s)
-}
+// An answer as it is printed: by its word and numbers.
+#[derive(Clone, Copy)]
+pub struct Told(pub Parts);
 
-// A number in decimal digits.
-pub fn print_decimal<W: Write>(out: &mut W, n: u64) -> io::Result<()> {
-    write!(out, "{n}")
-}
-
-// A number in hexadecimal digits, so many at the least.
-pub fn print_hex<W: Write>(out: &mut W, n: u64, digits: usize) -> io::Result<()> {
-    write!(out, "{n:0digits$x}")
-}
-
-// A word, a space and a number.
-pub fn say<W: Write>(out: &mut W, word: &[u8], n: usize) -> io::Result<()> {
-    text(out, word)?;
-    text(out, b" ")?;
-    print_decimal(out, n as u64)
-}
-
-// A word and two numbers.
-fn say_two<W: Write>(out: &mut W, word: &[u8], n: usize, k: usize) -> io::Result<()> {
-    say(out, word, n)?;
-    say(out, b"", k)
+impl fmt::Display for Told {
+    fn fmt<W: fmt::Write>(&self, f: &mut fmt::Formatter<W>) -> fmt::Result {
+        let Parts {
+            word,
+            first,
+            second,
+            third,
+        } = self.0;
+        match word {
+            Word::STABLE => write!(f, ": stable"),
+            Word::UNFOUNDED => write!(f, ": unfounded {first} {second}"),
+            Word::CONSTRAINT => write!(f, ": constraint {first}"),
+            Word::RULE => write!(f, ": rule {first}"),
+            Word::RANGE => write!(f, ": range {first}"),
+            Word::REFUSED => write!(f, ": refused {first} {second}"),
+            Word::ACCEPTED => write!(f, ": accepted {first} {second} {third}"),
+            Word::FOUND => write!(f, ": found"),
+            Word::NONE => write!(f, ": none"),
+            Word::WRITTEN => write!(f, ": written {}", length_told(self.0)),
+            Word::BEGUN => write!(f, ": begun {first}"),
+            Word::BOUNDED => write!(f, ": bounded"),
+            _ => write!(f, ": no such word"),
+        }
+    }
 }
 
 // The word and the numbers of an answer that is packed as include/founded.h says.
@@ -50,45 +53,15 @@ pub fn length_told(answer: Parts) -> usize {
     answer.first % 65536 + answer.second % 65536 * 65536
 }
 
-// An answer, by its word and numbers.
-pub fn tell<W: Write>(out: &mut W, answer: Parts) -> io::Result<()> {
-    let word = answer.word;
-    match word {
-        Word::STABLE => text(out, b": stable"),
-        Word::UNFOUNDED => say_two(out, b": unfounded", answer.first, answer.second),
-        Word::CONSTRAINT => say(out, b": constraint", answer.first),
-        Word::RULE => say(out, b": rule", answer.first),
-        Word::RANGE => say(out, b": range", answer.first),
-        Word::REFUSED => say_two(out, b": refused", answer.first, answer.second),
-        Word::ACCEPTED => {
-            say_two(out, b": accepted", answer.first, answer.second)?;
-            say(out, b"", answer.third)
-        }
-        Word::FOUND => text(out, b": found"),
-        Word::NONE => text(out, b": none"),
-        Word::WRITTEN => say(out, b": written", length_told(answer)),
-        Word::BEGUN => say(out, b": begun", answer.first),
-        Word::BOUNDED => text(out, b": bounded"),
-        _ => text(out, b": no such word"),
-    }
-}
-
-// An answer and the line's end.
-pub fn tell_line<W: Write>(out: &mut W, answer: Parts) -> io::Result<()> {
-    tell(out, answer)?;
-    text(out, b"\n")
-}
-
 // The text of n bytes that an output holds; of a text that is longer than the output its length and what the output holds.
 pub fn printed<W: Write>(out: &mut W, output: &[u8], n: usize) -> io::Result<()> {
     if n <= output.len() {
-        text(out, b":\n")?;
-        text(out, &output[0..n])
+        writeln!(out, ":")?;
+        out.write_all(&output[..n])
     } else {
-        say(out, b":", n)?;
-        text(out, b" ")?;
-        text(out, output)?;
-        text(out, b"\n")
+        write!(out, ": {n} ")?;
+        out.write_all(output)?;
+        writeln!(out)
     }
 }
 
@@ -131,6 +104,6 @@ pub fn taken<R: Read, W: Write>(input: &mut R, out: &mut W, table: &mut [u8]) ->
     if n < table.len() {
         return Ok(n);
     }
-    text(out, b"the table is too long\n")?;
+    writeln!(out, "the table is too long")?;
     Ok(0)
 }

@@ -24,8 +24,8 @@ pub fn put_word(output: &mut [u8], at: usize, word: &[u8]) -> usize
     ensures { Appends word.now at result output.old output.new }
 {
     let mut next = at;
-    for i in 0..word.len() {
-        next = put(output, next, word[i]);
+    for &byte in word {
+        next = put(output, next, byte);
     }
     next
 }

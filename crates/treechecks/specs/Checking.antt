@@ -1,13 +1,12 @@
 -- What the code finds of a field of tag 5, up to refusal 11.
-use Rattle.std.specs.Prelude.{ℕ, ◌+◌, ◌≡◌, Bool, true, false, List, length}
+use Rattle.std.specs.Prelude.{ℕ, ◌+◌, ◌≡◌, Bool, true, false, List, length, Result, Ok, Err}
 use Rattle.program.specs.Program.{rule}
 use Rattle.program.specs.Refusals.{undeclared, variable_twice}
 use Rattle.meaning.specs.Calls.{denial_number, denial_place}
 use Rattle.nested.specs.Nested.{Rooted, Nested, malformed, treed, treed_of}
 use Rattle.nested.specs.Flatten.{added_by}
 use Rattle.nested.specs.TreeRefusals.{body_of, variables_added, rules_added, tree_too_many, treed_refusal}
-use Rattle.treechecks.specs.declared.Checking.{Checking}
-use Rattle.treechecks.specs.declared.Checking.TheVariants.{Fine, Bad}
+use Rattle.meaning.specs.declared.Denied.{Denied}
 
 -- whether the value is a head and a tree
 pub data Shapes (v : List ℕ) : Bool → Type 0 where
@@ -28,6 +27,6 @@ pub record Sound (N : Nested) (v : List ℕ) (added : ℕ) : Type 0 where
   pub once : variable_twice (rule (body_of rooted)) ≡ false
   pub adds : added ≡ added_by rooted
 
-abbrev pub Checks : Nested → List ℕ → ℕ → Checking → Type 0
-Checks N v at (Fine added) = Sound N v added
-Checks N v at (Bad why) = (denial_number why ≡ treed_refusal N (treed_of v)) × (denial_place why ≡ at)
+abbrev pub Checks : Nested → List ℕ → ℕ → Result ℕ Denied → Type 0
+Checks N v at (Ok added) = Sound N v added
+Checks N v at (Err why) = (denial_number why ≡ treed_refusal N (treed_of v)) × (denial_place why ≡ at)

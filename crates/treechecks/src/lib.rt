@@ -10,18 +10,11 @@ ghost use Rattle.nested.specs.Flatten.{added_by};
 ghost use Rattle.nested.specs.TreeRefusals.{body_of};
 ghost use Rattle.treechecks.specs.Checking.{Shapes, Sizes, Checks};
 
-use descent::{End, Limits, node};
+use descent::{Limits, node};
 use format::Format;
 use meaning::Denied;
 use program::Refusal;
 use values::is_wrong_head;
-
-// That a tree is fine so far, with the variables that it adds, or why it is not.
-#[derive(Drop)]
-pub enum Checking {
-    Fine(usize),
-    Bad(Denied),
-}
 
 // Whether a value is a head and one tree, to the last byte.
 fn is_well_formed(value: &[u8]) -> bool
@@ -30,7 +23,7 @@ fn is_well_formed(value: &[u8]) -> bool
     if value.len() == 0 {
         return false;
     }
-    let End::At(end) = node(value, 1, Limits::LEVELS) else {
+    let Some(end) = node(value, 1, Limits::LEVELS) else {
         return false;
     };
     end == value.len()
@@ -84,23 +77,23 @@ pub fn check_tree(
     at: usize,
     variables: usize,
     rules: usize,
-) -> Checking
+) -> Result<usize, Denied>
     requires n_in_bounds { (8 * n ≤ length file.now) × (length value.now ≤ max_file) }
     requires variables_le_max_variables { (variables ≤ max_variables) × (rules ≤ max_rules) }
     ensures { (N : Nested) → N.plain.variables ≡ variables_at file.now n → Sizes N variables rules → Checks N value.now at result }
 {
     if !is_well_formed(value) {
-        return Checking::Bad(Denied::Tree(at));
+        return Err(Denied::Tree(at));
     }
     let added = added_by(value);
     if is_too_many(variables, rules, added) {
-        return Checking::Bad(Denied::File(Refusal::OneTooMany, at));
+        return Err(Denied::File(Refusal::OneTooMany, at));
     }
     if is_undeclared(file, n, value) {
-        return Checking::Bad(Denied::File(Refusal::Undeclared, at));
+        return Err(Denied::File(Refusal::Undeclared, at));
     }
     if is_twice(value) {
-        return Checking::Bad(Denied::File(Refusal::VariableTwice, at));
+        return Err(Denied::File(Refusal::VariableTwice, at));
     }
-    Checking::Fine(added)
+    Ok(added)
 }

@@ -7,24 +7,24 @@ use founded::{
     founded_bounds, founded_check, founded_flatten, founded_least, founded_normalize, founded_read,
 };
 use listing::list;
-use parsing::{AGAIN, Line, PLAIN};
+use parsing::{Case, Line};
 use printing::print;
 
-// What the call for a letter answers: a packed answer, or how many bytes the text has. The second bytes are an assignment, lent ranges, or the file
+// What the call for a case answers: a packed answer, or how many bytes the text has. The second bytes are an assignment, lent ranges, or the file
 // that is said to be written.
-fn answered(letter: u8, file: &[u8], second: &[u8], lent: &mut [u8]) -> u64 {
-    match letter {
-        b'r' => founded_read(file),
-        b'l' => founded_least(file, second, lent),
-        b'c' => founded_check(file, second, lent),
-        b'h' => founded_bounds(file, second, lent),
-        b'n' => founded_normalize(file, lent),
-        AGAIN => founded_normalize(second, lent),
-        b'f' => founded_flatten(file, lent),
-        PLAIN => founded_flatten(second, lent),
-        b'p' | b's' => print(file, lent) as u64,
-        b'm' | b't' => list(file, lent) as u64,
-        _ => 0,
+fn answered(case: Case, file: &[u8], second: &[u8], lent: &mut [u8]) -> u64 {
+    match case {
+        Case::Read => founded_read(file),
+        Case::Least => founded_least(file, second, lent),
+        Case::Check => founded_check(file, second, lent),
+        Case::Bounds => founded_bounds(file, second, lent),
+        Case::Normalize => founded_normalize(file, lent),
+        Case::NormalizeAgain => founded_normalize(second, lent),
+        Case::Flatten => founded_flatten(file, lent),
+        Case::FlattenAgain => founded_flatten(second, lent),
+        Case::Print | Case::PrintShort => print(file, lent) as u64,
+        Case::List | Case::ListShort => list(file, lent) as u64,
+        Case::Begin | Case::Beginning | Case::Comment | Case::Bad => 0,
     }
 }
 
@@ -40,8 +40,8 @@ pub fn tried(room: &mut [u8], bytes: &[u8], line: Line) -> u64
     let from = line.from;
     let to = line.to;
     answered(
-        line.letter,
-        &bytes[0..file],
+        line.case,
+        &bytes[..file],
         &bytes[file..all],
         &mut room[from..to],
     )

@@ -4,11 +4,9 @@
 ghost use Rattle.std.specs.Prelude.{◌≤◌, length};
 ghost use Rattle.unnesting.specs.Unnests.{room, Unnested};
 
-use calls::{denial_number, denial_place};
 use flattening::flatten;
 use format::Format;
-use lines::put_two;
-use normal::Rewriting;
+use lines::put_refused;
 
 // The text for an input, from the output's first byte on; answers how many bytes the text has. The bytes after it keep their values. The call is lent as many
 // bytes as the longest file has.
@@ -17,11 +15,7 @@ pub fn unnest(input: &[u8], output: &mut [u8]) -> usize
     ensures { Unnested input.now output.old result output.new }
 {
     match flatten(input, &mut output[..Format::MAX_FILE]) {
-        Rewriting::Refused(why) => {
-            let number = denial_number(why);
-            let place = denial_place(why);
-            put_two(output, b"refused ", number, place)
-        }
-        Rewriting::Written(n) => n,
+        Err(why) => put_refused(output, why),
+        Ok(n) => n,
     }
 }

@@ -1,4 +1,5 @@
 -- Components, and what rows say of them.
+use Rattle.std.specs.Prelude.{Option, Some, None}
 use Prim.Native.Nat.{ℕ, zero, suc, ◌+◌, ◌-◌, ◌*◌, ◌/◌, ◌%◌, ◌<◌, ◌≤◌}
 use mathlib.Core.Path.{◌≡◌, refl, sym, ap, ap₂, ◌∙◌, subst}
 use mathlib.Core.Logic.{◌↔◌, ◌⊎◌, inl, inr}
@@ -38,8 +39,6 @@ use Rattle.sharing.specs.Sharing.{share_in}
 use Rattle.sharing.proofs.Firsts.{SharesIn, shares_told, shares_tested}
 use Rattle.edges.specs.Edges.{Grown, any_mixed, draws_at, draws_in, offends_at, offends_in}
 use Rattle.validity.specs.Marks.{draws_by, offends_by, acts_on, acting_variable, edge_in, offends_rule, JudgedBy}
-use Rattle.validity.specs.declared.Outcome.{Outcome}
-use Rattle.validity.specs.declared.Outcome.TheVariants.{Valid, Offending}
 use Rattle.validity.proofs.RuleLaws.{counted_variables, variables_few, rule_stands, rule_is, rule_promise}
 use Rattle.program.specs.declared.Variable.{Variable}
 
@@ -288,9 +287,9 @@ module _ {s : List ℕ} {k : Counts} (c : Counted s k) where
       pub offends_row : offends_rule t s k i ≡ false → Offends P i → ⊥
       offends_row e = offends_test (passed_promises c.whole.passed) tells i among (sym row_test ∙ e)
 
-    outcome_is_by : (r : Outcome) → JudgedBy t s k r → Judges s c.fields r
-    outcome_is_by Valid h = λ i o. let l : i < k.rules = rw c.describes.rules_are at o.among in offends_row i l (h i l) o
-    outcome_is_by (Offending at) f =
+    outcome_is_by : (r : Option ℕ) → JudgedBy t s k r → Judges s c.fields r
+    outcome_is_by None h = λ i o. let l : i < k.rules = rw c.describes.rules_are at o.among in offends_row i l (h i l) o
+    outcome_is_by (Some at) f =
         let r = rule_stands c f.rule f.among in
         record {
           field = k.variables + f.rule;
@@ -305,9 +304,9 @@ module _ {s : List ℕ} {k : Counts} (c : Counted s k) where
         }
 
   -- the answers, whatever number of fields the file is said to have
-  pub outcome_is_idle : {p : ℕ → Bool} → ((v : ℕ) → p v ≡ acting_variable s k v) → NoneIn p 0 max_variables → (n : ℕ) → Whole s n → Judges s n Valid
+  pub outcome_is_idle : {p : ℕ → Bool} → ((v : ℕ) → p v ≡ acting_variable s k v) → NoneIn p 0 max_variables → (n : ℕ) → Whole s n → Judges s n None
   outcome_is_idle acting none n w =
-      subst (λ (n : ℕ). Judges s n Valid) (whole_unique c.whole w) (none_acting (λ v h. sym (acting v) ∙ none v (omega arith) h))
+      subst (λ (n : ℕ). Judges s n None) (whole_unique c.whole w) (none_acting (λ v h. sym (acting v) ∙ none v (omega arith) h))
 
   -- no row has anything, then the edges are marked
   pub marked_edges : {t₀ t : ℕ → ℕ → Bool} → ((a b : ℕ) → t₀ a b ≡ false) → Grown t₀ t (edge_in s k) → (a b : ℕ) → a < max_variables → b < max_variables
@@ -325,7 +324,7 @@ module _ {s : List ℕ} {k : Counts} (c : Counted s k) where
     rows_tell (inr h) =
         closed_tells (passed_promises c.whole.passed) file_few (marked_edges z g) h (λ i l acts j h m. acting _ ∙ acting_in i l acts j h m)
 
-    pub outcome_is : (r : Outcome) → Rounds t₁ t k.variables ⊎ Closed t₁ t k.variables p → JudgedBy t s k r → (n : ℕ) → Whole s n → Judges s n r
+    pub outcome_is : (r : Option ℕ) → Rounds t₁ t k.variables ⊎ Closed t₁ t k.variables p → JudgedBy t s k r → (n : ℕ) → Whole s n → Judges s n r
     outcome_is r h j n w =
         let many = subst (λ (m : ℕ). Rounds t₁ t m ⊎ Closed t₁ t m p) (sym (counted_variables c)) h in
         subst (λ (n : ℕ). Judges s n r) (whole_unique c.whole w) (outcome_is_by (rows_tell many) r j)

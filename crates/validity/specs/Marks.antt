@@ -1,5 +1,5 @@
 -- What the code finds of the rules of a file, rows being a test of two variables.
-use Rattle.std.specs.Prelude.{ℕ, ◌+◌, ◌<◌, ◌≡◌, List, Bool, true, false, not, ◌&&◌, eqb}
+use Rattle.std.specs.Prelude.{ℕ, ◌+◌, ◌<◌, ◌≡◌, List, Bool, true, false, not, ◌&&◌, eqb, Option, Some, None}
 use Rattle.program.specs.Tables.{any_below}
 use Rattle.program.specs.Fields.{value_at, place}
 use Rattle.program.specs.Program.{Rule, rule_of, variables_at}
@@ -8,8 +8,6 @@ use Rattle.program.specs.Readings.{body_variable}
 use Rattle.program.specs.declared.Counts.{Counts}
 use Rattle.program.specs.declared.Variable.{Variable}
 use Rattle.edges.specs.Edges.{any_mixed, draws_in, offends_in}
-use Rattle.validity.specs.declared.Outcome.{Outcome}
-use Rattle.validity.specs.declared.Outcome.TheVariants.{Valid, Offending}
 
 -- ---- one rule, vs being the file's variables: an idle one draws nothing and does not offend
 
@@ -57,6 +55,6 @@ pub record FoundAt (t : ℕ → ℕ → Bool) (s : List ℕ) (k : Counts) (at : 
   pub first : (j : ℕ) → j < rule → offends_rule t s k j ≡ false
   pub placed : at ≡ place s (k.variables + rule)
 
-abbrev pub JudgedBy : (ℕ → ℕ → Bool) → List ℕ → Counts → Outcome → Type 0
-JudgedBy t s k Valid = (i : ℕ) → i < k.rules → offends_rule t s k i ≡ false
-JudgedBy t s k (Offending at) = FoundAt t s k at
+abbrev pub JudgedBy : (ℕ → ℕ → Bool) → List ℕ → Counts → Option ℕ → Type 0
+JudgedBy t s k None = (i : ℕ) → i < k.rules → offends_rule t s k i ≡ false
+JudgedBy t s k (Some at) = FoundAt t s k at

@@ -17,14 +17,6 @@ use format::Format;
 use program::Counts;
 use reach::{Rows, close, close_rows};
 use sets::Set;
-use words::Found;
-
-// That a file is valid, or the place of its first rule that offends.
-#[derive(Drop)]
-pub enum Outcome {
-    Valid,
-    Offending(usize),
-}
 
 // The rows of the set's variables hold what these reach over one edge or more. If the set has over an eighth of the variables, all rows are closed by
 // rounds: where the variables are one ring that takes less time.
@@ -43,13 +35,13 @@ fn close_for(rows: &mut [u64], variables: usize, of: Set)
 }
 
 // A file whose fields passed, with its counts.
-pub fn judge(file: &[u8], counts: Counts) -> Outcome
+pub fn judge(file: &[u8], counts: Counts) -> Option<usize>
     requires { Counted file.now counts }
     ensures { (k : ℕ) → Whole file.now k → Judges file.now k result }
 {
     let acting = rules::acting_variables(file, counts);
-    if let Found::Nothing = acting.next(0) {
-        return Outcome::Valid;
+    if let None = acting.next(0) {
+        return None;
     }
     let n = counts.variables;
     let mut rows = [0u64; Rows::LENGTH];

@@ -12,7 +12,6 @@ ghost use Rattle.edges.specs.Edges.{Grown, any_mixed};
 ghost use Rattle.idleness.specs.Most.{Ready};
 ghost use Rattle.validity.specs.Marks.{draws_by, offends_by, acts_mixed, acts_on, OnlySizes, mixed_rule, acting_variable, edge_in, JudgedBy};
 
-use crate::Outcome;
 use edges::mixed;
 use format::Format;
 use idleness::{is_idle, is_idle_size};
@@ -42,14 +41,12 @@ pub fn any_mixed(file: &[u8], counts: Counts) -> bool
     let n = counts.variables;
     let rules = counts.rules;
     let mut at = 8 * n;
-    let mut i = 0;
-    while i < rules {
+    for i in 0..rules {
         let value = places::value_at(file, at);
         if is_mixed(file, n, value) {
             return true;
         }
         at = places::next_at(file, at);
-        i += 1;
     }
     false
 }
@@ -91,12 +88,10 @@ pub fn acting_variables(file: &[u8], counts: Counts) -> Set
     let rules = counts.rules;
     let mut at = 8 * n;
     let mut found = Set::empty();
-    let mut i = 0;
-    while i < rules {
+    for i in 0..rules {
         let value = places::value_at(file, at);
         found = take_acting(found, file, n, value);
         at = places::next_at(file, at);
-        i += 1;
     }
     found
 }
@@ -139,12 +134,10 @@ pub fn mark_edges(
     let n = counts.variables;
     let rules = counts.rules;
     let mut at = 8 * n;
-    let mut i = 0;
-    while i < rules {
+    for i in 0..rules {
         let value = places::value_at(file, at);
         mark_rule(rows, values, file, n, value);
         at = places::next_at(file, at);
-        i += 1;
     }
 }
 
@@ -178,7 +171,7 @@ pub fn first_offending(
     values: &mut [i64; Format::MAX_VARIABLES],
     file: &[u8],
     counts: Counts,
-) -> Outcome
+) -> Option<usize>
     requires counted { Counted file.now counts }
     requires lent { Lent rows.now counts.variables }
     requires values_len { (length values.old ≡ max_variables) × Small values.old }
@@ -187,14 +180,12 @@ pub fn first_offending(
     let n = counts.variables;
     let rules = counts.rules;
     let mut at = 8 * n;
-    let mut rule = 0;
-    while rule < rules {
+    for rule in 0..rules {
         let value = places::value_at(file, at);
         if offends(rows, values, file, n, value) {
-            return Outcome::Offending(at);
+            return Some(at);
         }
         at = places::next_at(file, at);
-        rule += 1;
     }
-    Outcome::Valid
+    None
 }

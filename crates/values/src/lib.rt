@@ -11,7 +11,7 @@ ghost use Rattle.parts.specs.Values.{rule_header, constraint_header};
 ghost use Rattle.values.specs.Lengths.{length_refusal};
 ghost use Rattle.program.specs.declared.Variable.{Variable};
 
-use faults::{Checked, Faults, by_form, divisors};
+use faults::{Faults, by_form, divisors};
 use format::Format;
 use parts::{constraints, rules, variables};
 use program::{Refusal, Variable};
@@ -36,24 +36,24 @@ pub fn is_range_outside(x: Variable) -> bool
 }
 
 // A variable.
-pub fn check_variable(value: &[u8]) -> Checked
+pub fn check_variable(value: &[u8]) -> Result<(), Refusal>
     ensures { (vs : List Variable) → checked_number result ≡ length_refusal vs 1 value.now }
 {
     if value.len() != 5 {
-        return Checked::Bad(Refusal::WrongLength);
+        return Err(Refusal::WrongLength);
     }
     let x = variables::variable_of(value);
     let kind = x.kind;
     match kind {
         0..=2 => {}
         3..=255 => {
-            return Checked::Bad(Refusal::WrongForm);
+            return Err(Refusal::WrongForm);
         }
     }
     if is_range_outside(x) {
-        return Checked::Bad(Refusal::OutsideRange);
+        return Err(Refusal::OutsideRange);
     }
-    Checked::Fine
+    Ok(())
 }
 
 // Whether a length is not that of a header and of so many terms at most.
@@ -91,34 +91,11 @@ pub fn is_wrong_head(file: &[u8], variables: usize, head: u8) -> bool
     !x.is_founded()
 }
 
-// Whether a body has more terms than a body may have.
-fn is_not_any(n: usize) -> bool
-    ensures { result ≡ not_from 0 max_terms n }
+// Whether a body has fewer terms than `least`, or more than a body may have.
+fn is_not_from(least: usize, n: usize) -> bool
+    ensures { result ≡ not_from least max_terms n }
 {
-    match n {
-        0..=Format::MAX_TERMS => false,
-        _ => true,
-    }
-}
-
-// Whether it has none, or more than a body may have.
-fn is_not_some(n: usize) -> bool
-    ensures { result ≡ not_from 1 max_terms n }
-{
-    match n {
-        1..=Format::MAX_TERMS => false,
-        _ => true,
-    }
-}
-
-// Whether it has fewer than two, or more than a body may have.
-fn is_not_several(n: usize) -> bool
-    ensures { result ≡ not_from 2 max_terms n }
-{
-    match n {
-        2..=Format::MAX_TERMS => false,
-        _ => true,
-    }
+    !(least..=Format::MAX_TERMS).contains(&n)
 }
 
 // Whether a body of this form may not have n terms.
@@ -126,19 +103,19 @@ pub fn is_wrong_count(form: u8, n: usize) -> bool
     ensures { result ≡ wrong_count_of form n }
 {
     match form {
-        1 => is_not_any(n),
-        2 => is_not_some(n),
-        3 => is_not_some(n),
+        1 => is_not_from(0, n),
+        2 => is_not_from(1, n),
+        3 => is_not_from(1, n),
         4 => n != 2,
         5 => n != 1,
-        6 => is_not_some(n),
-        7 => is_not_several(n),
+        6 => is_not_from(1, n),
+        7 => is_not_from(2, n),
         0 | 8..=255 => false,
     }
 }
 
 // A rule of a right length and of another form than 8.
-pub fn check_rule_parts(file: &[u8], variables: usize, value: &[u8]) -> Checked
+pub fn check_rule_parts(file: &[u8], variables: usize, value: &[u8]) -> Result<(), Refusal>
     requires variables_in_bounds { (8 * variables ≤ length file.now) × (rule_header ≤ length value.now) }
     requires fact { (rule_of value.now).form ≡ 8 → ⊥ }
     ensures { checked_number result ≡ item_refusal (variables_at file.now variables) (Item.rule (rule_of value.now)) }
@@ -158,7 +135,7 @@ pub fn check_rule_parts(file: &[u8], variables: usize, value: &[u8]) -> Checked
 }
 
 // A rule of a right length and of form 8.
-pub fn check_divided_parts(file: &[u8], variables: usize, value: &[u8]) -> Checked
+pub fn check_divided_parts(file: &[u8], variables: usize, value: &[u8]) -> Result<(), Refusal>
     requires variables_in_bounds { (8 * variables ≤ length file.now) × (rule_header ≤ length value.now) }
     requires value_value { (rule_of value.now).form ≡ 8 }
     ensures { checked_number result ≡ item_refusal (variables_at file.now variables) (Item.rule (rule_of value.now)) }
@@ -180,35 +157,35 @@ pub fn check_divided_parts(file: &[u8], variables: usize, value: &[u8]) -> Check
 }
 
 // A rule of form 8.
-fn check_divided(file: &[u8], variables: usize, value: &[u8]) -> Checked
+fn check_divided(file: &[u8], variables: usize, value: &[u8]) -> Result<(), Refusal>
     requires variables_in_bounds { (8 * variables ≤ length file.now) × (rule_header ≤ length value.now) }
     requires value_value { (rule_of value.now).form ≡ 8 }
     ensures { checked_number result ≡ length_refusal (variables_at file.now variables) 2 value.now }
 {
     if is_not_terms(value.len(), 4, 1 + Format::MAX_TERMS) {
-        return Checked::Bad(Refusal::WrongLength);
+        return Err(Refusal::WrongLength);
     }
     if sound::is_sound_divided(file, variables, value) {
-        return Checked::Fine;
+        return Ok(());
     }
     check_divided_parts(file, variables, value)
 }
 
-pub fn check_rule(file: &[u8], variables: usize, value: &[u8]) -> Checked
+pub fn check_rule(file: &[u8], variables: usize, value: &[u8]) -> Result<(), Refusal>
     requires { 8 * variables ≤ length file.now }
     ensures { checked_number result ≡ length_refusal (variables_at file.now variables) 2 value.now }
 {
     if value.len() < 4 {
-        return Checked::Bad(Refusal::WrongLength);
+        return Err(Refusal::WrongLength);
     }
     if value[0] == 8 {
         return check_divided(file, variables, value);
     }
     if is_not_terms(value.len(), 4, Format::MAX_TERMS) {
-        return Checked::Bad(Refusal::WrongLength);
+        return Err(Refusal::WrongLength);
     }
     if sound::is_sound_rule(file, variables, value) {
-        return Checked::Fine;
+        return Ok(());
     }
     check_rule_parts(file, variables, value)
 }
@@ -236,7 +213,7 @@ pub fn is_wrong_constraint(form: u8, c: i64) -> bool
 }
 
 // A constraint of a right length.
-pub fn check_constraint_parts(file: &[u8], variables: usize, value: &[u8]) -> Checked
+pub fn check_constraint_parts(file: &[u8], variables: usize, value: &[u8]) -> Result<(), Refusal>
     requires { (8 * variables ≤ length file.now) × (constraint_header ≤ length value.now) }
     ensures { checked_number result ≡ item_refusal (variables_at file.now variables) (Item.constraint (constraint_of value.now)) }
 {
@@ -254,15 +231,15 @@ pub fn check_constraint_parts(file: &[u8], variables: usize, value: &[u8]) -> Ch
     all.first(is_wrong_count(form, body.len() / 4))
 }
 
-pub fn check_constraint(file: &[u8], variables: usize, value: &[u8]) -> Checked
+pub fn check_constraint(file: &[u8], variables: usize, value: &[u8]) -> Result<(), Refusal>
     requires { 8 * variables ≤ length file.now }
     ensures { checked_number result ≡ length_refusal (variables_at file.now variables) 3 value.now }
 {
     if is_not_terms(value.len(), 3, Format::MAX_TERMS) {
-        return Checked::Bad(Refusal::WrongLength);
+        return Err(Refusal::WrongLength);
     }
     if sound::is_sound_constraint(file, variables, value) {
-        return Checked::Fine;
+        return Ok(());
     }
     check_constraint_parts(file, variables, value)
 }

@@ -1,5 +1,5 @@
 -- Document 01, "Verdicts and the report": what the call check answers, and the report afterwards.
-use Rattle.std.specs.Prelude.{ℕ, ◌<◌, List, T, length}
+use Rattle.std.specs.Prelude.{ℕ, ◌<◌, List, T, length, Result, Ok, Err}
 use Rattle.program.specs.Program.{Program}
 use Rattle.meaning.specs.Founded.{Within, Least}
 use Rattle.meaning.specs.Reduct.{system}
@@ -7,6 +7,7 @@ use Rattle.meaning.specs.Stable.{assigned, RuleMet, ConstraintMet, Meets, Stable
 use Rattle.meaning.specs.Calls.{Refuses, Called, lengths, denial_number, denial_place}
 use Rattle.meaning.specs.LeastCall.{FirstOutside}
 use Rattle.report.specs.Report.{shown, bounds, conditions, reported}
+use Rattle.meaning.specs.declared.Denied.{Denied}
 use Rattle.verdict.specs.declared.Verdict.{Verdict}
 use Rattle.program.specs.Readings.{Valuation}
 use Rattle.verdict.specs.declared.Verdict.TheVariants as verdict
@@ -21,13 +22,13 @@ pub data Answer : Type 0 where
   stable : Answer
 
 -- the word, number and place of each case of the code's answer
-abbrev pub answer_of : Verdict → Answer
-answer_of (verdict.Refused why) = refusal (denial_number why) (denial_place why)
-answer_of (verdict.Range v) = range v
-answer_of (verdict.Rule i) = rule i
-answer_of (verdict.Constraint i) = constraint i
-answer_of (verdict.Unfounded n k) = unfounded n k
-answer_of verdict.Stable = stable
+abbrev pub answer_of : Result Verdict Denied → Answer
+answer_of (Err why) = refusal (denial_number why) (denial_place why)
+answer_of (Ok (verdict.Range v)) = range v
+answer_of (Ok (verdict.Rule i)) = rule i
+answer_of (Ok (verdict.Constraint i)) = constraint i
+answer_of (Ok (verdict.Unfounded n k)) = unfounded n k
+answer_of (Ok verdict.Stable) = stable
 
 -- i is the first of n that is not met
 pub record FirstUnmet (Met : ℕ → Type 0) (n i : ℕ) : Type 0 where

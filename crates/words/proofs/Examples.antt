@@ -1,11 +1,11 @@
 -- Wrong sets, refuted on samples of four words.
+use Rattle.std.specs.Prelude.{None}
 use Prim.Native.Nat.{ℕ, ◌≤◌}
 use mathlib.Core.Path.{◌≡◌, sym}
 use mathlib.Core.Bool.{◌||◌, true≢false}
 use mathlib.Core.List.{List, [], ◌∷◌}
 use lib.Dec.{eqb, lit<, lit≤}
 use Rattle.words.specs.Bit.{bit, has, NextIs}
-use Rattle.words.specs.declared.Found.TheVariants.{Nothing}
 
 -- the set of 0 alone, and the empty one
 abbrev one : List ℕ
@@ -15,7 +15,7 @@ abbrev none : List ℕ
 none = 0 ∷ 0 ∷ 0 ∷ 0 ∷ []
 
 -- a search from 0 that starts one later finds nothing in the set of 0
-pub not_started_late : NextIs (has one) 0 256 Nothing → ⊥
+pub not_started_late : NextIs (has one) 0 256 None → ⊥
 unfolding has bit
 not_started_late h = true≢false (h 0 (lit≤ tt) (lit< tt))
 

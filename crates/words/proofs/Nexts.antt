@@ -1,4 +1,5 @@
 -- The next member of a set: the zeros below a word's lowest set bit.
+use Rattle.std.specs.Prelude.{Option, Some, None}
 use mathlib.Core.Path.{◌≡◌, sym, ap, ap₂, ◌∙◌, subst}
 use mathlib.Core.Logic.{◌≢◌}
 use mathlib.Core.Bool.{Bool, true, false, true≢false}
@@ -14,8 +15,6 @@ use lib.Pow.{shr_lt, shr_le, shr-shr, pow_mono}
 use lib.Count.{count_trailing_zeros, under}
 use lib.ListN.{get_or}
 use Rattle.words.specs.Bit.{word_bits, bit, has, NoneIn, LeastFrom, NextIs}
-use Rattle.words.specs.declared.Found.{Found}
-use Rattle.words.specs.declared.Found.TheVariants.{At, Nothing}
 use Rattle.words.proofs.Bits.{bit_suc, bit_zero}
 
 -- a number shifted down has the bits from there on
@@ -140,9 +139,9 @@ module _ (ws : List ℕ) (m from at : ℕ) (ha : at < word_bits * m) (fits : get
           ap (has ws) (back i at (omega arith)) ∙ in_word ws at (i - at) (omega arith) ∙ low.below_it (i - at) (omega arith)
 
 -- an answer that is known
-module _ (p : ℕ → Bool) (from top : ℕ) {r : Found} (h : NextIs p from top r) where
-  pub next_at_is : {v : ℕ} → r ≡ At v → LeastFrom p from top v
+module _ (p : ℕ → Bool) (from top : ℕ) {r : Option ℕ} (h : NextIs p from top r) where
+  pub next_at_is : {v : ℕ} → r ≡ Some v → LeastFrom p from top v
   next_at_is e = rw e at h
 
-  pub next_none : r ≡ Nothing → NoneIn p from top
+  pub next_none : r ≡ None → NoneIn p from top
   next_none e = rw e at h

@@ -1,8 +1,6 @@
 -- Document 01: "A set of variables is one bit for each of the 256 numbers." The bits stand in words: number i is bit i % word_bits of
 -- word i / word_bits. `Set::quoted` shows that the code's constants are these.
-use Rattle.std.specs.Prelude.{ℕ, zero, suc, ◌+◌, ◌/◌, ◌%◌, ◌^◌, ◌≤◌, ◌<◌, ◌≡◌, Bool, true, false, List, eqb, get_or}
-use Rattle.words.specs.declared.Found.{Found}
-use Rattle.words.specs.declared.Found.TheVariants.{At, Nothing}
+use Rattle.std.specs.Prelude.{ℕ, zero, suc, ◌+◌, ◌/◌, ◌%◌, ◌^◌, ◌≤◌, ◌<◌, ◌≡◌, Bool, true, false, List, eqb, get_or, Option, Some, None}
 
 -- the bits of a word
 abbrev pub word_bits : ℕ
@@ -50,6 +48,6 @@ pub record LeastFrom (p : ℕ → Bool) (from top v : ℕ) : Type 0 where
   pub first : NoneIn p from v
 
 -- the answer is that number, or nothing where there is none
-abbrev pub NextIs : (ℕ → Bool) → ℕ → ℕ → Found → Type 0
-NextIs p from top (At v) = LeastFrom p from top v
-NextIs p from top Nothing = NoneIn p from top
+abbrev pub NextIs : (ℕ → Bool) → ℕ → ℕ → Option ℕ → Type 0
+NextIs p from top (Some v) = LeastFrom p from top v
+NextIs p from top None = NoneIn p from top

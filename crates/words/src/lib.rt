@@ -17,13 +17,6 @@ impl Words {
     {}
 }
 
-// A number that was looked for, or that there is none.
-#[derive(Drop)]
-pub enum Found {
-    At(usize),
-    Nothing,
-}
-
 // Whether the set has i.
 pub fn has_bit(words: &[u64], i: usize) -> bool
     requires { i / word_bits < length words.now }
@@ -73,15 +66,13 @@ pub fn join_bits(words: &mut [u64], others: &[u64])
     ensures words_len_unchanged { length words.new ≡ length words.old }
     ensures by_index { (j : ℕ) → has words.new j ≡ (has words.old j || has others.now j) }
 {
-    let n = words.len();
-    for t in 0..n {
-        let w = others[t];
-        words[t] = words[t] | w;
+    for (t, word) in words.iter_mut().enumerate() {
+        *word |= others[t];
     }
 }
 
 // The least number of the set at or above `from`.
-pub fn next_bit(words: &[u64], from: usize) -> Found
+pub fn next_bit(words: &[u64], from: usize) -> Option<usize>
     requires { length words.now ≤ most_words }
     ensures { NextIs (has words.now) from (word_bits * length words.now) result }
 {
@@ -92,9 +83,9 @@ pub fn next_bit(words: &[u64], from: usize) -> Found
         if w != 0 {
             let zeros = u64::trailing_zeros(w) as usize;
             let found = at + zeros;
-            return Found::At(found);
+            return Some(found);
         }
         at = (at / Words::BITS + 1) * Words::BITS;
     }
-    Found::Nothing
+    None
 }

@@ -9,4 +9,4 @@ use Rattle.bodies.specs.Readings.{reading_of}
 use Rattle.bodies.proofs.all_hold.Given as goal
 
 abbrev pub invariant-loop-i : goal.invariant-loop-i
-invariant-loop-i l = (l.i ≤ l.n) × (l.n ≡ length l.body / 4) × (true ≡ all_hold (terms_of l.body) (reading_of l.kept l.first l.second (terms_of l.body)) l.i)
+invariant-loop-i l = (l.i ≤ l.n) × (l.n ≡ length l.body / 4) × (true ≡ all_hold (terms_of l.body) (reading_of l.readings.kept l.readings.first.now l.readings.second.now (terms_of l.body)) l.i)

@@ -30,4 +30,4 @@ loop-i-preserved c = let r : to_z w64 (of_z w64 c.extreme-found.result) ≡ c.ex
 
 pub returns : goal.returns
 returns c = let e : c.loop-i.i ≡ length (terms_of c.args.body.now) = omega (arith, terms_length c.args.body.now) in
-    c.loop-i.invariant.3 ∙ ap (λ (n : ℕ). pick_to (extreme c.args.most) (reading_of c.args.kept c.args.first.now c.args.second.now (terms_of c.args.body.now)) (n - 1)) e
+    c.loop-i.invariant.3 ∙ ap (λ (n : ℕ). pick_to (extreme c.args.most) (reading_of c.args.readings.kept c.args.readings.first.now c.args.readings.second.now (terms_of c.args.body.now)) (n - 1)) e

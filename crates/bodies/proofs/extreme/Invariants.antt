@@ -8,4 +8,4 @@ use Rattle.bodies.specs.Readings.{reading_of, extreme}
 use Rattle.bodies.proofs.extreme.Given as goal
 
 abbrev pub invariant-loop-i : goal.invariant-loop-i
-invariant-loop-i l = (1 ≤ l.i) × (l.i ≤ l.n) × (l.n ≡ length l.body / 4) × (l.found ≡ pick_to (extreme l.most) (reading_of l.kept l.first l.second (terms_of l.body)) (l.i - 1))
+invariant-loop-i l = (1 ≤ l.i) × (l.i ≤ l.n) × (l.n ≡ length l.body / 4) × (l.found ≡ pick_to (extreme l.most) (reading_of l.readings.kept l.readings.first.now l.readings.second.now (terms_of l.body)) (l.i - 1))

@@ -12,5 +12,5 @@ use Rattle.bodies.proofs.is_met.Goals as goal
 pub returns : goal.returns
 returns c = let ts = terms_of c.args.body.now in
     let v : to_z w64 (of_z w64 c.read.result) ≡ c.read.result = search rules in
-    let e = reading_is c.args.kept c.args.first.now c.args.second.now ts c.args.i v c.read.ensures (ap (λ (t : Term). t.variable) c.term-term.ensures) in
+    let e = reading_is c.args.readings.kept c.args.readings.first.now c.args.readings.second.now ts c.args.i v c.read.ensures (ap (λ (t : Term). t.variable) c.term-term.ensures) in
     c.holds.ensures ∙ ap₂ holds c.term-term.ensures e

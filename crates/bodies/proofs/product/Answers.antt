@@ -11,7 +11,7 @@ use Rattle.bodies.proofs.product.Goals as goal
 pub times-requires : goal.times-requires
 times-requires c = let x : to_z w64 (of_z w64 c.read_position.result) ≡ c.read_position.result = search rules in
     let y : to_z w64 (of_z w64 c.read_position-2.result) ≡ c.read_position-2.result = search rules in
-    product_fit c.args.kept c.args.first.now c.args.second.now (terms_of c.args.body.now) 0 1 (x ∙ c.read_position.ensures) (y ∙ c.read_position-2.ensures) c.requires.small.0 c.requires.small.1
+    product_fit c.args.readings.kept c.args.readings.first.now c.args.readings.second.now (terms_of c.args.body.now) 0 1 (x ∙ c.read_position.ensures) (y ∙ c.read_position-2.ensures) c.requires.small.0 c.requires.small.1
 
 pub returns : goal.returns
 returns c = let x : to_z w64 (of_z w64 c.read_position.result) ≡ c.read_position.result = search rules in

@@ -27,10 +27,10 @@ plus-total-requires c = let w : to_z w64 (of_z w64 c.weigh.result) ≡ c.weigh.r
     omega (
       arith,
       ap nat_abs c.loop-i.invariant.2,
-      (let it : (i : ℕ) → i ≤ length c.args.body.now / 4 → nat_abs (sum_below ((let it : ℕ → ℤ = weighted (terms_of c.args.body.now) (reading_of c.args.kept c.args.first.now c.args.second.now (terms_of c.args.body.now)) in it)) i) ≤ i * (max_coefficient * max_number) = λ i h. total_small c.args.kept c.args.first.now c.args.second.now (terms_of c.args.body.now) c.requires.coefficients c.requires.small.0 c.requires.small.1 i
+      (let it : (i : ℕ) → i ≤ length c.args.body.now / 4 → nat_abs (sum_below ((let it : ℕ → ℤ = weighted (terms_of c.args.body.now) (reading_of c.args.readings.kept c.args.readings.first.now c.args.readings.second.now (terms_of c.args.body.now)) in it)) i) ≤ i * (max_coefficient * max_number) = λ i h. total_small c.args.readings.kept c.args.readings.first.now c.args.readings.second.now (terms_of c.args.body.now) c.requires.coefficients c.requires.small.0 c.requires.small.1 i
           (omega (arith, terms_length c.args.body.now)) in it) c.loop-i.i (omega arith),
       ap nat_abs (w ∙ c.weigh.ensures),
-      (let it : (i : ℕ) → i < length c.args.body.now / 4 → nat_abs ((let it : ℕ → ℤ = weighted (terms_of c.args.body.now) (reading_of c.args.kept c.args.first.now c.args.second.now (terms_of c.args.body.now)) in it) i) ≤ max_coefficient * max_number = λ i h. weighted_small c.args.kept c.args.first.now c.args.second.now (terms_of c.args.body.now) c.requires.coefficients c.requires.small.0 c.requires.small.1 i
+      (let it : (i : ℕ) → i < length c.args.body.now / 4 → nat_abs ((let it : ℕ → ℤ = weighted (terms_of c.args.body.now) (reading_of c.args.readings.kept c.args.readings.first.now c.args.readings.second.now (terms_of c.args.body.now)) in it) i) ≤ max_coefficient * max_number = λ i h. weighted_small c.args.readings.kept c.args.readings.first.now c.args.readings.second.now (terms_of c.args.body.now) c.requires.coefficients c.requires.small.0 c.requires.small.1 i
           (omega (arith, terms_length c.args.body.now)) in it) c.loop-i.i (omega arith),
     )
 
@@ -44,7 +44,7 @@ plus-requires c = omega (
   arith,
   ap nat_abs (to_z-of_z c.ranges.c),
   ap nat_abs c.loop-i.invariant.2,
-  (let it : (i : ℕ) → i ≤ length c.args.body.now / 4 → nat_abs (sum_below ((let it : ℕ → ℤ = weighted (terms_of c.args.body.now) (reading_of c.args.kept c.args.first.now c.args.second.now (terms_of c.args.body.now)) in it)) i) ≤ i * (max_coefficient * max_number) = λ i h. total_small c.args.kept c.args.first.now c.args.second.now (terms_of c.args.body.now) c.requires.coefficients c.requires.small.0 c.requires.small.1 i
+  (let it : (i : ℕ) → i ≤ length c.args.body.now / 4 → nat_abs (sum_below ((let it : ℕ → ℤ = weighted (terms_of c.args.body.now) (reading_of c.args.readings.kept c.args.readings.first.now c.args.readings.second.now (terms_of c.args.body.now)) in it)) i) ≤ i * (max_coefficient * max_number) = λ i h. total_small c.args.readings.kept c.args.readings.first.now c.args.readings.second.now (terms_of c.args.body.now) c.requires.coefficients c.requires.small.0 c.requires.small.1 i
       (omega (arith, terms_length c.args.body.now)) in it) c.loop-i.i (omega arith),
 )
 

@@ -9,4 +9,4 @@ use Rattle.bodies.proofs.sum.Given as goal
 
 abbrev pub invariant-loop-i : goal.invariant-loop-i
 invariant-loop-i l = (l.i ≤ l.terms) × (l.terms ≡ length l.body / 4)
-    × (l.total ≡ sum_below (weighted (terms_of l.body) (reading_of l.kept l.first l.second (terms_of l.body))) l.i)
+    × (l.total ≡ sum_below (weighted (terms_of l.body) (reading_of l.readings.kept l.readings.first.now l.readings.second.now (terms_of l.body))) l.i)

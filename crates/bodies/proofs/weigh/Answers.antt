@@ -13,13 +13,13 @@ pub times-requires : goal.times-requires
 times-requires c = let ts = terms_of c.args.body.now in
     let n : to_z w64 (of_z w64 c.term-term.result.number) ≡ c.term-term.result.number = search rules in
     let v : to_z w64 (of_z w64 c.read.result) ≡ c.read.result = search rules in
-    let e = reading_is c.args.kept c.args.first.now c.args.second.now ts c.args.i v c.read.ensures (ap (λ (t : Term). t.variable) c.term-term.ensures) in
-    weigh_fits c.args.kept c.args.first.now c.args.second.now ts c.args.i (n ∙ ap (λ (t : Term). t.number) c.term-term.ensures) e c.requires.i_bound c.requires.small.0 c.requires.small.1
+    let e = reading_is c.args.readings.kept c.args.readings.first.now c.args.readings.second.now ts c.args.i v c.read.ensures (ap (λ (t : Term). t.variable) c.term-term.ensures) in
+    weigh_fits c.args.readings.kept c.args.readings.first.now c.args.readings.second.now ts c.args.i (n ∙ ap (λ (t : Term). t.number) c.term-term.ensures) e c.requires.i_bound c.requires.small.0 c.requires.small.1
 
 pub returns : goal.returns
 returns c = let ts = terms_of c.args.body.now in
     let n : to_z w64 (of_z w64 c.term-term.result.number) ≡ c.term-term.result.number = search rules in
     let v : to_z w64 (of_z w64 c.read.result) ≡ c.read.result = search rules in
-    let e = reading_is c.args.kept c.args.first.now c.args.second.now ts c.args.i v c.read.ensures (ap (λ (t : Term). t.variable) c.term-term.ensures) in
+    let e = reading_is c.args.readings.kept c.args.readings.first.now c.args.readings.second.now ts c.args.i v c.read.ensures (ap (λ (t : Term). t.variable) c.term-term.ensures) in
     let z : to_z w64 (of_z w64 c.times.result) ≡ c.times.result = search rules in
     z ∙ c.times.ensures ∙ ap₂ ◌*ℤ◌ (n ∙ ap (λ (t : Term). t.number) c.term-term.ensures) e

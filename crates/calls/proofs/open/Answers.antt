@@ -1,19 +1,21 @@
 -- A refused file is turned down as it was read; an accepted one by the table of lengths.
+use Rattle.std.proofs.lemmas.Result.{err_from_is_err_and}
+use Rattle.std.specs.Prelude.{Result}
 use mathlib.Core.Path.{subst}
 use Rattle.program.specs.Reading.{Reads, answer_of}
-use Rattle.program.specs.declared.Reading.{Reading}
 use Rattle.meaning.specs.Calls.{bad_file}
 use Rattle.reader.proofs.Published.{limited}
 use Rattle.calls.proofs.open.Goals as goal
+use Rattle.program.specs.declared.Rejection.{Rejection}
+use Rattle.program.specs.declared.Counts.{Counts}
 
 pub fitted-requires : goal.fitted-requires
-fitted-requires c = let r = subst (λ (q : Reading). Reads c.args.file.now (answer_of q)) c.in-Accepted.is c.read.ensures in
+fitted-requires c = let r = subst (λ (q : Result Counts Rejection). Reads c.args.file.now (answer_of q)) c.in_ok-counts.was c.read.ensures in
     (c.requires, (limited r).few_variables)
 
-pub returns-in-Refused : goal.returns-in-Refused
-returns-in-Refused c = λ b e. bad_file (subst (λ (q : Reading). Reads c.args.file.now (answer_of q)) c.in-Refused.is
-    c.read.ensures)
+pub returns-in_err-counts : goal.returns-in_err-counts
+returns-in_err-counts c = let p = err_from_is_err_and c.from_residual.result c.from_residual.ensures.1 in rw (p.1, p.2) (λ b e. bad_file (subst (λ (q : Result Counts Rejection). Reads c.args.file.now (answer_of q)) c.in_err-counts.was c.read.ensures))
 
-pub returns-in-Accepted : goal.returns-in-Accepted
-returns-in-Accepted c = λ b e.
-    c.fitted.ensures c.args.file.now b e (subst (λ (q : Reading). Reads c.args.file.now (answer_of q)) c.in-Accepted.is c.read.ensures)
+pub returns : goal.returns
+returns c = λ b e.
+    c.fitted.ensures c.args.file.now b e (subst (λ (q : Result Counts Rejection). Reads c.args.file.now (answer_of q)) c.in_ok-counts.was c.read.ensures)

@@ -4,17 +4,17 @@ use Rattle.descent.proofs.Reading.{read_none, read_stopped, read_more, read_all}
 use Rattle.descent.proofs.NodeEnds.{too_short_is, leaf_ends, not_node, inner_ends}
 use Rattle.descent.proofs.+children_node.Goals as goal
 
-pub children-loop-i-init : goal.children-loop-i-init
-children-loop-i-init t c = read_none _ _ _ _ c.requires
+pub children-loop-init : goal.children-loop-init
+children-loop-init t c = read_none _ _ _ _ c.requires
 
 pub children-returns-in_default : goal.children-returns-in_default
-children-returns-in_default t c = read_stopped _ _ _ _ _ _ c.loop-i.invariant c.node.result (omega arith) c.node.ensures c.in_default.is
+children-returns-in_default t c = read_stopped _ _ _ _ _ _ c.loop.invariant c.node.result (omega arith) c.node.ensures c.in_default.is
 
-pub children-loop-i-preserved : goal.children-loop-i-preserved
-children-loop-i-preserved t c = read_more _ _ _ _ _ _ c.loop-i.invariant c.node.result (omega arith) c.node.ensures _ c.in-At.is
+pub children-loop-preserved : goal.children-loop-preserved
+children-loop-preserved t c = read_more _ _ _ _ _ _ c.loop.invariant c.node.result (omega arith) c.node.ensures _ c.in-Some.is
 
 pub children-returns : goal.children-returns
-children-returns t c = read_all _ _ _ _ _ _ c.loop-i.invariant (omega arith)
+children-returns t c = read_all _ _ _ _ _ _ c.loop.invariant (omega arith)
 
 pub node-returns-then-s-at-lt2 : goal.node-returns-then-s-at-lt2
 node-returns-then-s-at-lt2 t c = too_short_is c.args.s.now c.args.at c.args.levels c.if-s-at-lt2.true

@@ -10,5 +10,5 @@ decreases-children l = 2 * (length l.s.now - l.at) + 1
 abbrev pub decreases-node : goal.decreases-node
 decreases-node l = 2 * (length l.s.now - l.at)
 
-abbrev pub invariant-children-loop-i : goal.invariant-children-loop-i
-invariant-children-loop-i l = Reading (tree_in l.levels) l.s l.at l.n l.end l.i
+abbrev pub invariant-children-loop : goal.invariant-children-loop
+invariant-children-loop l = Reading (tree_in l.levels) l.s l.at l.n l.end l.counter

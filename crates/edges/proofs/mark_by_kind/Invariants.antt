@@ -1,6 +1,5 @@
 -- One term after the other.
 use mathlib.Core.Path.{◌≡◌}
-use Prim.Native.Nat.{◌≤◌, ◌-◌}
 use lib.ListN.{length}
 use Rattle.program.specs.Tables.{any_below}
 use Rattle.program.specs.Program.{rule_of, variables_at}
@@ -9,8 +8,5 @@ use Rattle.edges.specs.Edges.{Grown, draws_at}
 use Rattle.edges.proofs.mark_by_kind.Given as goal
 
 abbrev pub invariant-loop-i : goal.invariant-loop-i
-invariant-loop-i l = (l.i ≤ l.n) × (l.n ≡ length (rule_of l.value).terms) × (length l.rows ≡ rows_length)
+invariant-loop-i l = (length l.rows ≡ rows_length)
     × Grown (row_has l.initial.rows) (row_has l.rows) (λ a b. any_below l.i (λ j. draws_at (variables_at l.file l.variables) (rule_of l.value) j a b))
-
-abbrev pub decreases-loop-i : goal.decreases-loop-i
-decreases-loop-i l = l.n - l.i

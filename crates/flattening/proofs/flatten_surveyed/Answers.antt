@@ -6,8 +6,8 @@ use Rattle.flattening.proofs.flatten_surveyed.Goals as goal
 pub judge-requires : goal.judge-requires
 judge-requires c = c.requires.settled
 
-pub returns-in-Offending : goal.returns-in-Offending
-returns-in-Offending c = call_offending c.requires _ _ c.judge.ensures c.in-Offending.is
+pub returns-in-Some : goal.returns-in-Some
+returns-in-Some c = call_offending c.requires _ _ c.judge.ensures c.in-Some.is
 
 pub returns-then-totals-gt-MAX_FILE : goal.returns-then-totals-gt-MAX_FILE
 returns-then-totals-gt-MAX_FILE c = call_long c.requires _ _ c.judge.ensures c.in_default.is (omega arith)

@@ -1,5 +1,5 @@
 -- One rule after the other: each stands where the one before it ends.
-use Prim.Native.Nat.{ℕ, ◌+◌, ◌-◌}
+use Prim.Native.Nat.{ℕ, ◌+◌}
 use mathlib.Core.Path.{◌≡◌, ap, ◌∙◌}
 use native.Mathlib.Omega.{arith}
 use Rattle.program.specs.Fields.{place}
@@ -14,9 +14,6 @@ loop-i-init c = (omega arith, first_rule c.requires)
 
 pub next_at-at-requires : goal.next_at-at-requires
 next_at-at-requires c = rule_inside c.requires _ (omega arith) c.loop-i.invariant.1
-
-pub loop-i-smaller : goal.loop-i-smaller
-loop-i-smaller c = omega arith
 
 pub loop-i-preserved : goal.loop-i-preserved
 loop-i-preserved c = (omega arith, next_rule _ _ _ c.loop-i.invariant.1 c.next_at-at.ensures)

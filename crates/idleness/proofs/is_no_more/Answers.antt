@@ -10,6 +10,6 @@ pub returns-in_default : goal.returns-in_default
 returns-in_default c = none_given c.args.x c.in_default.is
 
 pub returns : goal.returns
-returns c = let z : to_z w64 (of_z w64 c.in-Value.a) ≡ c.in-Value.a = search rules in
+returns c = let z : to_z w64 (of_z w64 c.in-Some.a) ≡ c.in-Some.a = search rules in
     let y : to_z w64 (of_z w64 c.start.result) ≡ c.start.result = search rules in
-    value_given c.args.x c.in-Value.a c.in-Value.is c.start.ensures (simp (z, y) at c.is_before.ensures)
+    value_given c.args.x c.in-Some.a c.in-Some.is c.start.ensures (simp (z, y) at c.is_before.ensures)

@@ -10,7 +10,7 @@ use Rattle.idleness.proofs.MostLaws.{most_by_kind, field_inside, position_low, p
 use Rattle.idleness.proofs.set_by_kind.Goals as goal
 
 pub loop-i-init : goal.loop-i-init
-loop-i-init c = (omega arith, omega arith, taken_none _ _ _ c.requires.form_nonzero.1 c.requires.form_nonzero.2)
+loop-i-init c = taken_none _ _ _ c.requires.form_nonzero.1 c.requires.form_nonzero.2
 
 pub term-t-requires : goal.term-t-requires
 term-t-requires c = omega (arith, c.body-body.ensures.many)
@@ -23,7 +23,7 @@ pub set_term-requires : goal.set_term-requires
 set_term-requires c = let t = term_handed c.args.value.now c.loop-i.i c.body-body.ensures c.term-t.ensures in
     let q = c.variable-x.ensures _ (declared_at t (c.requires.ready.standing.declared c.loop-i.i (omega arith)))
     ∙ ap (λ (t : Term). variable_in (variables_at c.args.file.now c.args.variables) t.variable) t in
-    (position_low c.requires.ready c.loop-i.i (omega arith) q, position_high c.requires.ready c.loop-i.i (omega arith) q, c.loop-i.invariant.2.long)
+    (position_low c.requires.ready c.loop-i.i (omega arith) q, position_high c.requires.ready c.loop-i.i (omega arith) q, c.loop-i.invariant.long)
 
 pub loop-i-preserved : goal.loop-i-preserved
 loop-i-preserved c = let vs = variables_at c.args.file.now c.args.variables in
@@ -31,7 +31,7 @@ loop-i-preserved c = let vs = variables_at c.args.file.now c.args.variables in
     let t = term_handed c.args.value.now c.loop-i.i c.body-body.ensures c.term-t.ensures in
     let q = c.variable-x.ensures c.args.variables (declared_at t (c.requires.ready.standing.declared c.loop-i.i (omega arith))) in
     let e = most_by_kind vs r c.loop-i.i c.requires.opened_is.variable_is (rule_kinds vs r c.requires.opened_is c.requires.form_nonzero.0 c.kinds_of-kinds.ensures) t q c.loop-i.values in
-    (omega arith, omega arith, taken_more _ _ _ c.requires.ready (omega arith) c.loop-i.invariant.2 (c.set_term.ensures ∙ e))
+    taken_more _ _ _ c.requires.ready (omega arith) c.loop-i.invariant (c.set_term.ensures ∙ e)
 
 pub returns : goal.returns
-returns c = record { values_len = (c.loop-i.invariant.2.long, c.loop-i.invariant.2.small); by_index = taken_all _ _ _ (omega arith) c.loop-i.invariant.2 }
+returns c = record { values_len = (c.loop-i.invariant.long, c.loop-i.invariant.small); by_index = taken_all _ _ _ (omega arith) c.loop-i.invariant }

@@ -1,5 +1,4 @@
 -- One operand after the other.
-use Prim.Native.Nat.{◌-◌}
 use native.Mathlib.Omega.{arith}
 use Rattle.edges.proofs.PositionLaws.{grown_none, grown_more, draws_done}
 use Rattle.linking.proofs.mark_operands.Goals as goal
@@ -9,9 +8,6 @@ loop-i-init c = (omega arith, omega (arith, c.positions-n.ensures), c.requires.r
 
 pub mark_operand-requires : goal.mark_operand-requires
 mark_operand-requires c = record { standing = c.requires.standing; i_in_bounds = (omega arith, c.loop-i.invariant.2) }
-
-pub loop-i-smaller : goal.loop-i-smaller
-loop-i-smaller c = omega arith
 
 pub loop-i-preserved : goal.loop-i-preserved
 loop-i-preserved c = (omega arith, omega arith, c.mark_operand.ensures.rows_len, grown_more _ _ c.loop-i.invariant.3 c.mark_operand.ensures.grown)

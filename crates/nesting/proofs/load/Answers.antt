@@ -1,5 +1,5 @@
 -- Invariant: the ends of the ranges of the variables before this one are entered.
-use Prim.Native.Nat.{◌*◌, ◌-◌}
+use Prim.Native.Nat.{◌*◌}
 use mathlib.Core.Path.{◌≡◌, sym}
 use native.Mathlib.Omega.{arith}
 use mir.Syntax.{w64}
@@ -17,12 +17,6 @@ overflow_cast-x c = omega (arith, c.requires.declares.few)
 
 pub variable-v-requires : goal.variable-v-requires
 variable-v-requires c = omega (arith, c.requires.declares.inside)
-
-pub overflow_step-x : goal.overflow_step-x
-overflow_step-x c = omega arith
-
-pub loop-x-smaller : goal.loop-x-smaller
-loop-x-smaller c = omega arith
 
 pub loop-x-preserved : goal.loop-x-preserved
 loop-x-preserved c = let e = (let it : (to_z w64 (of_z w64 c.variable-v.result.low) ≡ c.variable-v.result.low) × (to_z w64 (of_z w64 c.variable-v.result.high) ≡ c.variable-v.result.high) = (search rules, search rules) in it) in

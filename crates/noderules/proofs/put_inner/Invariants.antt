@@ -1,3 +1,4 @@
+-- Invariant: the rules of the inner nodes before `place` have been put in.
 use Prim.Native.Nat.{◌-◌}
 use lib.ListN.{length}
 use Rattle.noderules.proofs.Rules.{InnerPut}

@@ -1,5 +1,4 @@
 use mathlib.Core.Path.{◌≡◌}
-use Prim.Native.Nat.{◌-◌}
 use native.Mathlib.Omega.{arith}
 use Rattle.noderules.proofs.Putting.{puts}
 use Rattle.noderules.proofs.Terms.{terms_begun, terms_length, tree_stands, tree_two, tree_numbered, term_room, terms_more, terms_done}
@@ -19,12 +18,6 @@ skip-skipped-requires c = (c.loop-i.invariant.0.inside, tree_stands c.requires.0
 
 pub overflow_add-next : goal.overflow_add-next
 overflow_add-next c = omega (arith, tree_numbered c.requires.0.stands c.requires.1 c.requires.0.numbered c.loop-i.invariant.0 (omega arith), c.skip-skipped.ensures.counted)
-
-pub overflow_step-i : goal.overflow_step-i
-overflow_step-i c = omega arith
-
-pub loop-i-smaller : goal.loop-i-smaller
-loop-i-smaller c = omega arith
 
 pub loop-i-preserved : goal.loop-i-preserved
 loop-i-preserved c = let o = puts c.put-end.ensures in

@@ -1,11 +1,8 @@
--- Invariant: the inner nodes before `at` are counted.
-use Prim.Native.Nat.{◌-◌}
-use lib.ListN.{length}
+-- Invariant: the inner nodes before the rest of the bytes are counted.
+use mathlib.Core.Path.{◌≡◌}
+use Rattle.std.specs.Slice.Iter.{chunks_exact_rest, chunks_exact_size}
 use Rattle.nodes.proofs.InnerLaws.{Counted}
 use Rattle.nodes.proofs.inners.Given as goal
 
-abbrev pub invariant-loop-at : goal.invariant-loop-at
-invariant-loop-at l = Counted l.s l.at l.n
-
-abbrev pub decreases-loop-at : goal.decreases-loop-at
-decreases-loop-at l = length l.s - l.at
+abbrev pub invariant-loop-node : goal.invariant-loop-node
+invariant-loop-node l = (chunks_exact_size l.node-iterator ≡ 2) × Counted l.s (chunks_exact_rest l.node-iterator) l.n

@@ -1,13 +1,10 @@
--- Invariant: no leaf before `at` is undeclared.
-use Prim.Native.Nat.{◌-◌, ◌≤◌}
+-- Invariant: no leaf before the rest of the bytes is undeclared.
 use mathlib.Core.Path.{◌≡◌}
 use lib.Dec.{leb}
-use lib.ListN.{length, drop}
+use Rattle.std.specs.Slice.Iter.{chunks_exact_rest, chunks_exact_size}
 use Rattle.flat.specs.Flat.{leaves_in, any_in}
 use Rattle.nodes.proofs.is_undeclared.Given as goal
 
-abbrev pub invariant-loop-at : goal.invariant-loop-at
-invariant-loop-at l = (l.at ≤ length l.s) × (any_in (leb l.n) (leaves_in l.s) ≡ any_in (leb l.n) (leaves_in (drop l.at l.s)))
-
-abbrev pub decreases-loop-at : goal.decreases-loop-at
-decreases-loop-at l = length l.s - l.at
+abbrev pub invariant-loop-node : goal.invariant-loop-node
+invariant-loop-node l = (chunks_exact_size l.node-iterator ≡ 2)
+    × (any_in (leb l.n) (leaves_in l.s) ≡ any_in (leb l.n) (leaves_in (chunks_exact_rest l.node-iterator)))

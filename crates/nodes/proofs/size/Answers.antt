@@ -8,9 +8,6 @@ size_from-below-requires c = (tree_long c.requires.0, c.requires.1)
 pub bounds-s-0 : goal.bounds-s-0
 bounds-s-0 c = omega (arith, tree_long c.requires.0)
 
-pub overflow_add-result : goal.overflow_add-result
-overflow_add-result c = omega arith
-
 pub returns-then-s-eq0 : goal.returns-then-s-eq0
 returns-then-s-eq0 c = leaf_size _ c.args.s.now (tree_long c.requires.0) c.size_from-below.ensures.0 c.if-s-eq0.true
 

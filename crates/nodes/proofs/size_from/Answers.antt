@@ -1,30 +1,18 @@
--- Invariant: the rules of the inner nodes before `at` are counted.
-use Prim.Native.Nat.{◌+◌, ◌-◌}
+-- The rules of the inner nodes before the rest of the bytes are counted.
+use mathlib.Core.Path.{◌∙◌}
 use native.Mathlib.Omega.{arith}
-use Rattle.nodes.proofs.SizeLaws.{sized_none, sized_inner, sized_leaf, sized_all}
+use lib.ListN.{length-drop}
+use Rattle.nodes.proofs.SizeLaws.{sized_inner, sized_leaf, sized_all}
 use Rattle.nodes.proofs.size_from.Goals as goal
-use Rattle.nodes.proofs.size_from.Goals.{then-s-at-ne0, else-s-at-ne0}
 
-pub loop-at-init : goal.loop-at-init
-loop-at-init c = sized_none _ _ (omega arith)
+pub loop-node-preserved-then-node-ne0 : goal.loop-node-preserved-then-node-ne0
+loop-node-preserved-then-node-ne0 c = let t = c.in-Some.ensures.steps in
+    (t.0 ∙ c.loop-node.invariant.0, sized_inner c.loop-node.invariant.1 _ _ t.1.0 (t.1.1 ∙ c.loop-node.invariant.0) c.if-node-ne0.true (omega arith))
 
-pub overflow_cast-n : goal.overflow_cast-n
-overflow_cast-n c = omega (arith, c.type_inv.s (c.loop-at.at + 1))
-
-pub overflow_mul-n : goal.overflow_mul-n
-overflow_mul-n c = omega (arith, c.type_inv.s (c.loop-at.at + 1))
-
-pub overflow_add-n-then-s-at-ne0 : goal.overflow_add-n-then-s-at-ne0
-overflow_add-n-then-s-at-ne0 c = omega (arith, c.type_inv.s (c.loop-at.at + 1))
-
-pub overflow_add-n-then-s-at-ne0-2 : goal.overflow_add-n-then-s-at-ne0-2
-overflow_add-n-then-s-at-ne0-2 c = omega (arith, c.type_inv.s (c.loop-at.at + 1))
-
-pub loop-at-preserved : goal.loop-at-preserved
-loop-at-preserved c = elim c.if-s-at-ne0.branch [
-  | then-s-at-ne0 w ↦ sized_inner _ _ _ _ c.loop-at.invariant _ c.loop-at-test.true w.if-s-at-ne0.true (omega (arith, c.type_inv.s (c.loop-at.at + 1))) w.n-is
-  | else-s-at-ne0 w ↦ sized_leaf _ _ _ _ c.loop-at.invariant _ c.loop-at-test.true w.if-s-at-ne0.false w.n-is
-]
+pub loop-node-preserved : goal.loop-node-preserved
+loop-node-preserved c = let t = c.in-Some.ensures.steps in
+    (t.0 ∙ c.loop-node.invariant.0, sized_leaf c.loop-node.invariant.1 _ _ t.1.0 (t.1.1 ∙ c.loop-node.invariant.0) c.if-node-ne0.false)
 
 pub returns : goal.returns
-returns c = (sized_all _ _ _ _ c.loop-at.invariant (omega arith), omega arith)
+returns c = let i = c.loop-node.invariant.1 in
+    (sized_all i (omega (arith, c.loop-node.invariant.0, c.in-None.ensures.steps.1.0)), omega (arith, i.few, length-drop c.args.from c.args.s.now))

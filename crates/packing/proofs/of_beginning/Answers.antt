@@ -1,8 +1,8 @@
 -- By the answer: its word and its numbers.
 use Rattle.packing.proofs.of_beginning.Goals as goal
 
-pub returns-in-Refused : goal.returns-in-Refused
-returns-in-Refused c = rw c.in-Refused.is c.of_denied.ensures
+pub returns-in-Err : goal.returns-in-Err
+returns-in-Err c = rw c.in-Err.is c.of_denied.ensures
 
-pub returns-in-Begun : goal.returns-in-Begun
-returns-in-Begun c = rw c.in-Begun.is c.with_one.ensures
+pub returns-in-Ok : goal.returns-in-Ok
+returns-in-Ok c = rw c.in-Ok.is c.with_one.ensures

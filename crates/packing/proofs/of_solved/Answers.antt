@@ -1,14 +1,8 @@
 -- By the answer: its word and its numbers.
 use Rattle.packing.proofs.of_solved.Goals as goal
 
-pub returns-in-Refused : goal.returns-in-Refused
-returns-in-Refused c = rw c.in-Refused.is c.of_denied.ensures
+pub returns-in-Err : goal.returns-in-Err
+returns-in-Err c = rw c.in-Err.is c.of_denied.ensures
 
-pub returns-in-Range : goal.returns-in-Range
-returns-in-Range c = rw c.in-Range.is c.with_one.ensures
-
-pub returns-in-Nothing : goal.returns-in-Nothing
-returns-in-Nothing c = rw c.in-Nothing.is c.alone.ensures
-
-pub returns-in-Found : goal.returns-in-Found
-returns-in-Found c = rw c.in-Found.is c.alone-in-Found.ensures
+pub returns-in-Ok : goal.returns-in-Ok
+returns-in-Ok c = rw c.in-Ok.is c.of_found.ensures

@@ -1,8 +1,6 @@
 -- Each of the words passed adds less than 2^32 elements, whose sum is 16,320 at most.
-use mathlib.Core.Path.{◌≡◌}
 use Prim.Native.Nat.{◌*◌, ◌≤◌}
-use lib.ListN.{length}
 use Rattle.picturing.proofs.sets_counted.Given as goal
 
 abbrev pub invariant-loop-i : goal.invariant-loop-i
-invariant-loop-i g l = (l.i-end ≡ length l.sets) × (l.i ≤ l.i-end) × (l.count ≤ 4294967295 * l.i) × (l.sum ≤ 16320 * l.i)
+invariant-loop-i g l = (l.count ≤ 4294967295 * l.i) × (l.sum ≤ 16320 * l.i)

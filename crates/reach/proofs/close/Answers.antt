@@ -1,6 +1,5 @@
 -- Invariant: the rounds of the variables below k are done; a step does that of k.
 use mathlib.Core.Path.{◌≡◌, refl, ◌∙◌}
-use Prim.Native.Nat.{◌-◌}
 use native.Mathlib.Omega.{arith}
 use Rattle.reach.proofs.StepLaws.{none_done, one_done, steps_done, steps_long}
 use Rattle.reach.proofs.close.Goals as goal
@@ -10,12 +9,6 @@ loop-k-init c = (omega arith, refl, c.requires, none_done _ _)
 
 pub step-requires : goal.step-requires
 step-requires c = tt
-
-pub overflow_step-k : goal.overflow_step-k
-overflow_step-k c = omega arith
-
-pub loop-k-smaller : goal.loop-k-smaller
-loop-k-smaller c = omega arith
 
 pub loop-k-preserved : goal.loop-k-preserved
 loop-k-preserved c = let same = steps_long c.step.ensures.steps in (

@@ -26,7 +26,7 @@ pub shape_of-sets-then-variables-m : goal.shape_of-sets-then-variables-m
 shape_of-sets-then-variables-m c = c.loop-m.invariant.0
 
 pub returns-then-variables-m : goal.returns-then-variables-m
-returns-then-variables-m c = let found = next_at_is (has c.row_left.result.words) _ max_variables c.next.ensures c.in-At.is in
+returns-then-variables-m c = let found = next_at_is (has c.row_left.result.words) _ max_variables c.next.ensures c.in-Some.is in
     record { sets_len_unchanged = c.loop-m.invariant.0; closed = taking_all c.requires.0.few c.requires.1 c.loop-m.invariant.2 (λ j h. sym (c.row_left.ensures j) ∙ found.first j (omega arith) (omega arith)) }
 
 pub drop_bit-requires : goal.drop_bit-requires
@@ -36,11 +36,11 @@ pub join-requires : goal.join-requires
 join-requires c = omega (arith, c.requires.0.few, c.requires.0.room, c.requires.1, c.loop-m.invariant.0)
 
 pub loop-m-smaller : goal.loop-m-smaller
-loop-m-smaller c = let found = next_at_is (has c.row_left.result.words) _ max_variables c.next.ensures c.in-At.is in
-    count_drop _ _ _ max_variables found.below (both (row_has c.loop-m.sets c.args.x c.in-At.m) _ (sym (c.row_left.ensures _) ∙ found.member)).1 c.drop_bit.ensures.by_index
+loop-m-smaller c = let found = next_at_is (has c.row_left.result.words) _ max_variables c.next.ensures c.in-Some.is in
+    count_drop _ _ _ max_variables found.below (both (row_has c.loop-m.sets c.args.x c.in-Some.m) _ (sym (c.row_left.ensures _) ∙ found.member)).1 c.drop_bit.ensures.by_index
 
 pub loop-m-preserved : goal.loop-m-preserved
-loop-m-preserved c = let found = next_at_is (has c.row_left.result.words) _ max_variables c.next.ensures c.in-At.is in (
+loop-m-preserved c = let found = next_at_is (has c.row_left.result.words) _ max_variables c.next.ensures c.in-Some.is in (
   c.join.ensures.rows_len_unchanged ∙ c.loop-m.invariant.0,
   c.drop_bit.ensures.words_len_unchanged ∙ c.loop-m.invariant.1,
   taking_more c.requires.0.few c.requires.1 c.loop-m.invariant.2 _ (omega arith) (both _ _ (sym (c.row_left.ensures _) ∙ found.member)).0 c.join.ensures.joined c.drop_bit.ensures.by_index,

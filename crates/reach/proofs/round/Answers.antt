@@ -1,6 +1,6 @@
 -- Invariant: the rows before i are done, those from i on are as they were.
 use mathlib.Core.Path.{◌≡◌, refl, sym, ap, ◌∙◌}
-use Prim.Native.Nat.{◌<◌, ◌-◌}
+use Prim.Native.Nat.{◌<◌}
 use native.Mathlib.Omega.{arith}
 use lib.ListN.{length}
 use Rattle.format.specs.Limits.{max_variables}
@@ -17,12 +17,6 @@ row_has-requires c = omega (arith, c.requires.0.few, c.requires.0.room, c.loop-i
 
 pub join-requires : goal.join-requires
 join-requires c = omega (arith, c.requires.0.few, c.requires.0.room, c.loop-i.invariant.1)
-
-pub overflow_step-i : goal.overflow_step-i
-overflow_step-i c = omega arith
-
-pub loop-i-smaller : goal.loop-i-smaller
-loop-i-smaller c = omega arith
 
 pub loop-i-preserved : goal.loop-i-preserved
 loop-i-preserved c = let s' = row_has c.if-row_has.rows in

@@ -1,6 +1,5 @@
 -- Invariant: the bytes before x are named, those from x on are as they were.
 use mathlib.Core.Path.{◌≡◌}
-use Prim.Native.Nat.{◌-◌}
 use native.Mathlib.Omega.{arith}
 use Rattle.sharing.proofs.Sharings.{named_none, named_more}
 use Rattle.sharing.proofs.name_each.Goals as goal
@@ -16,12 +15,6 @@ overflow_cast-buffer c = omega (arith, c.requires.0.few, c.first_sharing-y.ensur
 
 pub bounds-buffer-x : goal.bounds-buffer-x
 bounds-buffer-x c = omega (arith, c.loop-x.invariant.1.long)
-
-pub overflow_step-x : goal.overflow_step-x
-overflow_step-x c = omega arith
-
-pub loop-x-smaller : goal.loop-x-smaller
-loop-x-smaller c = omega arith
 
 pub loop-x-preserved : goal.loop-x-preserved
 loop-x-preserved c = (omega arith, named_more _ _ _ _ c.loop-x.invariant.1 (omega arith) c.first_sharing-y.ensures.1)

@@ -13,9 +13,6 @@ use Rattle.sided.proofs.all_hold.Goals as goal
 pub loop-i-init : goal.loop-i-init
 loop-i-init c = (omega arith, refl, λ form side. hold_none _ _)
 
-pub is_met-requires : goal.is_met-requires
-is_met-requires c = omega arith
-
 pub returns-then-not-is_met : goal.returns-then-not-is_met
 returns-then-not-is_met c form side = let l : c.loop-i.i < length (terms_of c.args.body.now) = omega (arith, terms_length c.args.body.now) in
     sym (hold_fails _ _ c.loop-i.i _ l (sym (c.is_met.ensures form side) ∙ c.if-not-is_met.true))

@@ -1,4 +1,4 @@
-use Prim.Native.Nat.{◌+◌, ◌-◌}
+use Prim.Native.Nat.{◌+◌}
 use native.Mathlib.Omega.{arith}
 use Rattle.skipping.proofs.Walk.{skipping_begun, skipping_two, skipping_leaf, skipping_inner, skipping_room, skipping_done}
 use Rattle.skipping.proofs.skip.Goals as goal
@@ -6,9 +6,6 @@ use Rattle.skipping.proofs.skip.Goals.{then-s-end-ne0, else-s-end-ne0}
 
 pub loop-need-init : goal.loop-need-init
 loop-need-init c = skipping_begun _ _ _ c.requires.0 c.requires.1
-
-pub overflow_sub-need : goal.overflow_sub-need
-overflow_sub-need c = omega arith
 
 pub bounds-s-end : goal.bounds-s-end
 bounds-s-end c = omega (arith, skipping_two c.loop-need.invariant (omega arith))

@@ -23,14 +23,14 @@ finish-requires c = record {
   within = c.requires.within;
   progress = λ P x. reached_open c.requires.accepted_as x (reduct_narrows P) (valued c.args.assigned.now) _ c.requires.by_index c.values_of.ensures.filled
       (c.climb-climbed.ensures.climb_is P (reduct P) (valued c.args.assigned.now) (valued c.args.assigned.now) x (begun c.requires.accepted_as c.args.assigned.now c.requires.within c.args.full c.requires.rule_met c.args.sides.now _ c.requires.level_past.0 c.start_sides.ensures.sides_start P x))
-      c.in-Open.is;
+      c.in-None.is;
   model_len = c.values_of.ensures.model_len_2;
 }
 
-pub returns-in-Ended : goal.returns-in-Ended
-returns-in-Ended c = record {
+pub returns-in-Some : goal.returns-in-Some
+returns-in-Some c = record {
   model_len_2 = c.values_of.ensures.model_len_2;
   ends_with = λ P x. reached_ended c.requires.accepted_as x (reduct_narrows P) (valued c.args.assigned.now) _ c.requires.by_index c.values_of.ensures.filled
       (c.climb-climbed.ensures.climb_is P (reduct P) (valued c.args.assigned.now) (valued c.args.assigned.now) x (begun c.requires.accepted_as c.args.assigned.now c.requires.within c.args.full c.requires.rule_met c.args.sides.now _ c.requires.level_past.0 c.start_sides.ensures.sides_start P x))
-      c.in-Ended.is;
+      c.in-Some.is;
 }

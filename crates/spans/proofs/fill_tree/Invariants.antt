@@ -1,11 +1,7 @@
-use Prim.Native.Nat.{◌-◌}
+-- Invariant: the inner nodes from node i on are entered.
+use Prim.Native.Nat.{◌*◌}
 use Rattle.spans.proofs.FilledTrees.{Filling}
 use Rattle.spans.proofs.fill_tree.Given as goal
 
-abbrev pub invariant-loop-at : goal.invariant-loop-at
-invariant-loop-at l = Filling l.s l.next l.kind l.initial.lows l.initial.highs l.initial.records l.lows l.highs l.records l.at l.number
-
-abbrev pub decreases-loop-at : goal.decreases-loop-at
-decreases-loop-at l = l.at
-
--- the function's entry
+abbrev pub invariant-loop-i : goal.invariant-loop-i
+invariant-loop-i l = Filling l.s l.next l.kind l.initial.lows l.initial.highs l.initial.records l.lows l.highs l.records (2 * l.i) l.number

@@ -19,12 +19,12 @@ gives-requires c = record {
   small = (c.requires.small, c.requires.small);
 }
 
-pub returns-in-Value : goal.returns-in-Value
-returns-in-Value c = let v = value_given _ _ c.requires.writable.0 c.requires.writable.1 c.requires.writable.2 c.requires.writable.3 c.put_node-end.ensures c.args.table.now c.gives.ensures in
-    let z : to_z w64 (of_z w64 c.in-Value.a) ≡ c.in-Value.a = search rules in
-    z ∙ cc (c.in-Value.is, v)
+pub returns-in-Some : goal.returns-in-Some
+returns-in-Some c = let v = value_given _ _ c.requires.writable.0 c.requires.writable.1 c.requires.writable.2 c.requires.writable.3 c.put_node-end.ensures c.args.table.now c.gives.ensures in
+    let z : to_z w64 (of_z w64 c.in-Some.a) ≡ c.in-Some.a = search rules in
+    z ∙ cc (c.in-Some.is, v)
 
-pub returns-in-Nothing : goal.returns-in-Nothing
-returns-in-Nothing c = let v = value_given _ _ c.requires.writable.0 c.requires.writable.1 c.requires.writable.2 c.requires.writable.3 c.put_node-end.ensures c.args.table.now c.gives.ensures in
+pub returns-in-None : goal.returns-in-None
+returns-in-None c = let v = value_given _ _ c.requires.writable.0 c.requires.writable.1 c.requires.writable.2 c.requires.writable.3 c.put_node-end.ensures c.args.table.now c.gives.ensures in
     let z : ◌≡◌ {A = ℕ} 0 1 = cc v in
     absurd (omega arith)

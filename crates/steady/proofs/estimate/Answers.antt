@@ -22,7 +22,7 @@ returns-then-rule-eq8 c = let z : to_z w64 (of_z w64 c.header-rule.result.c) ≡
     let d : to_z w64 (of_z w64 c.divisor-divisor.result) ≡ c.divisor-divisor.result = search rules in
     let w : to_z w64 (of_z w64 c.stride_of-own.result) ≡ c.stride_of-own.result = search rules in
     let r : to_z w64 (of_z w64 c.summed.result) ≡ c.summed.result = search rules in
-    estimate_divided c.args.value.now c.header-rule.ensures c.body-body.ensures c.args.x _ c.args.kept c.args.first.now c.args.aims.now c.args.second.now c.args.strides.now c.if-rule-eq8.true
+    estimate_divided c.args.value.now c.header-rule.ensures c.body-body.ensures c.args.x _ c.args.readings.kept c.args.readings.first.now c.args.aims.now c.args.readings.second.now c.args.strides.now c.if-rule-eq8.true
     c.divisor-divisor.ensures c.requires.evaluable (r ∙ (rw (w ∙ c.stride_of-own.ensures, z, d) at c.summed.ensures))
 
 pub is_met-requires : goal.is_met-requires
@@ -30,7 +30,7 @@ is_met-requires c = record { body_len_bound = omega (arith, c.requires.evaluable
 
 pub returns-then-not-is_met : goal.returns-then-not-is_met
 returns-then-not-is_met c = estimate_nothing c.args.value.now c.header-rule.ensures c.body-body.ensures
-    c.args.x _ c.args.kept c.args.first.now c.args.aims.now c.args.second.now c.args.strides.now (sym c.if-not-is_met.true ∙ c.is_met.ensures)
+    c.args.x _ c.args.readings.kept c.args.readings.first.now c.args.aims.now c.args.readings.second.now c.args.strides.now (sym c.if-not-is_met.true ∙ c.is_met.ensures)
 
 pub estimated-requires : goal.estimated-requires
 estimated-requires c = let w : to_z w64 (of_z w64 c.stride_of-own.result) ≡ c.stride_of-own.result = search rules in
@@ -39,6 +39,6 @@ estimated-requires c = let w : to_z w64 (of_z w64 c.stride_of-own.result) ≡ c.
 pub returns : goal.returns
 returns c = let z : to_z w64 (of_z w64 c.estimated.result) ≡ c.estimated.result = search rules in
     let w : to_z w64 (of_z w64 c.stride_of-own.result) ≡ c.stride_of-own.result = search rules in
-    estimate_value c.args.value.now c.header-rule.ensures c.body-body.ensures c.args.x _ c.args.kept c.args.first.now c.args.aims.now c.args.second.now c.args.strides.now
+    estimate_value c.args.value.now c.header-rule.ensures c.body-body.ensures c.args.x _ c.args.readings.kept c.args.readings.first.now c.args.aims.now c.args.readings.second.now c.args.strides.now
     c.if-rule-eq8.false (sym c.if-not-is_met.false ∙ c.is_met.ensures)
     (z ∙ (rw (w ∙ c.stride_of-own.ensures) at c.estimated.ensures))

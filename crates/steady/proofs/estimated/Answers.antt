@@ -56,8 +56,8 @@ summed-requires c =
 pub returns-then-rule-eq1 : goal.returns-then-rule-eq1
 returns-then-rule-eq1 c =
     let ts = terms_of c.args.body.now in
-    let at = reading_of c.args.kept c.args.first.now c.args.second.now ts in
-    let aim = reading_of c.args.kept c.args.aims.now c.args.second.now ts in
+    let at = reading_of c.args.readings.kept c.args.readings.first.now c.args.readings.second.now ts in
+    let aim = reading_of c.args.readings.kept c.args.aims.now c.args.readings.second.now ts in
     let own = nat_abs c.args.own in
     let same-own : nat_abs (to_z w64 (of_z w64 c.args.own)) ≡ own = ap nat_abs (to_z-of_z c.ranges.own) in
     let m : to_z w64 (of_z w64 c.args.rule.c) ≡ c.args.rule.c = search rules in
@@ -73,13 +73,13 @@ moved-requires c = record { evaluable_as = c.requires.evaluable_as; small = (c.r
 pub returns-then-any_outruns : goal.returns-then-any_outruns
 returns-then-any_outruns c =
     let ts = terms_of c.args.body.now in
-    let at = reading_of c.args.kept c.args.first.now c.args.second.now ts in
-    let aim = reading_of c.args.kept c.args.aims.now c.args.second.now ts in
+    let at = reading_of c.args.readings.kept c.args.readings.first.now c.args.readings.second.now ts in
+    let aim = reading_of c.args.readings.kept c.args.aims.now c.args.readings.second.now ts in
     let own = nat_abs c.args.own in
     let same-own : nat_abs (to_z w64 (of_z w64 c.args.own)) ≡ own = ap nat_abs (to_z-of_z c.ranges.own) in
     let z : to_z w64 (of_z w64 c.moved.result) ≡ c.moved.result = search rules in
     of-moved c.args.x c.args.rule.form own c.args.rule.c c.args.strides.now ts at aim c.if-rule-eq1.false _ (z ∙ c.moved.ensures)
-    (held_back own (stride_at c.args.strides.now ts) ts at aim (any-is own c.args.kept c.args.first.now c.args.aims.now c.args.second.now c.args.strides.now ts (to_z w64 (of_z w64 c.args.own)) c.any_outruns.ensures same-own c.if-any_outruns.true))
+    (held_back own (stride_at c.args.strides.now ts) ts at aim (any-is own c.args.readings.kept c.args.readings.first.now c.args.aims.now c.args.readings.second.now c.args.strides.now ts (to_z w64 (of_z w64 c.args.own)) c.any_outruns.ensures same-own c.if-any_outruns.true))
 
 pub moved-requires-2 : goal.moved-requires-2
 moved-requires-2 c = record { evaluable_as = c.requires.evaluable_as; small = c.requires.small }
@@ -87,10 +87,10 @@ moved-requires-2 c = record { evaluable_as = c.requires.evaluable_as; small = c.
 pub returns : goal.returns
 returns c =
     let ts = terms_of c.args.body.now in
-    let at = reading_of c.args.kept c.args.first.now c.args.second.now ts in
-    let aim = reading_of c.args.kept c.args.aims.now c.args.second.now ts in
+    let at = reading_of c.args.readings.kept c.args.readings.first.now c.args.readings.second.now ts in
+    let aim = reading_of c.args.readings.kept c.args.aims.now c.args.readings.second.now ts in
     let own = nat_abs c.args.own in
     let same-own : nat_abs (to_z w64 (of_z w64 c.args.own)) ≡ own = ap nat_abs (to_z-of_z c.ranges.own) in
     let z : to_z w64 (of_z w64 c.moved-2.result) ≡ c.moved-2.result = search rules in
     of-moved c.args.x c.args.rule.form own c.args.rule.c c.args.strides.now ts at aim c.if-rule-eq1.false _ (z ∙ c.moved-2.ensures)
-    (held_on own (stride_at c.args.strides.now ts) ts at aim (any-is own c.args.kept c.args.first.now c.args.aims.now c.args.second.now c.args.strides.now ts (to_z w64 (of_z w64 c.args.own)) c.any_outruns.ensures same-own c.if-any_outruns.false))
+    (held_on own (stride_at c.args.strides.now ts) ts at aim (any-is own c.args.readings.kept c.args.readings.first.now c.args.aims.now c.args.readings.second.now c.args.strides.now ts (to_z w64 (of_z w64 c.args.own)) c.any_outruns.ensures same-own c.if-any_outruns.false))

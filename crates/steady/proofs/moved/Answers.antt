@@ -18,8 +18,8 @@ multiplied-requires c =
 
 pub returns-then-rule-eq4 : goal.returns-then-rule-eq4
 returns-then-rule-eq4 c =
-    let at = reading_of c.args.kept c.args.first.now c.args.second.now (terms_of c.args.body.now) in
-    let aim = reading_of c.args.kept c.args.aims.now c.args.second.now (terms_of c.args.body.now) in
+    let at = reading_of c.args.readings.kept c.args.readings.first.now c.args.readings.second.now (terms_of c.args.body.now) in
+    let aim = reading_of c.args.readings.kept c.args.aims.now c.args.readings.second.now (terms_of c.args.body.now) in
     let m : to_z w64 (of_z w64 c.args.rule.c) ≡ c.args.rule.c = search rules in
     let z : to_z w64 (of_z w64 c.multiplied.result) ≡ c.multiplied.result = search rules in
     z ∙ c.multiplied.ensures
@@ -27,7 +27,7 @@ returns-then-rule-eq4 c =
 
 pub returns : goal.returns
 returns c =
-    let at = reading_of c.args.kept c.args.first.now c.args.second.now (terms_of c.args.body.now) in
-    let aim = reading_of c.args.kept c.args.aims.now c.args.second.now (terms_of c.args.body.now) in
+    let at = reading_of c.args.readings.kept c.args.readings.first.now c.args.readings.second.now (terms_of c.args.body.now) in
+    let aim = reading_of c.args.readings.kept c.args.aims.now c.args.readings.second.now (terms_of c.args.body.now) in
     let z : to_z w64 (of_z w64 c.amount.result) ≡ c.amount.result = search rules in
     z ∙ c.amount.ensures ∙ sym (moved_other c.args.x c.args.rule.c (pos 1) (terms_of c.args.body.now) at aim c.if-rule-eq4.false)

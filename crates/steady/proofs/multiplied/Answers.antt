@@ -37,8 +37,8 @@ product-requires c = record { in_bounds = omega (arith, enough_of c.requires.eva
 
 pub plus-total-requires : goal.plus-total-requires
 plus-total-requires c =
-    let at = reading_of c.args.kept c.args.first.now c.args.second.now (terms_of c.args.body.now) in
-    let small = small c.args.kept c.args.first.now c.args.aims.now c.args.second.now (terms_of c.args.body.now) c.requires.small in
+    let at = reading_of c.args.readings.kept c.args.readings.first.now c.args.readings.second.now (terms_of c.args.body.now) in
+    let small = small c.args.readings.kept c.args.readings.first.now c.args.aims.now c.args.readings.second.now (terms_of c.args.body.now) c.requires.small in
     let v : to_z w64 (of_z w64 c.product.result) ≡ c.product.result = search rules in
     omega (arith, ap nat_abs (to_z-of_z c.ranges.c), c.requires.evaluable_as.near, ap nat_abs (v ∙ c.product.ensures), product_small (at 0) (at 1) (small 0) (small 1))
 
@@ -47,8 +47,8 @@ factor_rise-rise-requires c = record { in_bounds = omega (arith, enough_of c.req
 
 pub further-requires : goal.further-requires
 further-requires c =
-    let at = reading_of c.args.kept c.args.first.now c.args.second.now (terms_of c.args.body.now) in
-    let small = small c.args.kept c.args.first.now c.args.aims.now c.args.second.now (terms_of c.args.body.now) c.requires.small in
+    let at = reading_of c.args.readings.kept c.args.readings.first.now c.args.readings.second.now (terms_of c.args.body.now) in
+    let small = small c.args.readings.kept c.args.readings.first.now c.args.aims.now c.args.readings.second.now (terms_of c.args.body.now) c.requires.small in
     let v : to_z w64 (of_z w64 c.product.result) ≡ c.product.result = search rules in
     let p : to_z w64 (of_z w64 c.plus-total.result) ≡ c.plus-total.result = search rules in
     let r : to_z w64 (of_z w64 c.factor_rise-rise.result) ≡ c.factor_rise-rise.result = search rules in
@@ -61,13 +61,13 @@ further-requires c =
       ap nat_abs (v ∙ c.product.ensures),
       product_small (at 0) (at 1) (small 0) (small 1),
       ap nat_abs (r ∙ c.factor_rise-rise.ensures),
-      rise_small c.args.kept c.args.first.now c.args.aims.now c.args.second.now (terms_of c.args.body.now) c.requires.small,
+      rise_small c.args.readings.kept c.args.readings.first.now c.args.aims.now c.args.readings.second.now (terms_of c.args.body.now) c.requires.small,
     )
 
 pub returns : goal.returns
 returns c =
-    let at = reading_of c.args.kept c.args.first.now c.args.second.now (terms_of c.args.body.now) in
-    let aim = reading_of c.args.kept c.args.aims.now c.args.second.now (terms_of c.args.body.now) in
+    let at = reading_of c.args.readings.kept c.args.readings.first.now c.args.readings.second.now (terms_of c.args.body.now) in
+    let aim = reading_of c.args.readings.kept c.args.aims.now c.args.readings.second.now (terms_of c.args.body.now) in
     let v : to_z w64 (of_z w64 c.product.result) ≡ c.product.result = search rules in
     let p : to_z w64 (of_z w64 c.plus-total.result) ≡ c.plus-total.result = search rules in
     let r : to_z w64 (of_z w64 c.factor_rise-rise.result) ≡ c.factor_rise-rise.result = search rules in

@@ -78,12 +78,12 @@ pub sum-sum-requires : goal.sum-sum-requires
 sum-sum-requires c = record { c_bound = (rw (to_z-of_z c.ranges.c) c.requires.evaluable_as.near, omega (arith, c.requires.evaluable_as.few, terms_length c.args.body.now)); coefficients = c.requires.evaluable_as.weights refl; small = (c.requires.small.0, c.requires.small.2) }
 
 pub times-room-requires : goal.times-room-requires
-times-room-requires c = rw (to_z-of_z c.ranges.divisor, to_z-of_z c.ranges.own) (omega (arith, few c.args.own c.args.c c.args.divisor c.args.kept c.args.first.now c.args.aims.now c.args.second.now c.args.strides.now (terms_of c.args.body.now) c.ranges.c c.ranges.own c.ranges.divisor c.requires.evaluable_as c.requires.pos_bound c.requires.small))
+times-room-requires c = rw (to_z-of_z c.ranges.divisor, to_z-of_z c.ranges.own) (omega (arith, few c.args.own c.args.c c.args.divisor c.args.readings.kept c.args.readings.first.now c.args.aims.now c.args.readings.second.now c.args.strides.now (terms_of c.args.body.now) c.ranges.c c.ranges.own c.ranges.divisor c.requires.evaluable_as c.requires.pos_bound c.requires.small))
 
 pub rise-rise-requires : goal.rise-rise-requires
 rise-rise-requires c = let y : to_z w64 (of_z w64 c.times-room.result) ≡ c.times-room.result = search rules in
-    let m = y ∙ the-room c.args.own c.args.c c.args.divisor c.args.kept c.args.first.now c.args.aims.now c.args.second.now c.args.strides.now (terms_of c.args.body.now) c.ranges.c c.ranges.own c.ranges.divisor c.requires.evaluable_as c.requires.pos_bound c.requires.small c.times-room.ensures in
-    record { pos_bound = (rw m (omega int), rw m (few c.args.own c.args.c c.args.divisor c.args.kept c.args.first.now c.args.aims.now c.args.second.now c.args.strides.now (terms_of c.args.body.now) c.ranges.c c.ranges.own c.ranges.divisor c.requires.evaluable_as c.requires.pos_bound c.requires.small), omega (arith, c.requires.evaluable_as.few, terms_length c.args.body.now)); coefficients = c.requires.evaluable_as.weights refl; small = (c.requires.small.0, c.requires.small.1) }
+    let m = y ∙ the-room c.args.own c.args.c c.args.divisor c.args.readings.kept c.args.readings.first.now c.args.aims.now c.args.readings.second.now c.args.strides.now (terms_of c.args.body.now) c.ranges.c c.ranges.own c.ranges.divisor c.requires.evaluable_as c.requires.pos_bound c.requires.small c.times-room.ensures in
+    record { pos_bound = (rw m (omega int), rw m (few c.args.own c.args.c c.args.divisor c.args.readings.kept c.args.readings.first.now c.args.aims.now c.args.readings.second.now c.args.strides.now (terms_of c.args.body.now) c.ranges.c c.ranges.own c.ranges.divisor c.requires.evaluable_as c.requires.pos_bound c.requires.small), omega (arith, c.requires.evaluable_as.few, terms_length c.args.body.now)); coefficients = c.requires.evaluable_as.weights refl; small = (c.requires.small.0, c.requires.small.1) }
 
 pub further-requires : goal.further-requires
 further-requires c = let v : to_z w64 (of_z w64 c.sum-sum.result) ≡ c.sum-sum.result = search rules in
@@ -91,10 +91,10 @@ further-requires c = let v : to_z w64 (of_z w64 c.sum-sum.result) ≡ c.sum-sum.
     let r : to_z w64 (of_z w64 c.rise-rise.result) ≡ c.rise-rise.result = search rules in
     omega (
       arith,
-      ap nat_abs (v ∙ the_sum c.args.own c.args.c c.args.divisor c.args.kept c.args.first.now c.args.aims.now c.args.second.now c.args.strides.now (terms_of c.args.body.now) c.ranges.c c.ranges.own c.ranges.divisor c.requires.evaluable_as c.requires.pos_bound c.requires.small c.sum-sum.ensures),
-      sum_small c.args.own c.args.c c.args.divisor c.args.kept c.args.first.now c.args.aims.now c.args.second.now c.args.strides.now (terms_of c.args.body.now) c.ranges.c c.ranges.own c.ranges.divisor c.requires.evaluable_as c.requires.pos_bound c.requires.small,
-      ap nat_abs (r ∙ the-rise c.args.own c.args.c c.args.divisor c.args.kept c.args.first.now c.args.aims.now c.args.second.now c.args.strides.now (terms_of c.args.body.now) c.ranges.c c.ranges.own c.ranges.divisor c.requires.evaluable_as c.requires.pos_bound c.requires.small c.rise-rise.ensures (y ∙ the-room c.args.own c.args.c c.args.divisor c.args.kept c.args.first.now c.args.aims.now c.args.second.now c.args.strides.now (terms_of c.args.body.now) c.ranges.c c.ranges.own c.ranges.divisor c.requires.evaluable_as c.requires.pos_bound c.requires.small c.times-room.ensures)),
-      rise_small c.args.own c.args.c c.args.divisor c.args.kept c.args.first.now c.args.aims.now c.args.second.now c.args.strides.now (terms_of c.args.body.now) c.ranges.c c.ranges.own c.ranges.divisor c.requires.evaluable_as c.requires.pos_bound c.requires.small,
+      ap nat_abs (v ∙ the_sum c.args.own c.args.c c.args.divisor c.args.readings.kept c.args.readings.first.now c.args.aims.now c.args.readings.second.now c.args.strides.now (terms_of c.args.body.now) c.ranges.c c.ranges.own c.ranges.divisor c.requires.evaluable_as c.requires.pos_bound c.requires.small c.sum-sum.ensures),
+      sum_small c.args.own c.args.c c.args.divisor c.args.readings.kept c.args.readings.first.now c.args.aims.now c.args.readings.second.now c.args.strides.now (terms_of c.args.body.now) c.ranges.c c.ranges.own c.ranges.divisor c.requires.evaluable_as c.requires.pos_bound c.requires.small,
+      ap nat_abs (r ∙ the-rise c.args.own c.args.c c.args.divisor c.args.readings.kept c.args.readings.first.now c.args.aims.now c.args.readings.second.now c.args.strides.now (terms_of c.args.body.now) c.ranges.c c.ranges.own c.ranges.divisor c.requires.evaluable_as c.requires.pos_bound c.requires.small c.rise-rise.ensures (y ∙ the-room c.args.own c.args.c c.args.divisor c.args.readings.kept c.args.readings.first.now c.args.aims.now c.args.readings.second.now c.args.strides.now (terms_of c.args.body.now) c.ranges.c c.ranges.own c.ranges.divisor c.requires.evaluable_as c.requires.pos_bound c.requires.small c.times-room.ensures)),
+      rise_small c.args.own c.args.c c.args.divisor c.args.readings.kept c.args.readings.first.now c.args.aims.now c.args.readings.second.now c.args.strides.now (terms_of c.args.body.now) c.ranges.c c.ranges.own c.ranges.divisor c.requires.evaluable_as c.requires.pos_bound c.requires.small,
     )
 
 pub over_up-requires : goal.over_up-requires
@@ -109,10 +109,10 @@ over_up-requires c = let v : to_z w64 (of_z w64 c.sum-sum.result) ≡ c.sum-sum.
         arith,
         ap nat_abs (f ∙ c.further.ensures),
         k,
-        ap nat_abs (v ∙ the_sum c.args.own c.args.c c.args.divisor c.args.kept c.args.first.now c.args.aims.now c.args.second.now c.args.strides.now (terms_of c.args.body.now) c.ranges.c c.ranges.own c.ranges.divisor c.requires.evaluable_as c.requires.pos_bound c.requires.small c.sum-sum.ensures),
-        sum_small c.args.own c.args.c c.args.divisor c.args.kept c.args.first.now c.args.aims.now c.args.second.now c.args.strides.now (terms_of c.args.body.now) c.ranges.c c.ranges.own c.ranges.divisor c.requires.evaluable_as c.requires.pos_bound c.requires.small,
-        ap nat_abs (r ∙ the-rise c.args.own c.args.c c.args.divisor c.args.kept c.args.first.now c.args.aims.now c.args.second.now c.args.strides.now (terms_of c.args.body.now) c.ranges.c c.ranges.own c.ranges.divisor c.requires.evaluable_as c.requires.pos_bound c.requires.small c.rise-rise.ensures (y ∙ the-room c.args.own c.args.c c.args.divisor c.args.kept c.args.first.now c.args.aims.now c.args.second.now c.args.strides.now (terms_of c.args.body.now) c.ranges.c c.ranges.own c.ranges.divisor c.requires.evaluable_as c.requires.pos_bound c.requires.small c.times-room.ensures)),
-        rise_small c.args.own c.args.c c.args.divisor c.args.kept c.args.first.now c.args.aims.now c.args.second.now c.args.strides.now (terms_of c.args.body.now) c.ranges.c c.ranges.own c.ranges.divisor c.requires.evaluable_as c.requires.pos_bound c.requires.small,
+        ap nat_abs (v ∙ the_sum c.args.own c.args.c c.args.divisor c.args.readings.kept c.args.readings.first.now c.args.aims.now c.args.readings.second.now c.args.strides.now (terms_of c.args.body.now) c.ranges.c c.ranges.own c.ranges.divisor c.requires.evaluable_as c.requires.pos_bound c.requires.small c.sum-sum.ensures),
+        sum_small c.args.own c.args.c c.args.divisor c.args.readings.kept c.args.readings.first.now c.args.aims.now c.args.readings.second.now c.args.strides.now (terms_of c.args.body.now) c.ranges.c c.ranges.own c.ranges.divisor c.requires.evaluable_as c.requires.pos_bound c.requires.small,
+        ap nat_abs (r ∙ the-rise c.args.own c.args.c c.args.divisor c.args.readings.kept c.args.readings.first.now c.args.aims.now c.args.readings.second.now c.args.strides.now (terms_of c.args.body.now) c.ranges.c c.ranges.own c.ranges.divisor c.requires.evaluable_as c.requires.pos_bound c.requires.small c.rise-rise.ensures (y ∙ the-room c.args.own c.args.c c.args.divisor c.args.readings.kept c.args.readings.first.now c.args.aims.now c.args.readings.second.now c.args.strides.now (terms_of c.args.body.now) c.ranges.c c.ranges.own c.ranges.divisor c.requires.evaluable_as c.requires.pos_bound c.requires.small c.times-room.ensures)),
+        rise_small c.args.own c.args.c c.args.divisor c.args.readings.kept c.args.readings.first.now c.args.aims.now c.args.readings.second.now c.args.strides.now (terms_of c.args.body.now) c.ranges.c c.ranges.own c.ranges.divisor c.requires.evaluable_as c.requires.pos_bound c.requires.small,
         c.requires.evaluable_as.divisor_near,
       ),
     )
@@ -125,8 +125,8 @@ returns c =
     let r : to_z w64 (of_z w64 c.rise-rise.result) ≡ c.rise-rise.result = search rules in
     let f : to_z w64 (of_z w64 c.further.result) ≡ c.further.result = search rules in
     let z : to_z w64 (of_z w64 c.over_up.result) ≡ c.over_up.result = search rules in
-    let m = r ∙ the-rise c.args.own c.args.c c.args.divisor c.args.kept c.args.first.now c.args.aims.now c.args.second.now c.args.strides.now (terms_of c.args.body.now) c.ranges.c c.ranges.own c.ranges.divisor c.requires.evaluable_as c.requires.pos_bound c.requires.small c.rise-rise.ensures (y ∙ the-room c.args.own c.args.c c.args.divisor c.args.kept c.args.first.now c.args.aims.now c.args.second.now c.args.strides.now (terms_of c.args.body.now) c.ranges.c c.ranges.own c.ranges.divisor c.requires.evaluable_as c.requires.pos_bound c.requires.small c.times-room.ensures) in
+    let m = r ∙ the-rise c.args.own c.args.c c.args.divisor c.args.readings.kept c.args.readings.first.now c.args.aims.now c.args.readings.second.now c.args.strides.now (terms_of c.args.body.now) c.ranges.c c.ranges.own c.ranges.divisor c.requires.evaluable_as c.requires.pos_bound c.requires.small c.rise-rise.ensures (y ∙ the-room c.args.own c.args.c c.args.divisor c.args.readings.kept c.args.readings.first.now c.args.aims.now c.args.readings.second.now c.args.strides.now (terms_of c.args.body.now) c.ranges.c c.ranges.own c.ranges.divisor c.requires.evaluable_as c.requires.pos_bound c.requires.small c.times-room.ensures) in
     z ∙ c.over_up.ensures
-    ∙ ap₂ over_up (to_z-of_z c.ranges.divisor) (f ∙ c.further.ensures ∙ ap₂ (further c.args.x) (v ∙ the_sum c.args.own c.args.c c.args.divisor c.args.kept c.args.first.now c.args.aims.now c.args.second.now c.args.strides.now (terms_of c.args.body.now) c.ranges.c c.ranges.own c.ranges.divisor c.requires.evaluable_as c.requires.pos_bound c.requires.small c.sum-sum.ensures)
-    (m ∙ ap pos (rise_is (nat_abs c.args.own) (stride_at c.args.strides.now (terms_of c.args.body.now)) c.args.divisor (terms_of c.args.body.now) c.args.kept c.args.first.now c.args.aims.now c.args.second.now)))
-    ∙ sym (estimated_sum c.args.x c.args.c c.args.divisor ts (reading_of c.args.kept c.args.first.now c.args.second.now ts) (reading_of c.args.kept c.args.aims.now c.args.second.now ts) (nat_abs c.args.own) (stride_at c.args.strides.now ts) refl)
+    ∙ ap₂ over_up (to_z-of_z c.ranges.divisor) (f ∙ c.further.ensures ∙ ap₂ (further c.args.x) (v ∙ the_sum c.args.own c.args.c c.args.divisor c.args.readings.kept c.args.readings.first.now c.args.aims.now c.args.readings.second.now c.args.strides.now (terms_of c.args.body.now) c.ranges.c c.ranges.own c.ranges.divisor c.requires.evaluable_as c.requires.pos_bound c.requires.small c.sum-sum.ensures)
+    (m ∙ ap pos (rise_is (nat_abs c.args.own) (stride_at c.args.strides.now (terms_of c.args.body.now)) c.args.divisor (terms_of c.args.body.now) c.args.readings.kept c.args.readings.first.now c.args.aims.now c.args.readings.second.now)))
+    ∙ sym (estimated_sum c.args.x c.args.c c.args.divisor ts (reading_of c.args.readings.kept c.args.readings.first.now c.args.readings.second.now ts) (reading_of c.args.readings.kept c.args.aims.now c.args.readings.second.now ts) (nat_abs c.args.own) (stride_at c.args.strides.now ts) refl)

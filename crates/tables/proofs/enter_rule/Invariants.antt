@@ -1,5 +1,4 @@
 -- One position after the other.
-use Prim.Native.Nat.{◌≤◌, ◌-◌}
 use mathlib.Core.Path.{◌≡◌}
 use mathlib.Core.Bool.{◌&&◌}
 use lib.Dec.{eqb}
@@ -12,8 +11,5 @@ use Rattle.tables.specs.Tabled.{Entered}
 use Rattle.tables.proofs.enter_rule.Given as goal
 
 abbrev pub invariant-loop-j : goal.invariant-loop-j
-invariant-loop-j l = (l.j ≤ l.n) × (l.n ≡ length (rule_of l.value).terms) × (length l.readers ≡ length l.initial.readers)
+invariant-loop-j l = (length l.readers ≡ length l.initial.readers)
     × Entered l.initial.readers l.readers l.k (λ x. any_below l.j (λ i. bit l.mask i && eqb (body_variable (rule_of l.value) i) x))
-
-abbrev pub decreases-loop-j : goal.decreases-loop-j
-decreases-loop-j l = l.n - l.j

@@ -1,8 +1,7 @@
 -- One rule more is entered at each turn, for every program that the file means.
-use Prim.Native.Nat.{◌-◌, ◌≤◌}
+use Prim.Native.Nat.{◌≤◌}
 use mathlib.Core.Path.{◌≡◌}
 use lib.ListN.{length}
-use borrow.Author.Rules.{rules}
 use Rattle.format.specs.Limits.{max_rules}
 use Rattle.program.specs.Program.{Program}
 use Rattle.program.specs.Reading.{Accepts}
@@ -10,7 +9,4 @@ use Rattle.tables.specs.Tabled.{ReadersAre}
 use Rattle.tables.proofs.fill_readers.Given as goal
 
 abbrev pub invariant-loop-i : goal.invariant-loop-i
-invariant-loop-i l = (l.i ≤ l.rules) × (l.rules ≤ max_rules) × (length l.readers ≡ length l.initial.readers) × ((P : Program) → Accepts l.file P → ReadersAre P l.i l.masks l.readers)
-
-abbrev pub decreases-loop-i : goal.decreases-loop-i
-decreases-loop-i l = l.rules - l.i
+invariant-loop-i l = (l.rules ≤ max_rules) × (length l.readers ≡ length l.initial.readers) × ((P : Program) → Accepts l.file P → ReadersAre P l.i l.masks l.readers)

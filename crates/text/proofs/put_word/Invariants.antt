@@ -1,9 +1,9 @@
--- Invariant: the first i bytes of the word are written.
+-- Invariant: the bytes of the word below the index are written.
 use mathlib.Core.Path.{◌≡◌}
-use Prim.Native.Nat.{◌+◌, ◌≤◌}
-use lib.ListN.{length, take}
+use Prim.Native.Nat.{◌+◌}
+use lib.ListN.{take}
 use Rattle.text.specs.Output.{Appends}
 use Rattle.text.proofs.put_word.Given as goal
 
-abbrev pub invariant-loop-i : goal.invariant-loop-i
-invariant-loop-i l = (length l.output ≡ length l.initial.output) × (l.i ≤ l.i-end) × (l.i-end ≡ length l.word) × (l.next ≡ l.at + l.i) × Appends (take l.i l.word) l.at l.next l.initial.output l.output
+abbrev pub invariant-loop-byte : goal.invariant-loop-byte
+invariant-loop-byte l = (l.next ≡ l.at + l.byte-index) × Appends (take l.byte-index l.word) l.at l.next l.initial.output l.output

@@ -13,4 +13,4 @@ pub returns-in_default : goal.returns-in_default
 returns-in_default c = no_tree_is _ (omega arith) (subst (Ends (tree_in max_levels (drop 1 c.args.value.now)) _ 1) c.in_default.is c.node.ensures)
 
 pub returns : goal.returns
-returns c = ended_shapes _ (omega arith) _ (subst (Ends (tree_in max_levels (drop 1 c.args.value.now)) _ 1) c.in-At.is c.node.ensures) _ refl
+returns c = ended_shapes _ (omega arith) _ (subst (Ends (tree_in max_levels (drop 1 c.args.value.now)) _ 1) c.in-Some.is c.node.ensures) _ refl

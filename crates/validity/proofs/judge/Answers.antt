@@ -9,9 +9,9 @@ use Rattle.validity.proofs.RuleLaws.{variables_few}
 use Rattle.validity.proofs.ComponentLaws.{rows_none, values_none, acting_declared, outcome_is_idle, outcome_is}
 use Rattle.validity.proofs.judge.Goals as goal
 
-pub returns-in-Nothing : goal.returns-in-Nothing
-returns-in-Nothing c = outcome_is_idle c.requires c.acting_variables-acting.ensures
-    (next_none _ 0 max_variables c.next.ensures c.in-Nothing.is)
+pub returns-in-None : goal.returns-in-None
+returns-in-None c = outcome_is_idle c.requires c.acting_variables-acting.ensures
+    (next_none _ 0 max_variables c.next.ensures c.in-None.is)
 
 pub mark_edges-requires : goal.mark_edges-requires
 mark_edges-requires c = record { counted = c.requires; rows_len = omega arith; values_len = (omega arith, values_none max_variables) }

@@ -1,7 +1,6 @@
 -- Invariant: the numbers below i are in.
 use mathlib.Core.Path.{◌≡◌, refl, ap, ◌∙◌}
 use mathlib.Core.Bool.{Bool, ◌||◌}
-use Prim.Native.Nat.{◌-◌}
 use native.Mathlib.Omega.{arith}
 use lib.Dec.{eqb}
 use Rattle.words.specs.Bit.{has}
@@ -10,9 +9,6 @@ use Rattle.words.proofs.fill_bits.Goals as goal
 
 pub loop-i-init : goal.loop-i-init
 loop-i-init c = (omega arith, refl, fill_none c.args.words.now)
-
-pub add_bit-requires : goal.add_bit-requires
-add_bit-requires c = omega arith
 
 pub loop-i-preserved : goal.loop-i-preserved
 loop-i-preserved c = (

@@ -1,6 +1,6 @@
--- Invariant: the first i words have taken in the other's.
+-- Each turn has word t take in the other's.
 use mathlib.Core.Path.{sym, ap}
-use Prim.Native.Nat.{ℕ, ◌-◌}
+use Prim.Native.Nat.{ℕ}
 use native.Mathlib.Nat.{zero-add}
 use native.Mathlib.Omega.{arith}
 use lib.ListN.{get_or}
@@ -8,11 +8,11 @@ use Rattle.words.proofs.Joins.{taken_none, taken_more, taken_whole}
 use Rattle.words.proofs.join_bits.Goals as goal
 
 pub loop-t-init : goal.loop-t-init
-loop-t-init c = (omega arith, taken_none _ _ _ _)
+loop-t-init c = taken_none _ _ _ _
 
 pub loop-t-preserved : goal.loop-t-preserved
 loop-t-preserved c = let e = sym (zero-add c.loop-t.t) in
-    (omega arith, taken_more _ _ _ _ _ _ _ _ e (omega arith) (ap (λ (m : ℕ). get_or c.args.others.now m 0) e) c.loop-t.invariant.1)
+    taken_more _ _ _ _ _ _ _ _ e (omega arith) (ap (λ (m : ℕ). get_or c.args.others.now m 0) e) c.loop-t.invariant
 
 pub returns : goal.returns
-returns c = record { words_len_unchanged = c.loop-t.invariant.1.long; by_index = taken_whole _ _ _ c.loop-t.t (omega arith) (omega arith) c.loop-t.invariant.1 }
+returns c = record { words_len_unchanged = c.loop-t.invariant.long; by_index = taken_whole _ _ _ c.loop-t.t (omega arith) (omega arith) c.loop-t.invariant }

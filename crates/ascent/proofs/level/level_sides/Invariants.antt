@@ -1,5 +1,4 @@
 -- One variable after the other, on both sides.
-use Prim.Native.Nat.{◌-◌, ◌≤◌}
 use mathlib.Core.Path.{◌≡◌}
 use lib.ListN.{length}
 use Rattle.program.specs.Readings.{valued}
@@ -8,4 +7,4 @@ use Rattle.ascent.specs.Level.{LevelSides}
 use Rattle.ascent.proofs.level.level_sides.Given as goal
 
 abbrev pub invariant-loop-v : goal.invariant-loop-v
-invariant-loop-v l = (l.v ≤ l.n) × (length l.sides ≡ sides_length) × LevelSides l.v (valued l.assigned) l.initial.sides l.sides
+invariant-loop-v l = (length l.sides ≡ sides_length) × LevelSides l.v (valued l.assigned) l.initial.sides l.sides

@@ -1,6 +1,6 @@
 -- One variable after the other, each on both sides.
 use mathlib.Core.Path.{◌≡◌}
-use Prim.Native.Nat.{◌-◌, ◌≤◌}
+use Prim.Native.Nat.{◌≤◌}
 use lib.ListN.{length}
 use Rattle.program.specs.Program.{variables_at}
 use Rattle.program.specs.Readings.{valued}

@@ -1,6 +1,6 @@
 -- One variable after the other, each with the value on its own side.
 use mathlib.Core.Path.{◌≡◌}
-use Prim.Native.Nat.{◌-◌, ◌≤◌}
+use Prim.Native.Nat.{◌≤◌}
 use lib.ListN.{length}
 use Rattle.format.specs.Limits.{max_variables}
 use Rattle.program.specs.Program.{variables_at}

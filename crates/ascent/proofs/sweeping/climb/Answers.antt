@@ -1,7 +1,5 @@
 -- The values stay on the way from sweep to sweep, of which there are few; a sweep without a raise is the end, and so are values that have all arrived.
-use Prim.Native.Nat.{◌-◌}
 use native.Mathlib.Omega.{arith}
-use borrow.Author.Rules.{rules}
 use Rattle.reader.proofs.Published.{limited}
 use Rattle.ascent.proofs.ClimbLaws.{some_on, swept_raises, swept_none, climbing_least, all_arrived}
 use Rattle.ascent.proofs.sweeping.climb.Goals as goal
@@ -25,7 +23,7 @@ returns-then-raises-eq0 c = record {
   sides_len_2 = c.sweep-swept.ensures.sides_len_2;
   climb_is = λ P R θ others a k.
       let e = c.sweep-swept.ensures.sweep_up_is P R θ others a (c.loop-counts.invariant.2 P R θ others a k) in
-      let u = swept_raises P R θ others c.args.stops.now c.args.full c.args.counts.rules c.sweep-swept.new.sides e c.in-Raises.is in
+      let u = swept_raises P R θ others c.args.stops.now c.args.full c.args.counts.rules c.sweep-swept.new.sides e c.in-Ok.is in
       climbing_least u.climbing (u.met c.if-raises-eq0.true);
 }
 
@@ -37,7 +35,7 @@ returns-then-have_arrived c = record {
   sides_len_2 = c.sweep-swept.ensures.sides_len_2;
   climb_is = λ P R θ others a k.
       let e = c.sweep-swept.ensures.sweep_up_is P R θ others a (c.loop-counts.invariant.2 P R θ others a k) in
-      let u = swept_raises P R θ others c.args.stops.now c.args.full c.args.counts.rules c.sweep-swept.new.sides e c.in-Raises.is in
+      let u = swept_raises P R θ others c.args.stops.now c.args.full c.args.counts.rules c.sweep-swept.new.sides e c.in-Ok.is in
       all_arrived c.requires.accepted_as a u.climbing c.if-full.true (c.have_arrived.ensures c.if-have_arrived.true);
 }
 
@@ -51,12 +49,12 @@ loop-counts-smaller c = let p = c.pays.ensures c.loop-counts-test.true in
 
 pub loop-counts-preserved : goal.loop-counts-preserved
 loop-counts-preserved c = let e = c.sweep-swept.ensures.sweep_up_is _ _ _ _ c.requires.some_climbing.accepts (c.loop-counts.invariant.2 _ _ _ _ c.requires.some_climbing.accepts c.requires.some_climbing.climbing) in
-    let u = swept_raises c.requires.some_climbing.program c.requires.some_climbing.reckoning c.requires.some_climbing.assigned c.requires.some_climbing.others c.args.stops.now c.args.full c.args.counts.rules c.sweep-swept.new.sides e c.in-Raises.is in (
+    let u = swept_raises c.requires.some_climbing.program c.requires.some_climbing.reckoning c.requires.some_climbing.assigned c.requires.some_climbing.others c.args.stops.now c.args.full c.args.counts.rules c.sweep-swept.new.sides e c.in-Ok.is in (
       omega (arith, u.few, (limited c.requires.accepted_as).few_rules),
       c.sweep-swept.ensures.sides_len_2,
       λ P R θ others a k.
           let e = c.sweep-swept.ensures.sweep_up_is P R θ others a (c.loop-counts.invariant.2 P R θ others a k) in
-          (swept_raises P R θ others c.args.stops.now c.args.full c.args.counts.rules c.sweep-swept.new.sides e c.in-Raises.is).climbing,
+          (swept_raises P R θ others c.args.stops.now c.args.full c.args.counts.rules c.sweep-swept.new.sides e c.in-Ok.is).climbing,
     )
 
 pub returns : goal.returns

@@ -1,5 +1,5 @@
 -- Invariant: the rules from i to before k are met.
-use Prim.Native.Nat.{◌-◌}
+use Rattle.std.specs.Prelude.{Some}
 use mathlib.Core.Path.{◌≡◌, sym, ap, ◌∙◌}
 use native.Mathlib.Omega.{arith}
 use lib.ListN.{length}
@@ -8,7 +8,6 @@ use mir.Val.{to_z, of_z}
 use borrow.Author.Rules.{rules}
 use Rattle.reader.proofs.Published.{counts_of_is}
 use Rattle.run.specs.Running.{RuleMetIn}
-use Rattle.run.specs.declared.Demand.TheVariants.{More}
 use Rattle.run.proofs.StepLaws.{demands_more, demands_enough}
 use Rattle.sided.specs.Reached.{risen}
 use Rattle.ascent.proofs.ClimbLaws.{rule_stands, some_stands, place_inside, place_next, one_more}
@@ -20,14 +19,14 @@ loop-k-init c = (omega arith, c.requires.i_le_rules.0, c.requires.at_value, λ P
 pub look-asked-requires : goal.look-asked-requires
 look-asked-requires c = record { some_rule = some_stands c.requires.accepted_as c.loop-k-test.true c.loop-k.invariant.2; small = c.requires.i_le_rules.1 }
 
-pub returns-in-More : goal.returns-in-More
-returns-in-More c = let z : to_z w64 (of_z w64 c.in-More.a) ≡ c.in-More.a = search rules in
+pub returns-in-Some : goal.returns-in-Some
+returns-in-Some c = let z : to_z w64 (of_z w64 c.in-Some.a) ≡ c.in-Some.a = search rules in
     λ P R θ a f.
     let s = rule_stands c.requires.accepted_as c.loop-k-test.true c.loop-k.invariant.2 a in
     record {
       from = c.loop-k.invariant.0;
       stands = s;
-      exceeds = demands_more P R θ (risen P.variables c.args.sides.now) c.loop-k.k (c.look-asked.ensures P R θ c.loop-k.k s (f c.loop-k.k s.among)) (c.in-More.is ∙ ap More (sym z));
+      exceeds = demands_more P R θ (risen P.variables c.args.sides.now) c.loop-k.k (c.look-asked.ensures P R θ c.loop-k.k s (f c.loop-k.k s.among)) (c.in-Some.is ∙ ap Some (sym z));
       before = c.loop-k.invariant.3 P R θ a f;
     }
 

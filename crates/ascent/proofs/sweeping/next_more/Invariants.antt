@@ -1,7 +1,6 @@
 -- Invariant: the rules from i to before k are met.
-use Prim.Native.Nat.{ℕ, ◌-◌, ◌<◌, ◌≤◌}
+use Prim.Native.Nat.{ℕ, ◌<◌, ◌≤◌}
 use mathlib.Core.Path.{◌≡◌}
-use borrow.Author.Rules.{rules}
 use Rattle.program.specs.Program.{Program}
 use Rattle.program.specs.Reading.{Accepts}
 use Rattle.program.specs.Readings.{Valuation}
@@ -15,6 +14,3 @@ use Rattle.ascent.proofs.sweeping.next_more.Given as goal
 abbrev pub invariant-loop-k : goal.invariant-loop-k
 invariant-loop-k l = (l.i ≤ l.k) × (l.k ≤ l.rules) × ((P : Program) → Accepts l.file P → l.place ≡ rule_place l.file P l.k)
     × ((P : Program) (R : Reckoning) (θ : Valuation) → Accepts l.file P → AllReadOn P R θ l.stops l.full l.sides → (j : ℕ) → l.i ≤ j → j < l.k → RuleMetIn P R θ (risen P.variables l.sides) j)
-
-abbrev pub decreases-loop-k : goal.decreases-loop-k
-decreases-loop-k l = l.rules - l.k

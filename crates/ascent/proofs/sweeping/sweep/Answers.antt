@@ -1,11 +1,9 @@
 -- Invariant: the values are on the way, and the next rule is rule i; while there is no raise it is rule 0.
-use Prim.Native.Nat.{◌-◌}
 use mathlib.Core.Path.{◌≡◌, sym, ap, ◌∙◌}
 use native.Mathlib.Omega.{arith}
 use mir.Syntax.{w64}
 use mir.Val.{to_z, of_z}
 use borrow.Author.Rules.{rules}
-use borrow.Author.Tests.{not-true, not-false}
 use Rattle.reader.proofs.Published.{counts_of_is, limited, first_rule}
 use Rattle.sided.specs.Reached.{risen}
 use Rattle.ascent.specs.declared.sweeping.Next.TheVariants.{More}

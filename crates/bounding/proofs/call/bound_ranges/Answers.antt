@@ -2,7 +2,6 @@
 use mathlib.Core.Path.{refl}
 use mathlib.Core.Bool.{true, false}
 use native.Mathlib.Omega.{arith}
-use borrow.Author.Tests.{not-true, not-false}
 use Rattle.format.specs.Limits.{max_variables}
 use Rattle.program.specs.Program.{variables_at}
 use Rattle.lent.specs.BoundsCall.{turned_down}

@@ -15,9 +15,9 @@ values_of-requires c = let l = limited c.requires.accepted_as in
     record { n_in_bounds = (l.inside, l.few_variables); model_len = c.requires.model_len }
 
 pub finish-requires : goal.finish-requires
-finish-requires c = let w = climbed_open c.requires.accepted_as c.requires.fits_ranges c.args.others.now c.args.stops.now c.requires.at_others c.requires.at_stops c.start_sides.ensures.sides_start c.free_heads.ensures.freed _ c.climb-climbed.result c.climb-climbed.ensures.climb_is c.requires.by_index c.values_of.ensures.filled c.in-Open.is in
+finish-requires c = let w = climbed_open c.requires.accepted_as c.requires.fits_ranges c.args.others.now c.args.stops.now c.requires.at_others c.requires.at_stops c.start_sides.ensures.sides_start c.free_heads.ensures.freed _ c.climb-climbed.result c.climb-climbed.ensures.climb_is c.requires.by_index c.values_of.ensures.filled c.in-None.is in
     record { accepted_as = c.requires.accepted_as; fits_ranges = c.requires.fits_ranges; at_others = c.requires.at_others; at_stops = c.requires.at_stops; on_the_way = w; model_len = c.values_of.ensures.model_len_2 }
 
-pub returns-in-Ended : goal.returns-in-Ended
-returns-in-Ended c = let w = climbed_ended c.requires.accepted_as c.requires.fits_ranges c.args.others.now c.args.stops.now c.requires.at_others c.requires.at_stops c.start_sides.ensures.sides_start c.free_heads.ensures.freed _ c.climb-climbed.result c.climb-climbed.ensures.climb_is c.requires.by_index c.values_of.ensures.filled c.in-Ended.is in
+pub returns-in-Some : goal.returns-in-Some
+returns-in-Some c = let w = climbed_ended c.requires.accepted_as c.requires.fits_ranges c.args.others.now c.args.stops.now c.requires.at_others c.requires.at_stops c.start_sides.ensures.sides_start c.free_heads.ensures.freed _ c.climb-climbed.result c.climb-climbed.ensures.climb_is c.requires.by_index c.values_of.ensures.filled c.in-Some.is in
     record { model_len_2 = c.values_of.ensures.model_len_2; ends_bounded = w }

@@ -3,7 +3,6 @@ use Rattle.meaning.specs.Stable.{ConstraintMet}
 use Rattle.verdict.specs.Checks.{constraint_unmet}
 use Rattle.checker.proofs.CheckLaws.{small_in}
 use Rattle.checker.proofs.MetLaws.{unmet_at, unmet_none}
-use borrow.Author.Rules.{rules}
 use Rattle.program.specs.Readings.{valued}
 use Rattle.checker.proofs.call.check_constraints.Goals as goal
 
@@ -17,11 +16,11 @@ compare-requires c = record {
   meets = λ P x. record {
     ranges = c.requires.within P x;
     rules = c.requires.rule_met P x;
-    constraints = unmet_none (ConstraintMet P (valued c.args.values.now)) (c.first_unmet_constraint-unmet.ensures P x) c.in-Nothing.is;
+    constraints = unmet_none (ConstraintMet P (valued c.args.values.now)) (c.first_unmet_constraint-unmet.ensures P x) c.in-None.is;
   };
   variables_in_bounds = c.requires.variables_in_bounds;
 }
 
-pub returns-in-At : goal.returns-in-At
-returns-in-At c = λ P x. constraint_unmet (c.requires.within P x) (c.requires.rule_met P x)
-    (unmet_at (ConstraintMet P (valued c.args.values.now)) (c.first_unmet_constraint-unmet.ensures P x) c.in-At.is)
+pub returns-in-Some : goal.returns-in-Some
+returns-in-Some c = λ P x. constraint_unmet (c.requires.within P x) (c.requires.rule_met P x)
+    (unmet_at (ConstraintMet P (valued c.args.values.now)) (c.first_unmet_constraint-unmet.ensures P x) c.in-Some.is)

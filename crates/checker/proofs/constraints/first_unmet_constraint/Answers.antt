@@ -1,9 +1,7 @@
 -- One constraint more is met at each turn, for every program that the file means; there is one, since it is accepted.
-use Prim.Native.Nat.{◌-◌}
 use native.Mathlib.Omega.{arith}
 use Rattle.reader.proofs.Published.{reads_accepts}
 use Rattle.checker.proofs.MetLaws.{next_place, lies, constraint_unmet_at, constraint_met_at, constraints_met}
-use borrow.Author.Tests.{not-true, not-false}
 use Rattle.program.specs.Readings.{valued}
 use Rattle.checker.proofs.constraints.first_unmet_constraint.Goals as goal
 

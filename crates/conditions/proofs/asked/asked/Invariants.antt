@@ -1,7 +1,5 @@
 -- One rule after the other, each at its place.
-use Prim.Native.Nat.{◌-◌, ◌≤◌}
 use mathlib.Core.Path.{◌≡◌}
-use borrow.Author.Rules.{rules}
 use Rattle.words.specs.Bit.{has}
 use Rattle.program.specs.Tables.{any_below}
 use Rattle.program.specs.Fields.{value_at}
@@ -12,9 +10,5 @@ use Rattle.conditions.specs.Asking.{AsksMore, asked_into}
 use Rattle.conditions.proofs.asked.asked.Given as goal
 
 abbrev pub invariant-loop-i : goal.invariant-loop-i
-invariant-loop-i l = (l.i ≤ l.rules)
-    × ((P : Program) → Accepts l.file P → (l.at ≡ rule_place l.file P l.i)
-    × AsksMore l.initial.all l.all (λ asks v. any_below l.i (λ j. asked_into (variables_at l.file l.n) (has l.set.words) (rule_of (value_at l.file (rule_place l.file P j))) asks v)))
-
-abbrev pub decreases-loop-i : goal.decreases-loop-i
-decreases-loop-i l = l.rules - l.i
+invariant-loop-i l = (P : Program) → Accepts l.file P → (l.at ≡ rule_place l.file P l.i)
+    × AsksMore l.initial.all l.all (λ asks v. any_below l.i (λ j. asked_into (variables_at l.file l.n) (has l.set.words) (rule_of (value_at l.file (rule_place l.file P j))) asks v))

@@ -1,7 +1,4 @@
 -- One position after the other.
-use Prim.Native.Nat.{◌-◌, ◌≤◌}
-use mathlib.Core.Path.{◌≡◌}
-use lib.ListN.{length}
 use Rattle.words.specs.Bit.{has}
 use Rattle.program.specs.Tables.{any_below}
 use Rattle.program.specs.Program.{rule_of, variables_at}
@@ -10,8 +7,4 @@ use Rattle.conditions.specs.Asking.{AsksMore}
 use Rattle.conditions.proofs.asking.ask_rule.Given as goal
 
 abbrev pub invariant-loop-j : goal.invariant-loop-j
-invariant-loop-j l = (l.j ≤ l.n) × (l.n ≡ length (rule_of l.value).terms)
-    × AsksMore l.initial.all l.all (λ asks v. any_below l.j (λ i. asked_at (variables_at l.file l.variables) (has l.set.words) asks (rule_of l.value) i v))
-
-abbrev pub decreases-loop-j : goal.decreases-loop-j
-decreases-loop-j l = l.n - l.j
+invariant-loop-j l = AsksMore l.initial.all l.all (λ asks v. any_below l.j (λ i. asked_at (variables_at l.file l.variables) (has l.set.words) asks (rule_of l.value) i v))

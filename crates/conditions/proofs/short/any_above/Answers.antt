@@ -1,20 +1,20 @@
--- One variable after the other.
-use Prim.Native.Nat.{ℕ, ◌-◌}
-use mathlib.Core.Path.{◌≡◌, ap, ◌∙◌}
+-- One variable after the other: the first that is founded from above ends the loop.
+use mathlib.Core.Path.{sym, ap, ◌∙◌}
 use native.Mathlib.Omega.{arith}
-use Rattle.program.specs.Tables.{any_below}
-use Rattle.program.specs.Program.{variable_in, variables_at}
+use borrow.Author.Count.{below_more}
 use Rattle.program.specs.Variables.{from_above}
-use Rattle.program.proofs.Conditions.{any_none, any_more}
+use Rattle.program.proofs.Conditions.{below_none, below_some}
 use Rattle.conditions.proofs.short.any_above.Goals as goal
 
-pub loop-v-init : goal.loop-v-init
-loop-v-init c = (omega arith, any_none _)
+pub returns-then-is_from_above : goal.returns-then-is_from_above
+returns-then-is_from_above c =
+    let x = c.variable-variable.ensures c.args.variables (omega arith) in
+    sym (below_some _ _ c.loop-v.v (omega arith) (sym (c.is_from_above.ensures ∙ ap from_above x) ∙ c.if-is_from_above.true))
 
 pub loop-v-preserved : goal.loop-v-preserved
-loop-v-preserved c = let x = c.variable-variable.ensures c.args.variables (omega arith) in
-    (omega arith, any_more _ _ _ _ c.loop-v.invariant.1 (c.is_from_above-above.ensures ∙ ap from_above x))
+loop-v-preserved c =
+    let x = c.variable-variable.ensures c.args.variables (omega arith) in
+    below_more _ c.loop-v.v c.loop-v.invariant (sym (c.is_from_above.ensures ∙ ap from_above x) ∙ c.if-is_from_above.false)
 
 pub returns : goal.returns
-returns c = let e : c.loop-v.v ≡ c.args.variables = omega arith in
-    c.loop-v.invariant.1 ∙ ap (λ (u : ℕ). any_below u (λ v. from_above (variable_in (variables_at c.args.file.now c.args.variables) v))) e
+returns c = sym (below_none _ _ (λ v l. c.loop-v.invariant v (omega arith)))

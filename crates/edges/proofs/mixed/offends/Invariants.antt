@@ -1,7 +1,6 @@
--- Invariant: whether some position before i is mixed with its variable in the head's component.
+-- Invariant: no position before i is mixed with its variable in the head's component.
 use mathlib.Core.Path.{◌≡◌}
-use Prim.Native.Nat.{◌≤◌, ◌-◌}
-use lib.ListN.{length}
+use mathlib.Core.Bool.{false}
 use Rattle.program.specs.Tables.{any_below}
 use Rattle.program.specs.Program.{rule_of, variables_at}
 use Rattle.reach.specs.Rows.{row_has}
@@ -9,7 +8,4 @@ use Rattle.edges.specs.Edges.{offends_at}
 use Rattle.edges.proofs.mixed.offends.Given as goal
 
 abbrev pub invariant-loop-i : goal.invariant-loop-i
-invariant-loop-i l = (l.i ≤ l.n) × (l.n ≡ length (rule_of l.value).terms) × (l.found ≡ any_below l.i (offends_at (row_has l.rows) (variables_at l.file l.variables) (rule_of l.value)))
-
-abbrev pub decreases-loop-i : goal.decreases-loop-i
-decreases-loop-i l = l.n - l.i
+invariant-loop-i l = false ≡ any_below l.i (offends_at (row_has l.rows) (variables_at l.file l.variables) (rule_of l.value))

@@ -5,7 +5,6 @@ use lib.IntN.{ℤ, pos}
 use lib.ListN.{get_or}
 use mir.Syntax.{w64}
 use mir.Val.{to_z, of_z}
-use borrow.Author.Tests.{not-true, not-false}
 use Rattle.run.specs.Running.{head_of}
 use Rattle.run.proofs.RunLaws.{head_lies, here_head, head_field, head_variable}
 use Rattle.ends.proofs.FreeLaws.{freed_past, freed_raised}

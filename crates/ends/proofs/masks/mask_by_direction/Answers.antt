@@ -1,6 +1,5 @@
 -- From the last position to the first, one bit a step; a position that is mixed and not single counts for the whole rule.
 use mathlib.Core.Path.{refl}
-use Prim.Native.Nat.{◌-◌}
 use native.Mathlib.Omega.{arith}
 use Rattle.program.specs.Program.{rule_of, variables_at}
 use Rattle.program.specs.Readings.{valued}

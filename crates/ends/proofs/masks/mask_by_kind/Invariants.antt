@@ -17,6 +17,3 @@ invariant-loop-i l = let vs = variables_at l.file l.variables in
     let n = length (rule_of l.value).terms in
     (l.i ≤ n) × Mask (from (in_model vs r) l.i) (n - l.i) l.bits
     × ((any_below l.i (loose_at vs (valued l.lows) (valued l.highs) r) || l.free) ≡ any_below n (loose_at vs (valued l.lows) (valued l.highs) r))
-
-abbrev pub decreases-loop-i : goal.decreases-loop-i
-decreases-loop-i l = l.i

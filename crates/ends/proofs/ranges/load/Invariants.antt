@@ -1,6 +1,6 @@
 -- Invariant: the first v ranges are loaded, the others as they were.
 use mathlib.Core.Path.{◌≡◌}
-use Prim.Native.Nat.{◌-◌, ◌/◌, ◌≤◌}
+use Prim.Native.Nat.{◌/◌, ◌≤◌}
 use lib.ListN.{length}
 use Rattle.format.specs.Limits.{max_variables}
 use Rattle.reduct.specs.Filling.{Filled}

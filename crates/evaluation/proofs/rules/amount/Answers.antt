@@ -40,8 +40,8 @@ largest-requires c =
 pub plus-requires : goal.plus-requires
 plus-requires c =
     let m : to_z w64 (of_z w64 c.args.rule.c) ≡ c.args.rule.c = search rules in
-    let at = reading_of c.args.kept c.args.first.now c.args.second.now (terms_of c.args.body.now) in
-    let small = readings c.args.kept c.args.first.now c.args.second.now (terms_of c.args.body.now) c.requires.small in
+    let at = reading_of c.args.readings.kept c.args.readings.first.now c.args.readings.second.now (terms_of c.args.body.now) in
+    let small = readings c.args.readings.kept c.args.readings.first.now c.args.readings.second.now (terms_of c.args.body.now) c.requires.small in
     let v : to_z w64 (of_z w64 c.largest.result) ≡ c.largest.result = search rules in
     omega (arith, ap nat_abs m, c.requires.evaluable_as.near, ap nat_abs (v ∙ c.largest.ensures), largest_small at max_number small (length (terms_of c.args.body.now) - 1))
 
@@ -53,8 +53,8 @@ smallest-requires c =
 pub plus-requires-in-3 : goal.plus-requires-in-3
 plus-requires-in-3 c =
     let m : to_z w64 (of_z w64 c.args.rule.c) ≡ c.args.rule.c = search rules in
-    let at = reading_of c.args.kept c.args.first.now c.args.second.now (terms_of c.args.body.now) in
-    let small = readings c.args.kept c.args.first.now c.args.second.now (terms_of c.args.body.now) c.requires.small in
+    let at = reading_of c.args.readings.kept c.args.readings.first.now c.args.readings.second.now (terms_of c.args.body.now) in
+    let small = readings c.args.readings.kept c.args.readings.first.now c.args.readings.second.now (terms_of c.args.body.now) c.requires.small in
     let v : to_z w64 (of_z w64 c.smallest.result) ≡ c.smallest.result = search rules in
     omega (arith, ap nat_abs m, c.requires.evaluable_as.near, ap nat_abs (v ∙ c.smallest.ensures), smallest_small at max_number small (length (terms_of c.args.body.now) - 1))
 
@@ -65,8 +65,8 @@ product-requires-clause-in_bounds c =
 pub plus-requires-in-4 : goal.plus-requires-in-4
 plus-requires-in-4 c =
     let m : to_z w64 (of_z w64 c.args.rule.c) ≡ c.args.rule.c = search rules in
-    let at = reading_of c.args.kept c.args.first.now c.args.second.now (terms_of c.args.body.now) in
-    let small = readings c.args.kept c.args.first.now c.args.second.now (terms_of c.args.body.now) c.requires.small in
+    let at = reading_of c.args.readings.kept c.args.readings.first.now c.args.readings.second.now (terms_of c.args.body.now) in
+    let small = readings c.args.readings.kept c.args.readings.first.now c.args.readings.second.now (terms_of c.args.body.now) c.requires.small in
     let v : to_z w64 (of_z w64 c.product.result) ≡ c.product.result = search rules in
     omega (arith, ap nat_abs m, c.requires.evaluable_as.near, ap nat_abs (v ∙ c.product.ensures), product_small (at 0) (at 1) (small 0) (small 1))
 
@@ -76,14 +76,14 @@ read_position-only-requires c =
 
 pub size-requires : goal.size-requires
 size-requires c =
-    let small = readings c.args.kept c.args.first.now c.args.second.now (terms_of c.args.body.now) c.requires.small in
+    let small = readings c.args.readings.kept c.args.readings.first.now c.args.readings.second.now (terms_of c.args.body.now) c.requires.small in
     let v : to_z w64 (of_z w64 c.read_position-only.result) ≡ c.read_position-only.result = search rules in
     omega (arith, ap nat_abs (v ∙ c.read_position-only.ensures), small 0)
 
 pub plus-requires-in-5 : goal.plus-requires-in-5
 plus-requires-in-5 c =
     let m : to_z w64 (of_z w64 c.args.rule.c) ≡ c.args.rule.c = search rules in
-    let small = readings c.args.kept c.args.first.now c.args.second.now (terms_of c.args.body.now) c.requires.small in
+    let small = readings c.args.readings.kept c.args.readings.first.now c.args.readings.second.now (terms_of c.args.body.now) c.requires.small in
     let v : to_z w64 (of_z w64 c.read_position-only.result) ≡ c.read_position-only.result = search rules in
     let z : to_z w64 (of_z w64 c.size.result) ≡ c.size.result = search rules in
     omega (arith, ap nat_abs m, c.requires.evaluable_as.near, ap nat_abs (z ∙ c.size.ensures), ap nat_abs (v ∙ c.read_position-only.ensures), small 0)
@@ -95,7 +95,7 @@ read_position-requires c =
 pub plus-requires-in-7 : goal.plus-requires-in-7
 plus-requires-in-7 c =
     let m : to_z w64 (of_z w64 c.args.rule.c) ≡ c.args.rule.c = search rules in
-    let small = readings c.args.kept c.args.first.now c.args.second.now (terms_of c.args.body.now) c.requires.small in
+    let small = readings c.args.readings.kept c.args.readings.first.now c.args.readings.second.now (terms_of c.args.body.now) c.requires.small in
     let v : to_z w64 (of_z w64 c.read_position.result) ≡ c.read_position.result = search rules in
     omega (arith, ap nat_abs m, c.requires.evaluable_as.near, ap nat_abs (v ∙ c.read_position.ensures), small 0)
 

@@ -16,7 +16,7 @@ returns-then-rule-eq8 c = let z : to_z w64 (of_z w64 c.header-rule.result.c) ≡
     let d : to_z w64 (of_z w64 c.divisor-divisor.result) ≡ c.divisor-divisor.result = search rules in
     let r : to_z w64 (of_z w64 c.divided.result) ≡ c.divided.result = search rules in
     divided_as c.args.value.now c.header-rule.ensures c.body-body.ensures c.if-rule-eq8.true c.divisor-divisor.ensures
-    c.args.kept c.args.first.now c.args.second.now (r ∙ (rw (z, d) at c.divided.ensures))
+    c.args.readings.kept c.args.readings.first.now c.args.readings.second.now (r ∙ (rw (z, d) at c.divided.ensures))
 
 pub amount-requires : goal.amount-requires
 amount-requires c = record { evaluable_as = handed_evaluable c.args.value.now c.header-rule.ensures c.body-body.ensures c.if-rule-eq8.false c.requires.evaluable; small = c.requires.small }
@@ -24,4 +24,4 @@ amount-requires c = record { evaluable_as = handed_evaluable c.args.value.now c.
 pub returns : goal.returns
 returns c = let z : to_z w64 (of_z w64 c.amount.result) ≡ c.amount.result = search rules in
     amount_as c.args.value.now c.header-rule.ensures c.body-body.ensures c.if-rule-eq8.false
-    c.args.kept c.args.first.now c.args.second.now (z ∙ c.amount.ensures)
+    c.args.readings.kept c.args.readings.first.now c.args.readings.second.now (z ∙ c.amount.ensures)

@@ -22,9 +22,9 @@ sum-requires-clause-c_bound c = (rw (to_z-of_z c.ranges.c) c.requires.evaluable_
 pub over_up-requires : goal.over_up-requires
 over_up-requires c =
     let ts = terms_of c.args.body.now in
-    let at = reading_of c.args.kept c.args.first.now c.args.second.now ts in
+    let at = reading_of c.args.readings.kept c.args.readings.first.now c.args.readings.second.now ts in
     let v : to_z w64 (of_z w64 c.sum.result) ≡ c.sum.result = search rules in
-    let w = total_small c.args.kept c.args.first.now c.args.second.now ts (c.requires.evaluable_as.weights refl) c.requires.small.0 c.requires.small.1 (length ts) (omega arith) in
+    let w = total_small c.args.readings.kept c.args.readings.first.now c.args.readings.second.now ts (c.requires.evaluable_as.weights refl) c.requires.small.0 c.requires.small.1 (length ts) (omega arith) in
     let b = abs_add (to_z w64 (of_z w64 c.args.c)) (sum_below (weighted ts at) (length ts)) in
     rw (to_z-of_z c.ranges.divisor)
     (c.requires.evaluable_as.divisor_least, omega (arith, ap nat_abs (to_z-of_z c.ranges.c), c.requires.evaluable_as.near, c.requires.evaluable_as.few, c.requires.evaluable_as.divisor_near, ap nat_abs (v ∙ c.sum.ensures), w, b))
@@ -32,7 +32,7 @@ over_up-requires c =
 pub returns : goal.returns
 returns c =
     let ts = terms_of c.args.body.now in
-    let at = reading_of c.args.kept c.args.first.now c.args.second.now ts in
+    let at = reading_of c.args.readings.kept c.args.readings.first.now c.args.readings.second.now ts in
     let v : to_z w64 (of_z w64 c.sum.result) ≡ c.sum.result = search rules in
     let z : to_z w64 (of_z w64 c.over_up.result) ≡ c.over_up.result = search rules in
     let t = v ∙ c.sum.ensures ∙ ap (λ (k : ℤ). k +ℤ sum_below (weighted ts at) (length ts)) (to_z-of_z c.ranges.c) in

@@ -1,4 +1,5 @@
 -- What is not past z counts for nothing, whether or not the literals hold.
+use Rattle.std.specs.Prelude.{Some}
 use mathlib.Core.Path.{◌≡◌, sym, ap, ◌∙◌}
 use mathlib.Core.Bool.{not}
 use mir.Syntax.{w64}
@@ -6,7 +7,6 @@ use mir.Val.{to_z, of_z}
 use mir.Facts.{to_z-of_z}
 use borrow.Author.Tests.{not-true, not-false}
 use Rattle.program.specs.Variables.{not_past}
-use Rattle.program.specs.declared.Given.TheVariants.{Value}
 use Rattle.evaluation.proofs.Gives.{past_nothing, past_before, past_value}
 use borrow.Author.Rules.{rules}
 use Rattle.evaluation.proofs.rules.gives_past.Goals as goal
@@ -22,5 +22,5 @@ returns-then-not-is_rule_met c = past_nothing _ _ _ _ (sym (not-true _ c.if-not-
 pub returns : goal.returns
 returns c = let z : to_z w64 (of_z w64 c.amount_of-a.result) ≡ c.amount_of-a.result = search rules in
     let e : c.is_before.result ≡ not (not_past c.args.x c.amount_of-a.result c.args.z) = rw (z, to_z-of_z c.ranges.z) at c.is_before.ensures in
-    ap Value z ∙ past_value _ _ c.args.x c.args.z (sym (not-false _ c.if-not-is_rule_met.false-raw) ∙ c.is_rule_met.ensures) c.amount_of-a.ensures
+    ap Some z ∙ past_value _ _ c.args.x c.args.z (sym (not-false _ c.if-not-is_rule_met.false-raw) ∙ c.is_rule_met.ensures) c.amount_of-a.ensures
     (not-true _ (sym e ∙ not-false _ c.if-not-is_before.false-raw))

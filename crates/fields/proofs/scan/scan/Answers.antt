@@ -16,28 +16,19 @@ returns-in-End c = scan_ended _ _ _ _ c.loop-tag.invariant (sym c.in-End.is ∙ 
 pub returns-in_default-field : goal.returns-in_default-field
 returns-in_default-field c = scan_cut _ _ _ _ c.loop-tag.invariant (sym (not_whole _ c.in_default.not-End c.in_default-field.not-Whole) ∙ c.field-field.ensures)
 
-pub overflow_add-start : goal.overflow_add-start
-overflow_add-start c = let w = field_stands _ _ _ _ _ _ (sym c.in-Whole.is ∙ c.field-field.ensures) in omega arith
+pub overflow_add-value : goal.overflow_add-value
+overflow_add-value c = let w = field_stands _ _ _ _ _ _ (sym c.in-Whole.is ∙ c.field-field.ensures) in omega arith
 
-pub slice_bounds-check_field-count : goal.slice_bounds-check_field-count
-slice_bounds-check_field-count c = omega arith
-
-pub slice_bounds-check_field-start : goal.slice_bounds-check_field-start
-slice_bounds-check_field-start c = omega arith
-
-pub slice_bounds-check_field-end : goal.slice_bounds-check_field-end
-slice_bounds-check_field-end c = let w = field_stands _ _ _ _ _ _ (sym c.in-Whole.is ∙ c.field-field.ensures) in omega arith
-
-pub with-counts-requires : goal.with-counts-requires
-with-counts-requires c = omega arith
+pub slice_bounds-value-end : goal.slice_bounds-value-end
+slice_bounds-value-end c = let w = field_stands _ _ _ _ _ _ (sym c.in-Whole.is ∙ c.field-field.ensures) in omega arith
 
 pub loop-tag-smaller : goal.loop-tag-smaller
 loop-tag-smaller c = let w = field_stands _ _ _ _ _ _ (sym c.in-Whole.is ∙ c.field-field.ensures) in omega arith
 
 pub loop-tag-preserved : goal.loop-tag-preserved
 loop-tag-preserved c = scan_more _ _ _ _ c.loop-tag.invariant _ _ _ _
-    (field_stands _ _ _ _ _ _ (sym c.in-Whole.is ∙ c.field-field.ensures)) _ c.check_field-checked.ensures _ c.in_default-checked.is c.with-counts.ensures
+    (field_stands _ _ _ _ _ _ (sym c.in-Whole.is ∙ c.field-field.ensures)) _ c.check_field.ensures _ c.in_default-check_field.is c.with-counts.ensures
 
-pub returns-in-loop-tag : goal.returns-in-loop-tag
-returns-in-loop-tag c = scan_bad _ _ _ _ c.loop-tag.invariant _ _ _ _
-    (field_stands _ _ _ _ _ _ (sym c.in-Whole.is ∙ c.field-field.ensures)) _ c.check_field-checked.ensures _ c.in-Bad.is
+pub returns-in-Err : goal.returns-in-Err
+returns-in-Err c = scan_bad _ _ _ _ c.loop-tag.invariant _ _ _ _
+    (field_stands _ _ _ _ _ _ (sym c.in-Whole.is ∙ c.field-field.ensures)) _ c.check_field.ensures _ c.in-Err.is

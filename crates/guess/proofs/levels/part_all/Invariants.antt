@@ -1,9 +1,8 @@
-use Prim.Native.Nat.{◌-◌, ◌≤◌}
 use mathlib.Core.Path.{◌≡◌}
 use lib.ListN.{length}
 use Rattle.format.specs.Limits.{max_variables}
 use Rattle.program.specs.Evaluable.{Small}
 use Rattle.guess.proofs.levels.part_all.Given as goal
 
-abbrev pub invariant-loop-k : goal.invariant-loop-k
-invariant-loop-k l = (length l.low ≡ max_variables) × Small l.low × (length l.high ≡ max_variables) × Small l.high × (l.k ≤ l.count)
+abbrev pub invariant-loop-head : goal.invariant-loop-head
+invariant-loop-head l = (length l.low ≡ max_variables) × Small l.low × (length l.high ≡ max_variables) × Small l.high

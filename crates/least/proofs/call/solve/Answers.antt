@@ -1,4 +1,5 @@
 -- The run ends in the least model, which is written, or where there is no model.
+use Rattle.std.specs.Prelude.{Result}
 use mathlib.Core.Path.{refl, sym, subst}
 use mathlib.Core.Bool.{true≢false}
 use Rattle.format.specs.Limits.{max_variables}
@@ -8,10 +9,10 @@ use Rattle.meaning.specs.Reduct.{reduct}
 use Rattle.reduct.proofs.AssignedLaws.{in_ranges, zero_past, one_valuation}
 use Rattle.reduct.proofs.Fills.{zeros}
 use Rattle.run.specs.Running.{EndsWith}
-use Rattle.run.specs.declared.Ending.{Ending}
 use Rattle.ascent.proofs.LevelLaws.{zero_sides}
 use Rattle.least.proofs.CallLaws.{model_small, a_model, a_none}
 use Rattle.least.proofs.call.solve.Goals as goal
+use Rattle.run.specs.declared.NoModel.{NoModel}
 
 pub run-ending-requires : goal.run-ending-requires
 run-ending-requires c = let p = one_valuation _ _ c.requires.by_index in
@@ -23,19 +24,19 @@ pub write_values-requires : goal.write_values-requires
 write_values-requires c = let p = one_valuation _ _ c.requires.by_index in
     let θ = valued c.args.values.now in
     let y = reads_accepts c.requires.accepted_as in
-    let x = subst (λ (q : Ending). EndsWith y.meant (reduct y.meant) θ (valued c.run-ending.new.model) q) c.in-Model.is (c.run-ending.ensures.ends_with y.meant y.accepts) in
+    let x = subst (λ (q : Result (Unit {0}) NoModel). EndsWith y.meant (reduct y.meant) θ (valued c.run-ending.new.model) q) c.in-Ok.is (c.run-ending.ensures.ends_with y.meant y.accepts) in
     record { n_le_max_variables = ((limited c.requires.accepted_as).few_variables, c.requires.assignment_len.1); by_index = model_small c.args.file.now c.args.counts c.requires.accepted_as c.args.assignment.now c.args.buffer.now c.requires.assignment_len.0 c.requires.assignment_len.1 c.requires.all_inside θ p c.run-ending.new.model x }
 
-pub returns-in-Model : goal.returns-in-Model
-returns-in-Model c = let p = one_valuation _ _ c.requires.by_index in
+pub returns-in-Ok : goal.returns-in-Ok
+returns-in-Ok c = let p = one_valuation _ _ c.requires.by_index in
     let θ = valued c.args.values.now in
     let y = reads_accepts c.requires.accepted_as in
-    let x = subst (λ (q : Ending). EndsWith y.meant (reduct y.meant) θ (valued c.run-ending.new.model) q) c.in-Model.is (c.run-ending.ensures.ends_with y.meant y.accepts) in
+    let x = subst (λ (q : Result (Unit {0}) NoModel). EndsWith y.meant (reduct y.meant) θ (valued c.run-ending.new.model) q) c.in-Ok.is (c.run-ending.ensures.ends_with y.meant y.accepts) in
     a_model c.args.file.now c.args.counts c.requires.accepted_as c.args.assignment.now c.args.buffer.now c.requires.assignment_len.0 c.requires.assignment_len.1 c.requires.all_inside θ p (valued c.run-ending.new.model) _ x c.write_values.ensures
 
-pub returns-in-NoModel : goal.returns-in-NoModel
-returns-in-NoModel c = let p = one_valuation _ _ c.requires.by_index in
+pub returns-in-Err : goal.returns-in-Err
+returns-in-Err c = let p = one_valuation _ _ c.requires.by_index in
     let θ = valued c.args.values.now in
     let y = reads_accepts c.requires.accepted_as in
-    let x = subst (λ (q : Ending). EndsWith y.meant (reduct y.meant) θ (valued c.run-ending.new.model) q) c.in-NoModel.is (c.run-ending.ensures.ends_with y.meant y.accepts) in
+    let x = subst (λ (q : Result (Unit {0}) NoModel). EndsWith y.meant (reduct y.meant) θ (valued c.run-ending.new.model) q) c.in-Err.is (c.run-ending.ensures.ends_with y.meant y.accepts) in
     a_none c.args.file.now c.args.counts c.requires.accepted_as c.args.assignment.now c.args.buffer.now c.requires.assignment_len.0 c.requires.assignment_len.1 c.requires.all_inside θ p x

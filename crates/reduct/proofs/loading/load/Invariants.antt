@@ -1,6 +1,6 @@
 -- Invariant: the first i values are loaded, the others as they were.
 use mathlib.Core.Path.{◌≡◌}
-use Prim.Native.Nat.{◌-◌, ◌/◌, ◌≤◌}
+use Prim.Native.Nat.{◌/◌, ◌≤◌}
 use lib.ListN.{length}
 use Rattle.format.specs.Limits.{max_variables}
 use Rattle.meaning.specs.Stable.{assigned}

@@ -21,24 +21,24 @@ returns-in_default c = let e = has c.union-either.result.words in
     wrote_end (marked_of (has c.args.first.words) c.args.mark (has c.args.second.words) c.args.other (valued c.args.values.now)) c.loop-v.from max_variables (neither (has c.args.first.words) (has c.args.second.words) c.args.mark c.args.other (valued c.args.values.now) c.union-either.ensures n) c.loop-v.invariant.0 c.loop-v.invariant.2
 
 pub overflow_cast-v : goal.overflow_cast-v
-overflow_cast-v c = omega (arith, ((let it : LeastFrom (has c.union-either.result.words) c.loop-v.from max_variables c.in-At.v = next_at_is (has c.union-either.result.words) c.loop-v.from max_variables c.next.ensures c.in-At.is in it)).below)
+overflow_cast-v c = omega (arith, ((let it : LeastFrom (has c.union-either.result.words) c.loop-v.from max_variables c.in-Some.v = next_at_is (has c.union-either.result.words) c.loop-v.from max_variables c.next.ensures c.in-Some.is in it)).below)
 
 pub write_variable-i-requires : goal.write_variable-i-requires
-write_variable-i-requires c = let f = (let it : LeastFrom (has c.union-either.result.words) c.loop-v.from max_variables c.in-At.v = next_at_is (has c.union-either.result.words) c.loop-v.from max_variables c.next.ensures c.in-At.is in it) in record {
-  v_in_bounds = wrote_room (marked_of (has c.args.first.words) c.args.mark (has c.args.second.words) c.args.other (valued c.args.values.now)) c.loop-v.from c.in-At.v max_variables (neither (has c.args.first.words) (has c.args.second.words) c.args.mark c.args.other (valued c.args.values.now) c.union-either.ensures f.first) f.above f.below c.loop-v.invariant.2
+write_variable-i-requires c = let f = (let it : LeastFrom (has c.union-either.result.words) c.loop-v.from max_variables c.in-Some.v = next_at_is (has c.union-either.result.words) c.loop-v.from max_variables c.next.ensures c.in-Some.is in it) in record {
+  v_in_bounds = wrote_room (marked_of (has c.args.first.words) c.args.mark (has c.args.second.words) c.args.other (valued c.args.values.now)) c.loop-v.from c.in-Some.v max_variables (neither (has c.args.first.words) (has c.args.second.words) c.args.mark c.args.other (valued c.args.values.now) c.union-either.ensures f.first) f.above f.below c.loop-v.invariant.2
       c.requires.values_in_bounds c.loop-v.invariant.1;
   small = c.requires.small;
 }
 
 pub overflow_add-from : goal.overflow_add-from
-overflow_add-from c = omega (arith, ((let it : LeastFrom (has c.union-either.result.words) c.loop-v.from max_variables c.in-At.v = next_at_is (has c.union-either.result.words) c.loop-v.from max_variables c.next.ensures c.in-At.is in it)).below)
+overflow_add-from c = omega (arith, ((let it : LeastFrom (has c.union-either.result.words) c.loop-v.from max_variables c.in-Some.v = next_at_is (has c.union-either.result.words) c.loop-v.from max_variables c.next.ensures c.in-Some.is in it)).below)
 
 pub loop-v-smaller : goal.loop-v-smaller
-loop-v-smaller c = let f = (let it : LeastFrom (has c.union-either.result.words) c.loop-v.from max_variables c.in-At.v = next_at_is (has c.union-either.result.words) c.loop-v.from max_variables c.next.ensures c.in-At.is in it) in omega (arith, f.above, f.below)
+loop-v-smaller c = let f = (let it : LeastFrom (has c.union-either.result.words) c.loop-v.from max_variables c.in-Some.v = next_at_is (has c.union-either.result.words) c.loop-v.from max_variables c.next.ensures c.in-Some.is in it) in omega (arith, f.above, f.below)
 
 pub loop-v-preserved : goal.loop-v-preserved
-loop-v-preserved c = let f = (let it : LeastFrom (has c.union-either.result.words) c.loop-v.from max_variables c.in-At.v = next_at_is (has c.union-either.result.words) c.loop-v.from max_variables c.next.ensures c.in-At.is in it) in (
+loop-v-preserved c = let f = (let it : LeastFrom (has c.union-either.result.words) c.loop-v.from max_variables c.in-Some.v = next_at_is (has c.union-either.result.words) c.loop-v.from max_variables c.next.ensures c.in-Some.is in it) in (
   omega (arith, f.below),
   c.write_variable-i.auto.report ∙ c.loop-v.invariant.1,
-  wrote_next (marked_of (has c.args.first.words) c.args.mark (has c.args.second.words) c.args.other (valued c.args.values.now)) c.loop-v.from c.in-At.v (neither (has c.args.first.words) (has c.args.second.words) c.args.mark c.args.other (valued c.args.values.now) c.union-either.ensures f.first) f.above c.loop-v.invariant.2 c.write_variable-i.ensures,
+  wrote_next (marked_of (has c.args.first.words) c.args.mark (has c.args.second.words) c.args.other (valued c.args.values.now)) c.loop-v.from c.in-Some.v (neither (has c.args.first.words) (has c.args.second.words) c.args.mark c.args.other (valued c.args.values.now) c.union-either.ensures f.first) f.above c.loop-v.invariant.2 c.write_variable-i.ensures,
 )

@@ -12,7 +12,7 @@ use Rattle.run.proofs.demands.step.Given as goal
 
 abbrev pub invariant-loop-i : goal.invariant-loop-i
 invariant-loop-i l = (length l.waiting ≡ row_words) × Inside (has l.waiting) (has l.initial.waiting)
-    × ((P : Program) (R : Reckoning) (θ : Valuation) → Reckons l.file P R θ l.offsets l.masks l.others l.stops l.cut → AsAssigned P θ l.model
+    × ((P : Program) (R : Reckoning) (θ : Valuation) → Reckons l.source.file.now P R θ l.source.offsets.now l.source.masks.now l.source.others.now l.source.stops.now l.source.cut → AsAssigned P θ l.model
     → MetOutside P R θ (valued l.model) (has l.initial.waiting) → MetOutside P R θ (valued l.model) (has l.waiting))
 
 abbrev pub decreases-loop-i : goal.decreases-loop-i

@@ -1,5 +1,4 @@
 -- Invariant: the first t words have taken in those from `start` on.
-use Prim.Native.Nat.{◌-◌, ◌≤◌}
 use mathlib.Core.Path.{◌≡◌}
 use lib.ListN.{length}
 use Rattle.words.proofs.Joins.{Taken}
@@ -7,7 +6,4 @@ use Rattle.tables.specs.Tabled.{row_words}
 use Rattle.run.proofs.solve.join_rest.Given as goal
 
 abbrev pub invariant-loop-t : goal.invariant-loop-t
-invariant-loop-t l = (l.t ≤ row_words) × (length l.waiting ≡ row_words) × Taken l.initial.waiting l.readers l.waiting 0 l.start l.t
-
-abbrev pub decreases-loop-t : goal.decreases-loop-t
-decreases-loop-t l = l.n - l.t
+invariant-loop-t l = (length l.waiting ≡ row_words) × Taken l.initial.waiting l.readers l.waiting 0 l.start l.t

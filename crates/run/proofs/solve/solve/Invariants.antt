@@ -11,8 +11,8 @@ use Rattle.run.specs.Running.{Running}
 use Rattle.run.proofs.solve.solve.Given as goal
 
 abbrev pub invariant-loop-i : goal.invariant-loop-i
-invariant-loop-i l = ((P : Program) (R : Reckoning) (θ : Valuation) → Running l.file P R θ l.offsets l.masks l.readers l.others l.stops l.cut l.initial.model l.initial.waiting
-    → Running l.file P R θ l.offsets l.masks l.readers l.others l.stops l.cut l.model l.waiting) × (length l.model ≡ max_variables) × (length l.waiting ≡ row_words)
+invariant-loop-i l = ((P : Program) (R : Reckoning) (θ : Valuation) → Running l.source.file.now P R θ l.source.offsets.now l.source.masks.now l.readers l.source.others.now l.source.stops.now l.source.cut l.initial.model l.initial.waiting
+    → Running l.source.file.now P R θ l.source.offsets.now l.source.masks.now l.readers l.source.others.now l.source.stops.now l.source.cut l.model l.waiting) × (length l.model ≡ max_variables) × (length l.waiting ≡ row_words)
 
 abbrev pub decreases-loop-i : goal.decreases-loop-i
-decreases-loop-i l = gap (variables_at l.file max_variables) l.model
+decreases-loop-i l = gap (variables_at l.source.file.now max_variables) l.model

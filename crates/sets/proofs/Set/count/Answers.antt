@@ -10,9 +10,6 @@ use Rattle.sets.proofs.Counts.{count_set}
 use borrow.Author.Rules.{rules}
 use Rattle.sets.proofs.Set.count.Goals as goal
 
-pub bounds-self-3 : goal.bounds-self-3
-bounds-self-3 c = search rules
-
 -- a (let it : (t : ℕ) → get_or fits.before.before.before.before.args.t1.words t 0 < 2 ^ word_bits = λ t. let f : Fits w64 (get_or fits.before.before.before.before.args.t1.words t 0) = search rules in f.fits in it), and has (let it : (t : ℕ) → ones (get_or bits.before.before.before.before.args.t1.words t 0) ≤ word_bits = λ t. ones-le word_bits _ ((let it : (t : ℕ) → get_or bits.before.before.before.before.args.t1.words t 0 < 2 ^ word_bits = λ t. let f : Fits w64 (get_or bits.before.before.before.before.args.t1.words t 0) = search rules in f.fits in it) t) in it)
 
 pub overflow_add-result : goal.overflow_add-result

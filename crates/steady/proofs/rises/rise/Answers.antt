@@ -49,22 +49,19 @@ returns-then-left-eq0 c =
     let ts = terms_of c.args.body.now in
     let d = nat_abs (to_z w64 (of_z w64 c.args.room)) in
     let few : d ≤ max_divisor * max_number = rw (to_z-of_z c.ranges.room) c.requires.pos_bound.1 in
-    let st = stride c.args.kept c.args.first.now c.args.aims.now c.args.strides.now (terms_of c.args.body.now) in
-    let sp = steps c.args.kept c.args.first.now c.args.aims.now c.args.strides.now (terms_of c.args.body.now) in
+    let st = stride c.args.readings.kept c.args.readings.first.now c.args.aims.now c.args.strides.now (terms_of c.args.body.now) in
+    let sp = steps c.args.readings.kept c.args.readings.first.now c.args.aims.now c.args.strides.now (terms_of c.args.body.now) in
     let e = ap nat_abs (sym c.loop-i.invariant.2 ∙ ap (to_z w64) c.if-left-eq0.true) in
-    c.loop-i.invariant.3 ∙ ap pos (rise_whole d (number_at ts) st sp (one c.args.kept c.args.first.now c.args.aims.now c.args.strides.now (terms_of c.args.body.now)) c.loop-i.i (length ts) (omega (arith, terms_length c.args.body.now)) e)
+    c.loop-i.invariant.3 ∙ ap pos (rise_whole d (number_at ts) st sp (one c.args.readings.kept c.args.readings.first.now c.args.aims.now c.args.strides.now (terms_of c.args.body.now)) c.loop-i.i (length ts) (omega (arith, terms_length c.args.body.now)) e)
     ∙ ap (λ (x : ℤ). pos (rise_below (nat_abs x) (number_at ts) st sp (length ts))) (to_z-of_z c.ranges.room)
-
-pub term-term-requires : goal.term-term-requires
-term-term-requires c = omega arith
 
 pub share_of-part-requires : goal.share_of-part-requires
 share_of-part-requires c =
     let ts = terms_of c.args.body.now in
     let d = nat_abs (to_z w64 (of_z w64 c.args.room)) in
     let few : d ≤ max_divisor * max_number = rw (to_z-of_z c.ranges.room) c.requires.pos_bound.1 in
-    let st = stride c.args.kept c.args.first.now c.args.aims.now c.args.strides.now (terms_of c.args.body.now) in
-    let sp = steps c.args.kept c.args.first.now c.args.aims.now c.args.strides.now (terms_of c.args.body.now) in
+    let st = stride c.args.readings.kept c.args.readings.first.now c.args.aims.now c.args.strides.now (terms_of c.args.body.now) in
+    let sp = steps c.args.readings.kept c.args.readings.first.now c.args.aims.now c.args.strides.now (terms_of c.args.body.now) in
     let m = c.requires.coefficients c.loop-i.i (omega (arith, terms_length c.args.body.now)) in
     record { pos_bound = (rw c.loop-i.invariant.2 (omega int), rw c.loop-i.invariant.2 (omega (arith, room_most d (number_at ts) st sp c.loop-i.i)), rw c.term-term.ensures m, omega arith); small = c.requires.small }
 
@@ -73,35 +70,35 @@ overflow_add-total c =
     let ts = terms_of c.args.body.now in
     let d = nat_abs (to_z w64 (of_z w64 c.args.room)) in
     let few : d ≤ max_divisor * max_number = rw (to_z-of_z c.ranges.room) c.requires.pos_bound.1 in
-    let st = stride c.args.kept c.args.first.now c.args.aims.now c.args.strides.now (terms_of c.args.body.now) in
-    let sp = steps c.args.kept c.args.first.now c.args.aims.now c.args.strides.now (terms_of c.args.body.now) in
+    let st = stride c.args.readings.kept c.args.readings.first.now c.args.aims.now c.args.strides.now (terms_of c.args.body.now) in
+    let sp = steps c.args.readings.kept c.args.readings.first.now c.args.aims.now c.args.strides.now (terms_of c.args.body.now) in
     let x : to_z w64 (of_z w64 c.share_of-part.result.rise) ≡ c.share_of-part.result.rise = search rules in
-    total_fits d (number_at ts) st sp c.loop-i.i few (one c.args.kept c.args.first.now c.args.aims.now c.args.strides.now (terms_of c.args.body.now)) (small c.args.kept c.args.first.now c.args.aims.now c.args.strides.now (terms_of c.args.body.now) c.requires.small) c.loop-i.invariant.3 (x ∙ (taken_here c.args.kept c.args.first.now c.args.aims.now c.args.strides.now (terms_of c.args.body.now) d c.loop-i.i c.loop-i.invariant.2 c.term-term.ensures c.share_of-part.ensures).1)
+    total_fits d (number_at ts) st sp c.loop-i.i few (one c.args.readings.kept c.args.readings.first.now c.args.aims.now c.args.strides.now (terms_of c.args.body.now)) (small c.args.readings.kept c.args.readings.first.now c.args.aims.now c.args.strides.now (terms_of c.args.body.now) c.requires.small) c.loop-i.invariant.3 (x ∙ (taken_here c.args.readings.kept c.args.readings.first.now c.args.aims.now c.args.strides.now (terms_of c.args.body.now) d c.loop-i.i c.loop-i.invariant.2 c.term-term.ensures c.share_of-part.ensures).1)
 
 pub overflow_sub-left : goal.overflow_sub-left
 overflow_sub-left c =
     let ts = terms_of c.args.body.now in
     let d = nat_abs (to_z w64 (of_z w64 c.args.room)) in
     let few : d ≤ max_divisor * max_number = rw (to_z-of_z c.ranges.room) c.requires.pos_bound.1 in
-    let st = stride c.args.kept c.args.first.now c.args.aims.now c.args.strides.now (terms_of c.args.body.now) in
-    let sp = steps c.args.kept c.args.first.now c.args.aims.now c.args.strides.now (terms_of c.args.body.now) in
+    let st = stride c.args.readings.kept c.args.readings.first.now c.args.aims.now c.args.strides.now (terms_of c.args.body.now) in
+    let sp = steps c.args.readings.kept c.args.readings.first.now c.args.aims.now c.args.strides.now (terms_of c.args.body.now) in
     let x : to_z w64 (of_z w64 c.share_of-part.result.taken) ≡ c.share_of-part.result.taken = search rules in
-    room_fits d (number_at ts) st sp c.loop-i.i few c.loop-i.invariant.2 (x ∙ (taken_here c.args.kept c.args.first.now c.args.aims.now c.args.strides.now (terms_of c.args.body.now) d c.loop-i.i c.loop-i.invariant.2 c.term-term.ensures c.share_of-part.ensures).0)
+    room_fits d (number_at ts) st sp c.loop-i.i few c.loop-i.invariant.2 (x ∙ (taken_here c.args.readings.kept c.args.readings.first.now c.args.aims.now c.args.strides.now (terms_of c.args.body.now) d c.loop-i.i c.loop-i.invariant.2 c.term-term.ensures c.share_of-part.ensures).0)
 
 pub loop-i-preserved : goal.loop-i-preserved
 loop-i-preserved c =
     let ts = terms_of c.args.body.now in
     let d = nat_abs (to_z w64 (of_z w64 c.args.room)) in
     let few : d ≤ max_divisor * max_number = rw (to_z-of_z c.ranges.room) c.requires.pos_bound.1 in
-    let st = stride c.args.kept c.args.first.now c.args.aims.now c.args.strides.now (terms_of c.args.body.now) in
-    let sp = steps c.args.kept c.args.first.now c.args.aims.now c.args.strides.now (terms_of c.args.body.now) in
-    let h = taken_here c.args.kept c.args.first.now c.args.aims.now c.args.strides.now (terms_of c.args.body.now) d c.loop-i.i c.loop-i.invariant.2 c.term-term.ensures c.share_of-part.ensures in
+    let st = stride c.args.readings.kept c.args.readings.first.now c.args.aims.now c.args.strides.now (terms_of c.args.body.now) in
+    let sp = steps c.args.readings.kept c.args.readings.first.now c.args.aims.now c.args.strides.now (terms_of c.args.body.now) in
+    let h = taken_here c.args.readings.kept c.args.readings.first.now c.args.aims.now c.args.strides.now (terms_of c.args.body.now) d c.loop-i.i c.loop-i.invariant.2 c.term-term.ensures c.share_of-part.ensures in
     let x : to_z w64 (of_z w64 c.share_of-part.result.taken) ≡ c.share_of-part.result.taken = search rules in
     let y : to_z w64 (of_z w64 c.share_of-part.result.rise) ≡ c.share_of-part.result.rise = search rules in (
       omega arith,
       refl,
       to_z-of_z (room_fits d (number_at ts) st sp c.loop-i.i few c.loop-i.invariant.2 (x ∙ h.0)) ∙ room_here d (number_at ts) st sp c.loop-i.i c.loop-i.invariant.2 (x ∙ h.0),
-      to_z-of_z (total_fits d (number_at ts) st sp c.loop-i.i few (one c.args.kept c.args.first.now c.args.aims.now c.args.strides.now (terms_of c.args.body.now)) (small c.args.kept c.args.first.now c.args.aims.now c.args.strides.now (terms_of c.args.body.now) c.requires.small) c.loop-i.invariant.3 (y ∙ h.1))
+      to_z-of_z (total_fits d (number_at ts) st sp c.loop-i.i few (one c.args.readings.kept c.args.readings.first.now c.args.aims.now c.args.strides.now (terms_of c.args.body.now)) (small c.args.readings.kept c.args.readings.first.now c.args.aims.now c.args.strides.now (terms_of c.args.body.now) c.requires.small) c.loop-i.invariant.3 (y ∙ h.1))
           ∙ total_here d (number_at ts) st sp c.loop-i.i c.loop-i.invariant.3 (y ∙ h.1),
     )
 
@@ -110,8 +107,8 @@ returns c =
     let ts = terms_of c.args.body.now in
     let d = nat_abs (to_z w64 (of_z w64 c.args.room)) in
     let few : d ≤ max_divisor * max_number = rw (to_z-of_z c.ranges.room) c.requires.pos_bound.1 in
-    let st = stride c.args.kept c.args.first.now c.args.aims.now c.args.strides.now (terms_of c.args.body.now) in
-    let sp = steps c.args.kept c.args.first.now c.args.aims.now c.args.strides.now (terms_of c.args.body.now) in
+    let st = stride c.args.readings.kept c.args.readings.first.now c.args.aims.now c.args.strides.now (terms_of c.args.body.now) in
+    let sp = steps c.args.readings.kept c.args.readings.first.now c.args.aims.now c.args.strides.now (terms_of c.args.body.now) in
     let e : c.loop-i.i ≡ length ts = omega (arith, terms_length c.args.body.now) in
     c.loop-i.invariant.3 ∙ ap (λ (n : ℕ). pos (rise_below d (number_at ts) st sp n)) e
     ∙ ap (λ (x : ℤ). pos (rise_below (nat_abs x) (number_at ts) st sp (length ts))) (to_z-of_z c.ranges.room)

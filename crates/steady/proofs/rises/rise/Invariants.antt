@@ -11,5 +11,5 @@ use Rattle.steady.proofs.rises.rise.Given as goal
 
 abbrev pub invariant-loop-i : goal.invariant-loop-i
 invariant-loop-i l = (l.i ≤ l.n) × (l.n ≡ length l.body / 4)
-    × (l.left ≡ pos (room_below (nat_abs l.room) (number_at (terms_of l.body)) (stride_at l.strides (terms_of l.body)) (steps_at l.kept l.first l.aims (terms_of l.body)) l.i))
-    × (l.total ≡ pos (rise_below (nat_abs l.room) (number_at (terms_of l.body)) (stride_at l.strides (terms_of l.body)) (steps_at l.kept l.first l.aims (terms_of l.body)) l.i))
+    × (l.left ≡ pos (room_below (nat_abs l.room) (number_at (terms_of l.body)) (stride_at l.strides (terms_of l.body)) (steps_at l.readings.kept l.readings.first.now l.aims (terms_of l.body)) l.i))
+    × (l.total ≡ pos (rise_below (nat_abs l.room) (number_at (terms_of l.body)) (stride_at l.strides (terms_of l.body)) (steps_at l.readings.kept l.readings.first.now l.aims (terms_of l.body)) l.i))

@@ -42,7 +42,7 @@ times-taken-requires c =
     let z : to_z w64 (of_z w64 c.weight-weight.result) ≡ c.weight-weight.result = search rules in
     let p = x ∙ c.steps_of-steps.ensures in
     let q = y ∙ c.stride_of-stride.ensures in
-    rw (z ∙ the-weight c.ranges.room n c.weight-weight.ensures q p, q) (omega (arith, weight_room (nat_abs c.args.room) c.args.term.number (stride_of c.args.strides.now c.args.term.variable) (steps_of c.args.kept c.args.first.now c.args.aims.now c.args.i c.args.term.variable), c.requires.pos_bound.1))
+    rw (z ∙ the-weight c.ranges.room n c.weight-weight.ensures q p, q) (omega (arith, weight_room (nat_abs c.args.room) c.args.term.number (stride_of c.args.strides.now c.args.term.variable) (steps_of c.args.readings.kept c.args.readings.first.now c.args.aims.now c.args.i c.args.term.variable), c.requires.pos_bound.1))
 
 pub times-rise-requires : goal.times-rise-requires
 times-rise-requires c =
@@ -54,8 +54,8 @@ times-rise-requires c =
     let q = y ∙ c.stride_of-stride.ensures in
     rw (z ∙ the-weight c.ranges.room n c.weight-weight.ensures q p, p) (omega (
       arith,
-      rise_small c.args.room c.args.term.number (stride_of c.args.strides.now c.args.term.variable) (steps_of c.args.kept c.args.first.now c.args.aims.now c.args.i c.args.term.variable) c.requires.pos_bound.2
-          (steps_small c.args.kept c.args.first.now c.args.aims.now c.requires.small.0 c.requires.small.1 c.args.i _),
+      rise_small c.args.room c.args.term.number (stride_of c.args.strides.now c.args.term.variable) (steps_of c.args.readings.kept c.args.readings.first.now c.args.aims.now c.args.i c.args.term.variable) c.requires.pos_bound.2
+          (steps_small c.args.readings.kept c.args.readings.first.now c.args.aims.now c.requires.small.0 c.requires.small.1 c.args.i _),
     ))
 
 pub returns : goal.returns

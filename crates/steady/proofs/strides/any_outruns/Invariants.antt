@@ -12,4 +12,4 @@ use Rattle.steady.proofs.strides.any_outruns.Given as goal
 
 abbrev pub invariant-loop-i : goal.invariant-loop-i
 invariant-loop-i l = (l.i ≤ l.n) × (l.n ≡ length l.body / 4)
-    × (l.found ≡ any_below l.i (outruns (nat_abs l.own) (stride_at l.strides (terms_of l.body)) (terms_of l.body) (steps_at l.kept l.first l.aims (terms_of l.body))))
+    × (l.found ≡ any_below l.i (outruns (nat_abs l.own) (stride_at l.strides (terms_of l.body)) (terms_of l.body) (steps_at l.readings.kept l.readings.first.now l.aims (terms_of l.body))))

@@ -20,11 +20,11 @@ first_aim-requires c = let z : to_z w64 (of_z w64 (get_or c.args.model.now c.arg
 
 pub returns : goal.returns
 returns c = let z : to_z w64 (of_z w64 (get_or c.args.model.now c.args.v (pos 0))) ≡ get_or c.args.model.now c.args.v (pos 0) = search rules in
-    let s : to_z w64 (of_z w64 (get_or c.args.stops.now c.args.v (pos 0))) ≡ get_or c.args.stops.now c.args.v (pos 0) = search rules in
+    let s : to_z w64 (of_z w64 (get_or c.args.source.now.stops.now c.args.v (pos 0))) ≡ get_or c.args.source.now.stops.now c.args.v (pos 0) = search rules in
     let t : to_z w64 (of_z w64 (get_or c.args.target.now c.args.v (pos 0))) ≡ get_or c.args.target.now c.args.v (pos 0) = search rules in
     let n : to_z w64 (of_z w64 (get_or c.args.strides.now c.args.v (pos 0))) ≡ get_or c.args.strides.now c.args.v (pos 0) = search rules in
     let y : to_z w64 (of_z w64 c.stride_by.result) ≡ c.stride_by.result = search rules in
     let r : to_z w64 (of_z w64 c.first_aim.result) ≡ c.first_aim.result = search rules in
-    r ∙ aim_variable (variables_at c.args.file.now c.args.variables) c.args.cut c.args.strides.now c.args.stops.now c.args.model.now c.args.target.now c.args.v
-    (c.variable-x.ensures c.args.variables (omega arith)) s z t
+    r ∙ aim_variable (variables_at c.args.source.now.file.now c.args.source.now.counts.variables) c.args.source.now.cut c.args.strides.now c.args.source.now.stops.now c.args.model.now c.args.target.now c.args.v
+    (c.variable-x.ensures c.args.source.now.counts.variables (omega arith)) s z t
     (ap nat_abs (y ∙ c.stride_by.ensures ∙ ap (λ (k : ℤ). pos (stride_by k)) n)) c.first_aim.ensures

@@ -3,7 +3,6 @@ use mathlib.Core.Path.{◌≡◌, sym, ◌∙◌}
 use mir.Syntax.{w64}
 use mir.Val.{to_z, of_z}
 use mir.Facts.{to_z-of_z}
-use borrow.Author.Tests.{not-true, not-false}
 use Rattle.targets.proofs.AimLaws.{closed_aim, open_aim, open_after}
 use borrow.Author.Rules.{rules}
 use Rattle.targets.proofs.aims.first_aim.Goals as goal

@@ -1,7 +1,6 @@
 -- The aims that rules lifted arrive, and the values become the targets; or nothing changes.
 use mathlib.Core.Path.{refl}
 use native.Mathlib.Omega.{arith}
-use borrow.Author.Tests.{not-false}
 use Rattle.format.specs.Limits.{max_variables}
 use Rattle.reader.proofs.Published.{limited}
 use Rattle.reduct.proofs.Fills.{zeros}

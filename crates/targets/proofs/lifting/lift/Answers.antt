@@ -20,7 +20,7 @@ pub returns : goal.returns
 returns c = let z : to_z w64 (of_z w64 c.next_aim-next.result) ≡ c.next_aim-next.result = search rules in record {
   aims_len_2 = simp length-set c.requires.aims_len;
   aims_kept = λ P R θ A₀ k.
-      let l = rule_among c.requires.accepted_as k.reckons.accepts c.args.i (omega (arith, c.if-i-counts.false)) in
+      let l = rule_among c.requires.accepted_as k.reckons.accepts c.args.i (omega (arith, c.if-i-source.false)) in
       let h = k.reckons.stands c.args.i l in
       let g = subst (RuleStands _ P c.args.i) (sym c.place_in-at.ensures) h in
       let q = rw c.mask_in-mask.ensures at (c.next_aim-next.ensures P c.args.i g) in

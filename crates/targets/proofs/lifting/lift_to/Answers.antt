@@ -11,12 +11,12 @@ pub returns-in_default : goal.returns-in_default
 returns-in_default c = to_z-of_z c.ranges.aim ∙ nothing_lifts c.args.x c.args.aim c.args.target c.in_default.is
 
 pub returns-then-not-is_before : goal.returns-then-not-is_before
-returns-then-not-is_before c = let z : to_z w64 (of_z w64 c.in-Value.b) ≡ c.in-Value.b = search rules in
+returns-then-not-is_before c = let z : to_z w64 (of_z w64 c.in-Some.b) ≡ c.in-Some.b = search rules in
     to_z-of_z c.ranges.target
-    ∙ reached_lifts c.args.x c.args.aim c.args.target c.in-Value.b c.in-Value.is (simp (z, to_z-of_z c.ranges.target) at c.is_before.ensures) c.if-not-is_before.true-raw
+    ∙ reached_lifts c.args.x c.args.aim c.args.target c.in-Some.b c.in-Some.is (simp (z, to_z-of_z c.ranges.target) at c.is_before.ensures) c.if-not-is_before.true-raw
 
 pub returns : goal.returns
-returns c = let z : to_z w64 (of_z w64 c.in-Value.b) ≡ c.in-Value.b = search rules in
+returns c = let z : to_z w64 (of_z w64 c.in-Some.b) ≡ c.in-Some.b = search rules in
     let r : to_z w64 (of_z w64 c.later.result) ≡ c.later.result = search rules in
-    r ∙ later_lifts c.args.x c.args.aim c.args.target c.in-Value.b c.in-Value.is (simp (z, to_z-of_z c.ranges.target) at c.is_before.ensures) c.if-not-is_before.false-raw
+    r ∙ later_lifts c.args.x c.args.aim c.args.target c.in-Some.b c.in-Some.is (simp (z, to_z-of_z c.ranges.target) at c.is_before.ensures) c.if-not-is_before.false-raw
     (simp (z, to_z-of_z c.ranges.aim) at c.later.ensures)

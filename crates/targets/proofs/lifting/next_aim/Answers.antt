@@ -6,7 +6,6 @@ use mir.Val.{to_z, of_z}
 use lib.IntN.{pos}
 use lib.ListN.{get_or}
 use borrow.Author.Rules.{rules}
-use borrow.Author.Tests.{not-true, not-false}
 use Rattle.run.specs.Running.{head_of}
 use Rattle.run.proofs.RunLaws.{head_lies, here_head, head_field, head_variable, here_evaluable, here_headed}
 use Rattle.targets.proofs.LiftLaws.{closed_next, open_next, estimate_here}
@@ -21,13 +20,13 @@ variable-x-requires c = head_field c.requires.some_rule.here c.head_at-head.ensu
 pub returns-then-not-is_open : goal.returns-then-not-is_open
 returns-then-not-is_open c = let v : ℕ = c.wide-v.result in
     let z : to_z w64 (of_z w64 (get_or c.args.aims.now v (pos 0))) ≡ get_or c.args.aims.now v (pos 0) = search rules in
-    let y : to_z w64 (of_z w64 (get_or c.args.stops.now v (pos 0))) ≡ get_or c.args.stops.now v (pos 0) = search rules in
+    let y : to_z w64 (of_z w64 (get_or c.args.source.now.stops.now v (pos 0))) ≡ get_or c.args.source.now.stops.now v (pos 0) = search rules in
     let t : to_z w64 (of_z w64 (get_or c.args.target.now v (pos 0))) ≡ get_or c.args.target.now v (pos 0) = search rules in
     λ P i h.
     let e : v ≡ head_of P i = c.wide-v.ensures.0 ∙ here_head h c.head_at-head.ensures in
-    closed_next P c.args.mask c.args.cut c.args.strides.now c.args.stops.now c.args.others.now c.args.model.now c.args.target.now c.args.aims.now i
+    closed_next P c.args.mask c.args.source.now.cut c.args.strides.now c.args.source.now.stops.now c.args.source.now.others.now c.args.model.now c.args.target.now c.args.aims.now i
     (head_variable h c.head_at-head.ensures c.variable-x.ensures)
-    (y ∙ ap (λ (k : ℕ). get_or c.args.stops.now k (pos 0)) e)
+    (y ∙ ap (λ (k : ℕ). get_or c.args.source.now.stops.now k (pos 0)) e)
     (z ∙ ap (λ (k : ℕ). get_or c.args.aims.now k (pos 0)) e)
     (t ∙ ap (λ (k : ℕ). get_or c.args.target.now k (pos 0)) e)
     (sym c.is_open.ensures ∙ c.if-not-is_open.true)
@@ -41,17 +40,17 @@ estimate-given-requires c = record { evaluable = here_evaluable c.requires.some_
 pub returns : goal.returns
 returns c = let v : ℕ = c.wide-v.result in
     let z : to_z w64 (of_z w64 (get_or c.args.aims.now v (pos 0))) ≡ get_or c.args.aims.now v (pos 0) = search rules in
-    let y : to_z w64 (of_z w64 (get_or c.args.stops.now v (pos 0))) ≡ get_or c.args.stops.now v (pos 0) = search rules in
+    let y : to_z w64 (of_z w64 (get_or c.args.source.now.stops.now v (pos 0))) ≡ get_or c.args.source.now.stops.now v (pos 0) = search rules in
     let t : to_z w64 (of_z w64 (get_or c.args.target.now v (pos 0))) ≡ get_or c.args.target.now v (pos 0) = search rules in
     let r : to_z w64 (of_z w64 c.lift_to.result) ≡ c.lift_to.result = search rules in
     λ P i h.
     let e : v ≡ head_of P i = c.wide-v.ensures.0 ∙ here_head h c.head_at-head.ensures in
-    r ∙ open_next P c.args.mask c.args.cut c.args.strides.now c.args.stops.now c.args.others.now c.args.model.now c.args.target.now c.args.aims.now i
+    r ∙ open_next P c.args.mask c.args.source.now.cut c.args.strides.now c.args.source.now.stops.now c.args.source.now.others.now c.args.model.now c.args.target.now c.args.aims.now i
     (head_variable h c.head_at-head.ensures c.variable-x.ensures)
-    (y ∙ ap (λ (k : ℕ). get_or c.args.stops.now k (pos 0)) e)
+    (y ∙ ap (λ (k : ℕ). get_or c.args.source.now.stops.now k (pos 0)) e)
     (z ∙ ap (λ (k : ℕ). get_or c.args.aims.now k (pos 0)) e)
     (t ∙ ap (λ (k : ℕ). get_or c.args.target.now k (pos 0)) e)
     (sym c.is_open.ensures ∙ c.if-not-is_open.false)
     c.lift_to.ensures c.stop_at.ensures
-    (estimate_here h c.value_at.ensures _ c.args.mask c.args.strides.now c.args.model.now c.args.aims.now c.args.others.now (here_head h c.head_at-head.ensures)
+    (estimate_here h c.value_at.ensures _ c.args.mask c.args.strides.now c.args.model.now c.args.aims.now c.args.source.now.others.now (here_head h c.head_at-head.ensures)
     c.estimate-given.ensures)

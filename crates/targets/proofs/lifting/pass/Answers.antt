@@ -1,5 +1,4 @@
 -- One rule of the line after the other.
-use Prim.Native.Nat.{◌-◌}
 use native.Mathlib.Omega.{arith}
 use Rattle.targets.proofs.LiftLaws.{some_aims}
 use Rattle.targets.proofs.lifting.pass.Goals as goal

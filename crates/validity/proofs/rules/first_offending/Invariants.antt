@@ -1,8 +1,7 @@
 -- One rule after the other: the first that offends ends the loop.
-use Prim.Native.Nat.{ℕ, ◌+◌, ◌≤◌, ◌<◌, ◌-◌}
+use Prim.Native.Nat.{ℕ, ◌+◌, ◌<◌}
 use mathlib.Core.Path.{◌≡◌}
 use mathlib.Core.Bool.{false}
-use borrow.Author.Rules.{rules}
 use lib.ListN.{length}
 use Rattle.format.specs.Limits.{max_variables}
 use Rattle.program.specs.Fields.{place}
@@ -13,8 +12,5 @@ use Rattle.validity.specs.Marks.{rule_at, offends_by}
 use Rattle.validity.proofs.rules.first_offending.Given as goal
 
 abbrev pub invariant-loop-rule : goal.invariant-loop-rule
-invariant-loop-rule l = (l.rule ≤ l.rules) × (l.at ≡ place l.file (l.n + l.rule)) × ((length l.values ≡ max_variables) × Small l.values)
+invariant-loop-rule l = (l.at ≡ place l.file (l.n + l.rule)) × ((length l.values ≡ max_variables) × Small l.values)
     × ((j : ℕ) → j < l.rule → offends_by (row_has l.rows) (variables_at l.file l.n) (rule_at l.file l.n j) ≡ false)
-
-abbrev pub decreases-loop-rule : goal.decreases-loop-rule
-decreases-loop-rule l = l.rules - l.rule

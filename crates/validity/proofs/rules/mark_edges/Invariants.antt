@@ -1,8 +1,7 @@
 -- One rule after the other: each stands where the one before it ends.
-use Prim.Native.Nat.{◌+◌, ◌≤◌, ◌-◌}
+use Prim.Native.Nat.{◌+◌}
 use mathlib.Core.Path.{◌≡◌}
 use lib.ListN.{length}
-use borrow.Author.Rules.{rules}
 use Rattle.format.specs.Limits.{max_variables}
 use Rattle.program.specs.Tables.{any_below}
 use Rattle.program.specs.Fields.{place}
@@ -14,8 +13,5 @@ use Rattle.validity.specs.Marks.{rule_at, draws_by}
 use Rattle.validity.proofs.rules.mark_edges.Given as goal
 
 abbrev pub invariant-loop-i : goal.invariant-loop-i
-invariant-loop-i l = (l.i ≤ l.rules) × (l.at ≡ place l.file (l.n + l.i)) × (length l.rows ≡ rows_length) × ((length l.values ≡ max_variables) × Small l.values)
+invariant-loop-i l = (l.at ≡ place l.file (l.n + l.i)) × (length l.rows ≡ rows_length) × ((length l.values ≡ max_variables) × Small l.values)
     × Grown (row_has l.initial.rows) (row_has l.rows) (λ a b. any_below l.i (λ j. draws_by (variables_at l.file l.n) (rule_at l.file l.n j) a b))
-
-abbrev pub decreases-loop-i : goal.decreases-loop-i
-decreases-loop-i l = l.rules - l.i
