@@ -48,12 +48,20 @@ fn put_unfounded(output: &mut [u8], n: usize, k: usize, report: &[u8]) -> usize
     put_entries(output, next, report, n + k)
 }
 
+// The line of a refusal with this number and place.
+pub fn put_refusal(output: &mut [u8], number: usize, place: usize) -> usize
+    ensures appends { Appends (answer_line (refusal number place)) 0 result output.old output.new }
+    ensures upper_bound { result ≤ first_most }
+{
+    put_two(output, b"refused ", number, place)
+}
+
 // The line of a refusal.
 pub fn put_refused(output: &mut [u8], why: Denied) -> usize
     ensures appends { Appends (answer_line (refusal (denial_number why) (denial_place why))) 0 result output.old output.new }
     ensures upper_bound { result ≤ first_most }
 {
-    put_two(output, b"refused ", denial_number(why), denial_place(why))
+    put_refusal(output, denial_number(why), denial_place(why))
 }
 
 // The text of a verdict with its report.

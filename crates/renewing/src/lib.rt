@@ -4,7 +4,8 @@
 ghost use Rattle.std.specs.Prelude.{◌≤◌, length};
 ghost use Rattle.renewing.specs.Renews.{room, Renewed};
 
-use lines::put_refused;
+use calls::{denial_number, denial_place};
+use lines::put_refusal;
 use rewriting::call::normalize;
 
 // The text for an input, from the output's first byte on; answers how many bytes the text has. The bytes after it keep their values. The call is lent as many
@@ -15,7 +16,7 @@ pub fn renew(input: &[u8], output: &mut [u8]) -> usize
 {
     let size = input.len();
     match normalize(input, &mut output[..size]) {
-        Err(why) => put_refused(output, why),
+        Err(why) => put_refusal(output, denial_number(why), denial_place(why)),
         Ok(n) => n,
     }
 }

@@ -1,4 +1,8 @@
-use mathlib.Core.Path.{sym}
+use mathlib.Core.Path.{ap₂, sym}
+use Prim.Native.Nat.{ℕ}
+use Rattle.verdict.specs.Checks.{refusal}
+use Rattle.entries.specs.Text.{answer_line}
+use Rattle.text.proofs.OutputLaws.{appends_as}
 use Rattle.renewing.proofs.RenewLaws.{renewed_refused, renewed_written}
 use lib.ListN.{length}
 use lib.Seq.{length-take-le}
@@ -9,7 +13,8 @@ pub slice_bounds-normalize-end-2 : goal.slice_bounds-normalize-end-2
 slice_bounds-normalize-end-2 c = sym (length-take-le (length c.args.input.now) c.args.output.now c.requires.1)
 
 pub returns-in-Err : goal.returns-in-Err
-returns-in-Err c = renewed_refused c.args.input.now c.args.output.now c.requires.1 c.requires.0 (rw c.in-Err.is at c.normalize.ensures) c.put_refused.ensures.appends c.put_refused.ensures.upper_bound
+returns-in-Err c = let e = ap₂ (λ (n at : ℕ). answer_line (refusal n at)) c.denial_number.ensures c.denial_place.ensures in
+    renewed_refused c.args.input.now c.args.output.now c.requires.1 c.requires.0 (rw c.in-Err.is at c.normalize.ensures) (appends_as e c.put_refusal.ensures.appends) c.put_refusal.ensures.upper_bound
 
 pub returns-in-Ok : goal.returns-in-Ok
 returns-in-Ok c = renewed_written c.args.input.now c.args.output.now c.requires.1 (rw c.in-Ok.is at c.normalize.ensures) (search rules)
