@@ -34,6 +34,7 @@ pub fn pass(file: &[u8], judged: bool) -> Result<Counts, Rejection>
 }
 
 // The three counts of an accepted file, or the first refusal with its number and place.
+#[tactic(auto, using(crate::proofs::ReadLaws::passed))]
 pub fn read(file: &[u8]) -> Result<Counts, Rejection>
     ensures { Reads file.now (answer_of result) }
 {
