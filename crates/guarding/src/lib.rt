@@ -25,10 +25,10 @@ impl Cell for u64 {
     }
 }
 
-// Gives the room the pattern.
+// Gives the room the pattern. (By number: such a loop is compiled to several bytes at a time, one over `iter_mut` is not.)
 pub fn patterned<T: Cell>(room: &mut [T]) {
-    for (i, x) in room.iter_mut().enumerate() {
-        *x = T::at(i);
+    for i in 0..room.len() {
+        room[i] = T::at(i);
     }
 }
 
